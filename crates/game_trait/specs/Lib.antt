@@ -1,0 +1,5 @@
+pub mod Game
+pub mod Keys
+pub mod Run
+pub mod Ordered
+pub mod Count

@@ -1,0 +1,10 @@
+//! Commands, items, events and the game: the words in which mirrors speak of a match.
+#![tactic(auto)]
+
+mod command;
+mod event;
+mod game;
+
+pub use command::{Act, Command, Item, Key, MirrorId, Number, Tick};
+pub use event::{Arrived, Event, Note, Reply, Stepped, Ticked};
+pub use game::Game;
