@@ -1,1 +1,4 @@
 pub mod Front
+pub mod Words
+pub mod Due
+pub mod Answer
