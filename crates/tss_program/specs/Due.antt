@@ -1,9 +1,6 @@
 -- What is due for words and an input: a status and a text.
 use Rattle.std.specs.Prelude.{◌≡◌, ℕ, ◌<◌, ◌⊎◌, List, [], ◌∷◌, ◌++◌, Option, Some, None, Result, Ok, Err, length, take, nat_lt, codes, decimal, if◌then◌else◌}
 use Rattle.tss_io.specs.Streams.{Gains}
-use Rattle.game_trait.specs.Ordered.{time_ordered}
-use Rattle.arena_rules.specs.World.{World, opening_world, arena_rules}
-use Rattle.arena_rules.specs.Block.{block_of}
 use Rattle.match_file.specs.declared.fault.Refused.{Refused}
 use Rattle.match_file.specs.declared.cause.Cause.TheVariants.{Shape}
 use Rattle.match_file.specs.Causes.{cause_number, cause_word}
@@ -14,6 +11,7 @@ use Rattle.tss_program.specs.declared.form.Form.TheVariants.{Order}
 use Rattle.tss_program.specs.declared.status.Status.{Status}
 use Rattle.tss_program.specs.declared.status.Status.TheVariants.{Complete, NoMemory, WrongWords, ReadFault, WriteFault, Refusal}
 use Rattle.tss_program.specs.Words.{form_of}
+use Rattle.tss_program.specs.Blocks.{order_text}
 
 -- a status and the text that goes with it
 pub record Due : Type 0 where
@@ -41,18 +39,6 @@ text_limit = 8388608
 unfoldable pub refused_text : Refused → List ℕ
 refused_text r =
     codes "refused line " ++ decimal r.line ++ codes " cause " ++ decimal (cause_number r.cause) ++ codes " " ++ cause_word r.cause ++ 10 ∷ []
-
--- the world of a match after its commands in key order and its beats
-abbrev pub ordered_world : MatchData → World
-ordered_world m = time_ordered arena_rules (opening_world m.layout) m.commands m.length
-
--- a head of a word and a time, and the lines of a world
-unfoldable pub block_text : List ℕ → ℕ → World → List (List ℕ) → List ℕ
-block_text head time world names = head ++ decimal time ++ 10 ∷ [] ++ block_of world names
-
--- what `order` prints of a match
-unfoldable pub order_text : MatchData → List ℕ
-order_text m = block_text (codes "order ") m.length (ordered_world m) m.names ++ codes "done" ++ 10 ∷ []
 
 -- how a text over the limit is refused
 abbrev pub too_long : Refused

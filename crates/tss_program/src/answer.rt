@@ -1,7 +1,8 @@
 //! The text that is due, built whole before its first byte is put.
 
 ghost use Rattle.std.specs.Prelude.{◌≡◌, ◌≤◌, ◌++◌, Ok, length, IfOk, OnOk};
-ghost use Rattle.tss_program.specs.Due.{due_of_form, due_of_match, refusal_due, too_long, block_text, text_limit};
+ghost use Rattle.tss_program.specs.Due.{due_of_form, due_of_match, refusal_due, too_long, text_limit};
+ghost use Rattle.tss_program.specs.Blocks.{block_text};
 ghost use Rattle.tss_program.specs.Answer.{IsAnswer};
 
 use crate::form::Form;
