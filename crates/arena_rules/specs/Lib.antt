@@ -1,0 +1,5 @@
+pub mod Ground
+pub mod Setup
+pub mod World
+pub mod Roster
+pub mod Block
