@@ -1,5 +1,5 @@
 ghost use Rattle.std.specs.Prelude.{◌≡◌, ◌≤◌, ◌<◌};
-ghost use Rattle.arena_rules.specs.Ground.{open_grid, with_wall, is_free, IsGrid};
+ghost use Rattle.arena_rules.specs.Ground.{open_grid, with_wall, is_walled, is_open, is_free, IsGrid};
 
 use std::marker::Model;
 
@@ -46,15 +46,39 @@ impl Ground {
         ensures walled { self.new ≡ with_wall self.old x y }
         ensures sound { IsGrid self.new }
     {
-        let row = &mut self.walls[y as usize];
-        *row |= 1u64 << x;
+        let row = self.walls[y as usize];
+        self.walls[y as usize] = row | 1u64 << x;
     }
 
     /// Whether the cell (x, y) is in the grid and not walled.
     pub fn free(&self, x: i32, y: i32) -> bool
         ensures { result ≡ is_free self.now x y }
     {
-        false
+        let _ = &self.width;
+        let Ok(x) = u8::try_from(x) else {
+            return false;
+        };
+        let Ok(y) = u8::try_from(y) else {
+            return false;
+        };
+        self.is_open(x, y)
+    }
+
+    #[tactic(auto, unfolding(crate::specs::Ground::is_open))]
+    fn is_open(&self, x: u8, y: u8) -> bool
+        ensures { result ≡ is_open self.now x y }
+    {
+        x < self.width && y < self.height && !self.is_walled(x, y)
+    }
+
+    #[tactic(auto, using(std::proofs::lemmas::Nat::Bits::shr_and_one), unfolding(crate::specs::Ground::is_walled))]
+    fn is_walled(&self, x: u8, y: u8) -> bool
+        requires column { x < self.now.width }
+        requires row { y < self.now.height }
+        ensures { result ≡ is_walled self.now x y }
+    {
+        let row = self.walls[y as usize];
+        row >> x & 1 == 1
     }
 
     /// The number of columns.
