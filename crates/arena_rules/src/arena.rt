@@ -10,7 +10,7 @@ use crate::setup::Setup;
 use crate::shown::Shown;
 use arrayvec::ArrayVec;
 use game_trait::{Command, Game, Tick};
-use std::alloc::AllocError;
+use tss_io::NoMemory;
 use std::marker::Model;
 
 /// A world of the arena.
@@ -110,7 +110,7 @@ impl Shown for Arena {
 
     ghost lines = { block_of };
 
-    fn block(&self, roster: &Roster, out: &mut Vec<u8>) -> Result<(), AllocError> {
+    fn block(&self, roster: &Roster, out: &mut Vec<u8>) -> Result<(), NoMemory> {
         out.push(10)?;
         Ok(())
     }

@@ -2,8 +2,9 @@ ghost use Rattle.std.specs.Prelude.{◌≡◌, [], IfOk, OnErr, not, slice_get, 
 ghost use Rattle.arena_rules.specs.Roster.{is_known, with_name, NamesDiffer};
 
 use indexmap::IndexSet;
-use std::alloc::{AllocError, Global};
+use std::alloc::Global;
 use std::marker::Model;
+use tss_io::NoMemory;
 
 /// The players' names in player order, each but once. Contracts see the list of the names.
 #[derive(Drop)]
@@ -24,7 +25,7 @@ impl Model for Roster {
 
 impl Roster {
     /// A roster without names.
-    pub fn new(alloc: Global) -> Result<Roster, AllocError>
+    pub fn new(alloc: Global) -> Result<Roster, NoMemory>
         ensures { IfOk result (λ roster. roster ≡ []) }
     {
         Ok(Roster {
@@ -33,7 +34,7 @@ impl Roster {
     }
 
     /// Puts the name last and answers true, or answers false where the name is there already. On `NoMemory` nothing changed.
-    pub fn add(&mut self, name: &[u8]) -> Result<bool, AllocError>
+    pub fn add(&mut self, name: &[u8]) -> Result<bool, NoMemory>
         ensures added { IfOk result (λ added. added ≡ not (is_known self.old name.now)) }
         ensures ok { IfOk result (λ _. self.new ≡ with_name self.old name.now) }
         ensures err { OnErr result (self.new ≡ self.old) }
