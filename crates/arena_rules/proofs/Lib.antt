@@ -1,2 +1,4 @@
 pub mod Walls
 pub mod Names
+pub mod Cells
+pub mod Soundness

@@ -53,7 +53,7 @@ held_cells players = map (λ p. spot_cell p.spot) players
 
 -- a player stands in this cell
 unfoldable pub is_held : List Player → Cell → Bool
-is_held players cell = list_any (same_cell cell) (held_cells players)
+is_held players cell = list_any (λ p. same_cell cell (spot_cell p.spot)) players
 
 -- a player may go to this cell: it is in the grid, not walled, and nobody stands there
 unfoldable pub is_vacant : World → Cell → Bool

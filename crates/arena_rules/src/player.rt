@@ -1,6 +1,7 @@
 ghost use Rattle.std.specs.Prelude.{◌≡◌};
-ghost use Rattle.arena_rules.specs.World.{opening_player};
+ghost use Rattle.arena_rules.specs.World.{opening_player, moved_to, turned_to};
 
+use crate::face::Face;
 use crate::spot::Spot;
 
 /// A player of the arena.
@@ -26,6 +27,26 @@ impl Player {
             health: 3,
             ammo: 5,
             score: 0,
+        }
+    }
+
+    /// The player in another cell.
+    pub fn moved_to(self, x: u8, y: u8) -> Player
+        ensures { result ≡ moved_to self (record { x = x; y = y }) }
+    {
+        Player {
+            spot: Spot { x, y, ..self.spot },
+            ..self
+        }
+    }
+
+    /// The player with another facing.
+    pub fn turned_to(self, face: Face) -> Player
+        ensures { result ≡ turned_to self face }
+    {
+        Player {
+            spot: Spot { face, ..self.spot },
+            ..self
         }
     }
 }
