@@ -3,3 +3,4 @@ pub mod Setup
 pub mod World
 pub mod Roster
 pub mod Block
+pub mod Word

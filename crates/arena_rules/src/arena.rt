@@ -179,7 +179,9 @@ impl Shown for Arena {
     ghost lines = { block_of };
 
     fn block(&self, roster: &Roster, out: &mut Vec<u8>) -> Result<(), NoMemory> {
-        out.push(10)?;
+        for (number, player) in self.players.iter().enumerate() {
+            player.push_line(roster.printed_name(number as u8), out)?;
+        }
         Ok(())
     }
 }

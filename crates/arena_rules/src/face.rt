@@ -1,4 +1,5 @@
 ghost use Rattle.std.specs.Prelude.{◌≡◌};
+ghost use Rattle.arena_rules.specs.Block.{face_word};
 ghost use Rattle.arena_rules.specs.World.{turned_left, turned_right};
 
 /// Where a player or a shot looks: north, east, south or west.
@@ -35,6 +36,18 @@ impl Face {
             Face::E => Face::S,
             Face::S => Face::W,
             Face::W => Face::N,
+        }
+    }
+
+    // The letter of the facing, as texts have it.
+    pub(crate) fn letter(self) -> &'static [u8]
+        ensures { result.now ≡ face_word self }
+    {
+        match self {
+            Face::N => b"n",
+            Face::E => b"e",
+            Face::S => b"s",
+            Face::W => b"w",
         }
     }
 }

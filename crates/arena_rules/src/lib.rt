@@ -4,6 +4,7 @@
 mod arena;
 mod face;
 mod ground;
+mod line;
 mod pickup;
 mod player;
 mod roster;

@@ -1,8 +1,11 @@
-ghost use Rattle.std.specs.Prelude.{◌≡◌};
+ghost use Rattle.std.specs.Prelude.{◌≡◌, ◌++◌, OnOk, OnErr};
+ghost use Rattle.arena_rules.specs.Block.{live_line, GainsFront};
 ghost use Rattle.arena_rules.specs.World.{opening_player, moved_to, turned_to};
 
 use crate::face::Face;
+use crate::line::{Word, push_line};
 use crate::spot::Spot;
+use tss_io::NoMemory;
 
 /// A player of the arena.
 #[derive(Clone, Copy, Debug, Default, PartialEq, Eq)]
@@ -48,5 +51,24 @@ impl Player {
             spot: Spot { face, ..self.spot },
             ..self
         }
+    }
+
+    /// Puts the player's line to the end: name, cell, facing, health, ammunition and score. On `NoMemory` a front of it may have
+    /// been put.
+    #[tactic(auto, unfolding(crate::specs::Block::live_line))]
+    pub fn push_line(&self, name: &[u8], out: &mut Vec<u8>) -> Result<(), NoMemory>
+        ensures ok { OnOk result (out.new.items ≡ out.old.items ++ live_line name.now self.now) }
+        ensures err { OnErr result (GainsFront out.old.items (live_line name.now self.now) out.new.items) }
+    {
+        let words = [
+            Word::Text(name),
+            Word::Number(i64::from(self.spot.x)),
+            Word::Number(i64::from(self.spot.y)),
+            Word::Text(self.spot.face.letter()),
+            Word::Number(i64::from(self.health)),
+            Word::Number(i64::from(self.ammo)),
+            Word::Number(i64::from(self.score)),
+        ];
+        push_line(b"live", &words, out)
     }
 }

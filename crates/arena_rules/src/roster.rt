@@ -1,4 +1,5 @@
 ghost use Rattle.std.specs.Prelude.{◌≡◌, [], IfOk, OnErr, not, slice_get, option_copied};
+ghost use Rattle.arena_rules.specs.Block.{name_of};
 ghost use Rattle.arena_rules.specs.Roster.{is_known, with_name, NamesDiffer};
 
 use indexmap::IndexSet;
@@ -55,5 +56,12 @@ impl Roster {
     {
         let name = self.names.get_index(player as usize)?;
         Some(name.as_slice())
+    }
+
+    // The name of a player as it is printed: a question mark stands for one that isn't there.
+    pub(crate) fn printed_name(&self, player: u8) -> &[u8]
+        ensures { result.now ≡ name_of self.now player }
+    {
+        self.name(player).unwrap_or(b"?".as_slice())
     }
 }
