@@ -15,7 +15,7 @@ use tss_io::NoMemory;
 
 /// A world of the arena: its ground, its players and its time. No two players ever share a cell, and none stands on a wall or
 /// outside the grid. It has a fixed size.
-#[derive(Drop)]
+#[derive(Debug, Drop)]
 pub struct Arena {
     ground: Ground,
     players: ArrayVec<Player, 16>,

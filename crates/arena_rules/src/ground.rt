@@ -5,7 +5,7 @@ use std::marker::Model;
 
 /// The ground of an arena: a grid of at most 64 by 64 cells, some of them walled. Cells are (x, y); x rises to the east and y to the
 /// south, both from 0. It has a fixed size, and no call takes memory.
-#[derive(Clone, Copy)]
+#[derive(Clone, Copy, Debug)]
 pub struct Ground {
     width: u8,
     height: u8,

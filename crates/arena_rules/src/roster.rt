@@ -8,7 +8,7 @@ use std::marker::Model;
 use tss_io::NoMemory;
 
 /// The players' names in player order, each but once. Contracts see the list of the names.
-#[derive(Drop)]
+#[derive(Debug, Drop)]
 pub struct Roster {
     names: IndexSet<Vec<u8>>,
 }
@@ -44,7 +44,7 @@ impl Roster {
         if self.names.contains(name) {
             return Ok(false);
         }
-        let name = Vec::from_slice(*self.names.allocator(), name)?;
+        let name = name.to_vec(*self.names.allocator())?;
         self.names.insert(name)?;
         Ok(true)
     }

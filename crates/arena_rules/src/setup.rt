@@ -4,7 +4,7 @@ use crate::spot::Spot;
 use arrayvec::ArrayVec;
 
 /// How a match begins.
-#[derive(Drop)]
+#[derive(Debug, Drop)]
 pub struct Setup {
     /// The grid and its walls.
     pub ground: Ground,

@@ -22,7 +22,7 @@ pub returns-clause-ok : goal.returns-clause-ok
 returns-clause-ok c =
     ap (map (λ k. k.items)) c.in_ok-insert.ensures.keys
     ∙ names-insert_key (λ k. k.items) c.self.inside.names.keys c.in_ok-name.name
-    ∙ rw (c.in_ok-name.ensures.items, c.self.view_is) refl
+    ∙ rw (c.in_ok-name.ensures.items_if_clones_equal (λ x y same. same), c.self.view_is) refl
 
 pub returns-clause-distinct : goal.returns-clause-distinct
 returns-clause-distinct c = subst NamesDiffer (sym (returns-clause-ok c)) (NamesDiffer-with_name _ _ (subst NamesDiffer c.self.view_is c.self.invariant))
