@@ -1,8 +1,5 @@
-use Rattle.std.proofs.Common.{◌≡◌, ◌≤◌, ◌<◌, ◌^◌, ℕ, ◌∙◌, sym, refl, arith}
+use Rattle.std.proofs.Common.{sym, refl, arith}
 use Rattle.std.proofs.lemmas.Bool.{false≢true}
-use Rattle.std.specs.Prelude.{decimal}
-use Rattle.std.specs.Str.Parse.{IsNumeral, digits_value}
-use Rattle.tss_io.specs.Decimals.{number_of}
 use Rattle.tss_io.proofs.DecimalLaws.{number_of-decimal, number_of-none, padded-decimal, decimal-digits, value-decimal}
 use Rattle.tss_io.proofs.decimals.decimal.Goals as goal
 
