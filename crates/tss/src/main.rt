@@ -3,6 +3,7 @@
 
 use std::alloc::Global;
 use std::env;
+use std::rt::Env;
 use std::io;
 use std::io::ErrorKind;
 use std::process::ExitCode;

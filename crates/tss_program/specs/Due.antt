@@ -38,7 +38,7 @@ text_limit = 8388608
 -- what is printed of a refused text
 unfoldable pub refused_text : Refused → List ℕ
 refused_text r =
-    codes "refused line " ++ decimal r.line ++ codes " cause " ++ decimal (cause_number r.cause) ++ codes " " ++ cause_word r.cause ++ 10 ∷ []
+    codes "refused line " ++ (decimal r.line ++ (codes " cause " ++ (decimal (cause_number r.cause) ++ (codes " " ++ (cause_word r.cause ++ 10 ∷ [])))))
 
 -- how a text over the limit is refused
 abbrev pub too_long : Refused

@@ -35,7 +35,8 @@ pub fn too_long(alloc: Global) -> Result<Answer, NoMemory>
 }
 
 // What is due for a text within the limit.
-pub fn answer(alloc: Global, form: Form, text: &[u8]) -> Result<Answer, NoMemory>
+#[tactic(auto, unfolding(crate::specs::Due::due_of_form, crate::specs::Due::match_of))]
+pub fn answer_text(alloc: Global, form: Form, text: &[u8]) -> Result<Answer, NoMemory>
     requires { length text.now ≤ text_limit }
     ensures { IfOk result (IsAnswer (due_of_form form text.now)) }
 {
@@ -49,6 +50,7 @@ pub fn answer(alloc: Global, form: Form, text: &[u8]) -> Result<Answer, NoMemory
 }
 
 // Puts a word and a time as a head line, and the lines of the world.
+#[tactic(auto, unfolding(crate::specs::Blocks::block_text))]
 fn push_block(
     out: &mut Vec<u8>,
     head: &str,
@@ -65,6 +67,7 @@ fn push_block(
 }
 
 // The text of `order`.
+#[tactic(auto, unfolding(crate::specs::Blocks::order_text))]
 fn order_answer(alloc: Global, game: Match) -> Result<Answer, NoMemory>
     ensures { IfOk result (IsAnswer (due_of_match Form.Order (Ok game))) }
 {
@@ -81,19 +84,16 @@ fn order_answer(alloc: Global, game: Match) -> Result<Answer, NoMemory>
 }
 
 // The line of a refusal.
+#[tactic(auto, unfolding(crate::specs::Due::refused_text))]
 fn refusal(alloc: Global, refused: Refused) -> Result<Answer, NoMemory>
     ensures { IfOk result (IsAnswer (refusal_due refused)) }
 {
-    let mut text = Vec::new(alloc);
-    text.extend_from_slice(b"refused line ")?;
-    push_decimal(&mut text, i128::from(refused.line))?;
-    text.extend_from_slice(b" cause ")?;
-    push_decimal(&mut text, i128::from(refused.cause.number()))?;
-    text.extend_from_slice(b" ")?;
-    text.extend_from_slice(refused.cause.word().as_bytes())?;
-    text.extend_from_slice(b"\n")?;
+    let line = refused.line;
+    let number = refused.cause.number();
+    let word = refused.cause.word();
+    let text = format!(in alloc; "refused line {line} cause {number} {word}\n")?;
     Ok(Answer {
         status: Status::Refusal,
-        text,
+        text: text.into_bytes(),
     })
 }

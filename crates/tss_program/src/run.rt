@@ -7,7 +7,7 @@ ghost use Rattle.tss_program.specs.Words.{form_of};
 ghost use Rattle.tss_program.specs.Due.{due_of, due_of_form, Ends, text_limit};
 ghost use Rattle.tss_program.specs.Answer.{IsAnswer};
 
-use crate::answer::{Answer, answer, too_long};
+use crate::answer::{Answer, answer_text, too_long};
 use crate::done::Done;
 use crate::form::Form;
 use crate::status::Status;
@@ -21,6 +21,7 @@ const TEXT_LIMIT: usize = 8_388_608;
 const USAGE: &[u8] = b"usage: tss order|play|race|audit|score|soak N\n";
 
 // Reads the input, and answers it; or the status that takes the answer's place.
+#[tactic(auto, unfolding(crate::specs::Due::due_of_form, crate::specs::Due::match_of))]
 fn respond<S: Source>(alloc: Global, form: Form, source: &mut S) -> Result<Answer, Status>
     ensures due { IfOk result (λ a. IfSome (S.left source.old) (λ input. IsAnswer (due_of_form form input) a)) }
     ensures answered { IfOk result (λ a. (a.status ≡ Status.Complete) ⊎ (a.status ≡ Status.Refusal)) }
@@ -33,13 +34,14 @@ fn respond<S: Source>(alloc: Global, form: Form, source: &mut S) -> Result<Answe
     ensures reads { S.calls source.new ≤ S.calls source.old + (text_limit + 1) }
 {
     match read_all(alloc, source, TEXT_LIMIT) {
-        Ok(text) => answer(alloc, form, text.as_slice()).map_err(|_| Status::NoMemory),
+        Ok(text) => answer_text(alloc, form, text.as_slice()).map_err(|_| Status::NoMemory),
         Err(ReadFault::TooLong) => too_long(alloc).map_err(|_| Status::NoMemory),
         Err(ReadFault::Failed) => Err(Status::ReadFault),
         Err(ReadFault::NoMemory) => Err(Status::NoMemory),
     }
 }
 
+#[tactic(auto, unfolding(crate::specs::Due::due_of_form, crate::specs::Due::usage_text))]
 /// Runs the program on the words behind its name. It reads the source where the words have a form, and puts what is due
 /// to the sink: the whole of it at status 0, 2 or 5, a proper front of it at status 4, and nothing at status 1 or 3.
 pub fn run_plain<S: Source, K: Sink>(
