@@ -1,0 +1,4 @@
+pub mod Decimals
+pub mod Errors
+pub mod Memory
+pub mod Streams
