@@ -18,7 +18,7 @@ is_name (b ∷ bytes) = is_letter b && (nat_le (length bytes) 11 && list_all is_
 
 -- one of the commands has this mirror and number
 unfoldable pub has_command : ℕ → ℕ → List Command → Bool
-has_command from number commands = list_any (λ x. (from == x.from) && (number == x.number)) commands
+has_command from number commands = list_any (λ x. (x.from == from) && (x.number == number)) commands
 
 -- two pairs of a mirror and a number are one and the same
 abbrev pub same_numbers : ℕ × ℕ → ℕ × ℕ → Bool

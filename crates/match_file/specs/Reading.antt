@@ -214,13 +214,14 @@ is_end (torn []) = true
 is_end (torn (b ∷ bytes)) = false
 is_end (line l rest) = false
 
--- one line behind the commands so far: with its command there are these and the lines after it, or it is the last line
-unfoldable pub commands_step : ℕ → List Command → Lines → Result (List Command × Option Lines) Refused
-commands_step ticks so_far lines = do
-  l ← line_at lines
-  if bytes_eq l.0 end_word
-    then (if is_end l.1 then Ok (so_far, None) else Err shape)
+-- a line behind the commands so far: with its command there are these and the lines after it, or it is the last line
+abbrev pub line_step : ℕ → List Command → List ℕ × Lines → Result (List Command × Option Lines) Refused
+line_step ticks so_far l =
+    if bytes_eq l.0 end_word then (if is_end l.1 then Ok (so_far, None) else Err shape)
     else (command_at ticks l.0 >>= λ x. added so_far x >>= λ more. Ok (more, Some l.1))
+
+unfoldable pub commands_step : ℕ → List Command → Lines → Result (List Command × Option Lines) Refused
+commands_step ticks so_far lines = line_at lines >>= line_step ticks so_far
 
 -- the commands so far and those of the lines up to the last
 unfoldable pub commands_at : ℕ → List Command → Lines → Result (List Command) Refused

@@ -2,7 +2,7 @@
 
 ghost use Rattle.std.specs.Prelude.{◌≡◌, ◌≤◌, ◌<◌, [], length, IfOk, IfSome, option_map};
 ghost use Rattle.match_file.specs.Lines.{lines_of};
-ghost use Rattle.match_file.specs.Reading.{Answers, Gives, act_of, command_words, command_seen, command_at, added, commands_step, commands_at};
+ghost use Rattle.match_file.specs.Reading.{Answers, Gives, act_of, command_words, command_seen, command_at, added, is_end, commands_step, commands_at};
 
 use crate::fault::{Refused, TextFault};
 use crate::words::{self, SHAPE};
@@ -103,6 +103,7 @@ impl Model for Commands {
 }
 
 impl Commands {
+    #[tactic(auto, unfolding(crate::specs::Names::has_command))]
     fn new(alloc: Global) -> Commands
         ensures { result ≡ [] }
     {
@@ -113,6 +114,7 @@ impl Commands {
     }
 
     // Puts the command last, where there is room and none has its mirror and number.
+    #[tactic(auto, unfolding(crate::specs::Reading::added))]
     fn add(&mut self, command: Command) -> Result<(), TextFault>
         ensures { Gives (λ _. self.new) result (added self.old command) }
     {
@@ -136,6 +138,13 @@ impl Commands {
     }
 }
 
+// Whether no byte is left.
+fn at_end(text: &[u8]) -> bool
+    ensures { result ≡ is_end (lines_of text.now) }
+{
+    text.is_empty()
+}
+
 // Puts the command of the next line to the others and answers the text behind it, or answers none where the line is the
 // last.
 #[tactic(auto, unfolding(crate::specs::Reading::commands_step, crate::specs::Text::end_word))]
@@ -146,7 +155,7 @@ fn read_command<'a>(ticks: u32, commands: &mut Commands, text: &'a [u8]) -> Resu
 {
     let (line, rest) = words::next_line(text)?;
     if line == b"end".as_slice() {
-        if !rest.is_empty() {
+        if !at_end(rest) {
             return Err(TextFault::Refused(SHAPE));
         }
         return Ok(None);

@@ -1,6 +1,7 @@
 //! The line of a player. No call takes memory.
 
 ghost use Rattle.std.specs.Prelude.{◌≡◌, ◌≤◌, ◌<◌, length, IfOk};
+ghost use Rattle.std.specs.List.{list_all};
 ghost use Rattle.match_file.specs.Lines.{lines_of};
 ghost use Rattle.match_file.specs.Names.{is_letter, is_name_byte, is_name};
 ghost use Rattle.match_file.specs.Reading.{Answers, face_of, player_words, words_seen, player_at, player_seen};
@@ -68,6 +69,13 @@ fn is_name_byte(byte: u8) -> bool
     is_letter(byte) || byte.is_ascii_digit()
 }
 
+// Whether all bytes are such.
+fn are_name_bytes(bytes: &[u8]) -> bool
+    ensures { result ≡ list_all is_name_byte bytes.now }
+{
+    bytes.iter().all(|byte| is_name_byte(*byte))
+}
+
 // Whether the word is a name: 1 to 12 letters from a to z and digits, a letter first.
 #[tactic(auto, unfolding(crate::specs::Names::is_name))]
 fn is_name(word: &[u8]) -> bool
@@ -76,7 +84,7 @@ fn is_name(word: &[u8]) -> bool
     match word {
         [] => false,
         [first, rest @ ..] => {
-            is_letter(*first) && rest.len() <= 11 && rest.iter().all(|byte| is_name_byte(*byte))
+            is_letter(*first) && rest.len() <= 11 && are_name_bytes(rest)
         }
     }
 }

@@ -15,6 +15,7 @@ use std::alloc::Global;
 use tss_io::Seq;
 
 // The match that the text says.
+#[tactic(auto, unfolding(crate::specs::Reading::read_text, crate::specs::Reading::match_at))]
 fn match_of(alloc: Global, text: &[u8]) -> Result<Match, TextFault>
     ensures { Gives (λ m. m) result (read_text text.now) }
 {
