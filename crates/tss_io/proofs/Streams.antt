@@ -1,9 +1,9 @@
 -- What a source gave and what a sink gained, piece after piece.
-use Rattle.std.proofs.Common.{◌≡◌, ℕ, ◌+◌, ◌≤◌, List, [], ◌++◌, length, take, drop, Option, Some, None, refl, sym, ap, ◌∙◌, append_assoc, inl, inr, arith}
+use Rattle.std.proofs.Common.{◌≡◌, ℕ, ◌+◌, ◌≤◌, List, [], ◌++◌, length, take, drop, Option, Some, None, refl, sym, ap, ◌∙◌, append_assoc, arith}
 use Rattle.std.specs.Prelude.{IfSome}
 use Rattle.std.proofs.Math.Seq.{take-add}
 use Rattle.std.proofs.lemmas.List.{append-nil, length-append}
-use Rattle.tss_io.specs.Streams.{Rose, Yields, Gains}
+use Rattle.tss_io.specs.Streams.{Yields, Gains}
 
 -- Nothing is given.
 pub Yields-none : (left : Option (List ℕ)) → Yields left [] left

@@ -1,4 +1,4 @@
-//! What goes in and out: sources and sinks of bytes, decimals, want of memory and a plain list. It stands on std alone.
+//! What goes in and out: sources and sinks of bytes, decimals, want of memory, and the list that contracts see plainly.
 #![tactic(auto)]
 
 mod decimals;
@@ -7,9 +7,9 @@ mod listing;
 mod mem_sink;
 mod mem_source;
 mod no_memory;
-mod putting;
+mod put;
+mod read;
 mod read_fault;
-mod reading;
 mod seq;
 mod sink;
 mod source;
@@ -21,11 +21,14 @@ pub use failed::Failed;
 pub use mem_sink::MemSink;
 pub use mem_source::MemSource;
 pub use no_memory::NoMemory;
-pub use putting::put_all;
+pub use put::put_all;
+pub use read::read_all;
 pub use read_fault::ReadFault;
-pub use reading::read_all;
 pub use seq::Seq;
 pub use sink::Sink;
 pub use source::Source;
 pub use std_sink::StdSink;
 pub use std_source::StdSource;
+
+#[cfg(test)]
+mod tests;

@@ -1,8 +1,5 @@
-use Rattle.std.proofs.Common.{◌≡◌, ◌≤◌, ◌<◌, ◌^◌, ℕ, ◌∙◌, sym, refl, arith}
+use Rattle.std.proofs.Common.{sym, refl, arith}
 use Rattle.std.proofs.lemmas.Bool.{false≢true}
-use Rattle.std.specs.Prelude.{decimal}
-use Rattle.std.specs.Str.Parse.{IsNumeral, digits_value}
-use Rattle.tss_io.specs.Decimals.{number_of}
 use Rattle.tss_io.proofs.DecimalLaws.{number_of-decimal, number_of-none, padded-decimal, decimal-digits, value-decimal}
 use Rattle.tss_io.proofs.decimals.decimal.Goals as goal
 
@@ -27,7 +24,7 @@ returns-in_default-clause-exact c =
 pub returns-then-number-most-clause-some : goal.returns-then-number-most-clause-some
 returns-then-number-most-clause-some c =
     let found = c.in-Some.ensures.some in
-    (rw found.1 (decimal-digits c.args.word.now found.0 (λ padded. false≢true (c.if-has_leading_zero.ensures.1 padded)) (omega (arith, found.1))), c.if-number-most.true)
+    (rw found.1 (decimal-digits c.args.word.now found.0 (λ padded. false≢true (c.if-has_leading_zero.ensures.1 padded)) (omega (arith, found.1))), omega arith)
 
 pub returns-then-number-most-clause-exact : goal.returns-then-number-most-clause-exact
 returns-then-number-most-clause-exact c =

@@ -1,8 +1,8 @@
-use Rattle.std.proofs.Common.{◌≡◌, ◌≤◌, ◌+◌, ◌++◌, ℕ, List, length, take, vec_len, arith}
+use Rattle.std.proofs.Common.{◌++◌, ℕ, List, take, arith}
 use Rattle.std.proofs.lemmas.List.{length-append, length-take}
 use Rattle.std.proofs.lemmas.Result.{err_from_is_err_and}
 use Rattle.tss_io.proofs.Streams.{Yields-join}
-use Rattle.tss_io.proofs.reading.read_all.Goals as goal
+use Rattle.tss_io.proofs.read.read_all.Goals as goal
 
 pub returns-in_err-extend_from_slice-clause-front : goal.returns-in_err-extend_from_slice-clause-front
 returns-in_err-extend_from_slice-clause-front g c =

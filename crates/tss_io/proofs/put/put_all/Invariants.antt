@@ -1,6 +1,6 @@
 use Rattle.std.proofs.Common.{◌≤◌, ◌+◌, ◌-◌, length, take}
 use Rattle.tss_io.specs.Streams.{Gains}
-use Rattle.tss_io.proofs.putting.put_all.Given as goal
+use Rattle.tss_io.proofs.put.put_all.Given as goal
 
 abbrev pub invariant-loop-at : goal.invariant-loop-at
 invariant-loop-at g l = record {

@@ -1,7 +1,6 @@
-use Rattle.std.proofs.Common.{◌≡◌, drop, arith, rules}
-use Rattle.std.specs.Prelude.{take}
+use Rattle.std.proofs.Common.{arith}
 use Rattle.tss_io.proofs.Streams.{Gains-more}
-use Rattle.tss_io.proofs.putting.put_all.Goals as goal
+use Rattle.tss_io.proofs.put.put_all.Goals as goal
 
 pub loop-at-preserved : goal.loop-at-preserved
 loop-at-preserved g c = record {

@@ -1,6 +1,6 @@
 use Rattle.std.proofs.Common.{◌≡◌, ◌≤◌, ◌+◌, ◌-◌, vec_len}
 use Rattle.tss_io.specs.Streams.{Yields}
-use Rattle.tss_io.proofs.reading.read_all.Given as goal
+use Rattle.tss_io.proofs.read.read_all.Given as goal
 
 abbrev pub invariant-loop-text : goal.invariant-loop-text
 invariant-loop-text g l = record {
