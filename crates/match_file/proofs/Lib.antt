@@ -2,3 +2,4 @@ pub mod Lines
 pub mod Steps
 pub mod CommandLaws
 pub mod Spaced
+pub mod LineLaws

@@ -70,12 +70,14 @@ behind keyword l = do
   front ← front_at (words_of l)
   if bytes_eq front.0 keyword then Ok front.1 else Err shape
 
--- the number, in its range
+-- a number that is there and at least this
+abbrev pub at_least : ℕ → Option ℕ → Result ℕ Refused
+at_least least None = Err shape
+at_least least (Some n) = if nat_lt n least then Err shape else Ok n
+
+-- the number that a word writes, in its range
 unfoldable pub number_in : ℕ → ℕ → List ℕ → Result ℕ Refused
-number_in least most word = elim (number_of word most) as (λ _. Result ℕ Refused) [
-  | None ↦ Err shape
-  | Some n ↦ if nat_lt n least then Err shape else Ok n
-]
+number_in least most word = at_least least (number_of word most)
 
 -- the first line
 unfoldable pub head_at : Lines → Result Lines Refused
