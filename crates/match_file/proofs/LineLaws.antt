@@ -320,3 +320,116 @@ player_again sides p rest h narrow low =
       (then _ _ _ _ (face_again p.home.face) refl))
     (then _ _ _ _ (number_again 0 (2 ^ 32 - 1) x (omega arith) (omega arith) (lit< tt))
     (then _ _ _ _ (number_again 0 (2 ^ 32 - 1) y (omega arith) (omega arith) (lit< tt)) (rw (h.name, in_column, in_row) refl))))
+
+-- ---- a command's line
+
+words_of_command_take : (l : List ℕ) (p : CommandParts) → command_words l ≡ Ok p → (l ≡ spaced (command_word ∷ p.time ∷ p.from ∷ p.number ∷ p.player ∷ act_word p.act ∷ [])) × (p.act ≢ Shoot)
+unfolding command_words
+words_of_command_take l p e =
+    through _ _ _ e (λ words words_is e. through _ _ _ e (λ time time_is e. through _ _ _ e (λ from from_is e. through _ _ _ e (λ number number_is e. through _ _ _ e (λ player player_is e. through _ _ _ e (λ word word_is e. through _ _ _ e (λ act act_is e.
+    let a = behind_takes command_word l words words_is in
+    let b = front_takes words time time_is in
+    let c = front_takes time.1 from from_is in
+    let d = front_takes from.1 number number_is in
+    let f = front_takes number.1 player player_is in
+    let g = last_takes player.1 word word_is in
+    let h = act_takes word act act_is in
+    let made : CommandParts = record { time = time.0; from = from.0; number = number.0; player = player.0; act = act } in
+    let same : made ≡ p = cc in
+    subst (λ (q : CommandParts). (l ≡ spaced (command_word ∷ q.time ∷ q.from ∷ q.number ∷ q.player ∷ act_word q.act ∷ [])) × (q.act ≢ Shoot)) same (cc, h.1))))))))
+
+-- a command of the plain form, in a match of so many ticks
+pub record IsPlainCommand (ticks : ℕ) (x : Command) : Type 0 where
+  pub time : x.time ≤ ticks - 1
+  pub from : x.from ≤ 0
+  pub number : x.number ≤ 999999
+  pub player : x.player ≤ 0
+  pub act : x.act ≢ Shoot
+
+pub command_takes : (ticks : ℕ) (l : List ℕ) (x : Command) → command_at ticks l ≡ Ok x → (l ≡ spaced (command_line x)) × IsPlainCommand ticks x
+unfolding command_at
+command_takes ticks l x e =
+    through _ _ _ e (λ words words_is e. through _ _ _ e (λ time time_is e. through _ _ _ e (λ from from_is e. through _ _ _ e (λ number number_is e. through _ _ _ e (λ player player_is e.
+    let a = words_of_command_take l words words_is in
+    let b = number_takes 0 (ticks - 1) words.time time time_is in
+    let c = number_takes 0 0 words.from from from_is in
+    let d = number_takes 0 999999 words.number number number_is in
+    let f = number_takes 0 0 words.player player player_is in
+    let made : Command = record { time = time; from = from; number = number; player = player; act = words.act } in
+    let same : made ≡ x = cc in
+    let whole : l ≡ spaced (command_line made) = cc in
+    subst (λ (q : Command). (l ≡ spaced (command_line q)) × IsPlainCommand ticks q) same
+      (whole, record { time = b.2; from = c.2; number = d.2; player = f.2; act = a.1 }))))))
+
+pub command_short : (ticks : ℕ) (x : Command) → ticks ≤ 8192 → IsPlainCommand ticks x → length (spaced (command_line x)) ≤ 120
+command_short ticks x few h =
+    let t = h.time in
+    let f = h.from in
+    let n = h.number in
+    let p = h.player in
+    omega (arith, spaced_short (command_line x), command_keyword.short, short_number x.time (omega arith), short_number x.from (omega arith), short_number x.number (omega arith), short_number x.player (omega arith), (act_fits x.act).1)
+
+pub command_fits : (ticks : ℕ) (x : Command) → ticks ≤ 8192 → IsPlainCommand ticks x → AreWords (command_line x)
+command_fits ticks x few h =
+    let t = h.time in
+    let f = h.from in
+    let n = h.number in
+    let p = h.player in
+    (command_keyword.fits, (number_word x.time (omega arith), (number_word x.from (omega arith), (number_word x.number (omega arith), (number_word x.player (omega arith), ((act_fits x.act).0, tt))))))
+
+pub command_again : (ticks : ℕ) (x : Command) → ticks ≤ 8192 → IsPlainCommand ticks x → command_at ticks (spaced (command_line x)) ≡ Ok x
+unfolding command_at command_words front_at last_at
+command_again ticks x few h =
+    then _ _ _ _ (then _ _ _ _ (behind_again command_word (decimal x.time) (decimal x.from ∷ decimal x.number ∷ decimal x.player ∷ act_word x.act ∷ []) (command_fits ticks x few h))
+      (then _ _ _ _ (act_again x.act h.act) refl))
+    (then _ _ _ _ (number_again 0 (ticks - 1) x.time (omega arith) h.time (omega arith))
+    (then _ _ _ _ (number_again 0 0 x.from (omega arith) h.from (lit< tt))
+    (then _ _ _ _ (number_again 0 999999 x.number (omega arith) h.number (lit< tt))
+    (then _ _ _ _ (number_again 0 0 x.player (omega arith) h.player (lit< tt)) refl))))
+
+-- ---- the lines up to the pace
+
+pub record IsOpening (o : Opening) : Type 0 where
+  pub ticks : (1 ≤ o.length) × (o.length ≤ 8192)
+  pub width : (3 ≤ o.sides.width) × (o.sides.width ≤ 64)
+  pub height : (1 ≤ o.sides.height) × (o.sides.height ≤ 64)
+  pub mirrors : (1 ≤ o.mirrors) × (o.mirrors ≤ 1)
+  pub delay : o.delay ≤ 1024
+  pub pace : o.pace ≤ o.delay
+
+-- the lines, and then others
+abbrev pub opening_before : Opening → Lines → Lines
+opening_before o rest =
+    line (spaced head_words)
+    (line (spaced (length_word ∷ decimal o.length ∷ []))
+    (line (spaced (grid_word ∷ decimal o.sides.width ∷ decimal o.sides.height ∷ []))
+    (line (spaced (mirrors_word ∷ decimal o.mirrors ∷ []))
+    (line (spaced (delays_word ∷ decimal o.delay ∷ []))
+    (line (spaced (pace_word ∷ decimal o.pace ∷ [])) rest)))))
+
+pub opening_takes : (lines : Lines) (o : Opening) (rest : Lines) → opening_at lines ≡ Ok (o, rest) → (lines ≡ opening_before o rest) × IsOpening o
+unfolding opening_at
+opening_takes lines o rest e =
+    through _ _ _ e (λ head head_is e. through _ _ _ e (λ ticks ticks_is e. through _ _ _ e (λ grid grid_is e. through _ _ _ e (λ mirrors mirrors_is e. through _ _ _ e (λ delay delay_is e. through _ _ _ e (λ pace pace_is e.
+    let a = head_takes lines head head_is in
+    let b = number_line_takes length_word 1 8192 head ticks.0 ticks.1 ticks_is in
+    let c = grid_takes ticks.1 grid.0 grid.1 grid_is in
+    let d = number_line_takes mirrors_word 1 1 grid.1 mirrors.0 mirrors.1 mirrors_is in
+    let f = number_line_takes delays_word 0 1024 mirrors.1 delay.0 delay.1 delay_is in
+    let g = number_line_takes pace_word 0 delay.0 delay.1 pace.0 pace.1 pace_is in
+    let made : Opening = record { length = ticks.0; sides = grid.0; mirrors = mirrors.0; delay = delay.0; pace = pace.0 } in
+    let same = same_pairs made o pace.1 rest e in
+    let whole : lines ≡ opening_before made pace.1 = cc in
+    let held : IsOpening made = record { ticks = (b.1, b.2); width = (c.1, c.2); height = (c.3, c.4); mirrors = (d.1, d.2); delay = f.2; pace = g.2 } in
+    (whole ∙ ap (opening_before made) same.1 ∙ ap (λ (q : Opening). opening_before q rest) same.0, subst IsOpening same.0 held)))))))
+
+pub opening_again : (o : Opening) (rest : Lines) → IsOpening o → opening_at (opening_before o rest) ≡ Ok (o, rest)
+unfolding opening_at
+opening_again o rest h =
+    let delay = h.delay in
+    then _ _ _ _ (head_again _)
+    (then _ _ _ _ (number_line_again length_word 1 8192 o.length _ length_keyword h.ticks.0 h.ticks.1 (lit< tt))
+    (then _ _ _ _ (grid_again o.sides _ h.width.0 h.width.1 h.height.0 h.height.1)
+    (then _ _ _ _ (number_line_again mirrors_word 1 1 o.mirrors _ mirrors_keyword h.mirrors.0 h.mirrors.1 (lit< tt))
+    (then _ _ _ _ (number_line_again delays_word 0 1024 o.delay _ delays_keyword (omega arith) h.delay (lit< tt))
+    (then _ _ _ _ (number_line_again pace_word 0 o.delay o.pace _ pace_keyword (omega arith) h.pace (omega arith)) refl)))))
