@@ -23,7 +23,7 @@ use Rattle.match_file.specs.Text.{length_word, grid_word, mirrors_word, delays_w
 use Rattle.match_file.specs.Reading.{shape, line_at, front_at, last_at, behind, at_least, number_in, head_at, number_at, grid_at, opening_at, face_of, NamedPlace, player_words, PlayerData, player_at, act_of, CommandParts, command_words, command_at}
 use Rattle.match_file.proofs.Spaced.{IsWord, AreWords, words_of-spaced, spaced-words_of, IsWord-decimal, IsWord-name, length-name}
 
-same_words : (a b : List ℕ) → bytes_eq a b ≡ true → a ≡ b
+pub same_words : (a b : List ℕ) → bytes_eq a b ≡ true → a ≡ b
 same_words a b = (bytes_eq-Decides a b).0
 
 pub bytes_eq-same : (a : List ℕ) → bytes_eq a a ≡ true
@@ -104,7 +104,7 @@ abbrev two : {A B : Type 0} → A → B → Result (A × B) Refused
 two a b = Ok (a, b)
 
 -- what a reading that gave something went through
-through : {A B : Type 0} {P : Type 0} (r : Result A Refused) (f : A → Result B Refused) (y : B) → (r >>= f) ≡ Ok y → ((x : A) → r ≡ Ok x → f x ≡ Ok y → P) → P
+pub through : {A B : Type 0} {P : Type 0} (r : Result A Refused) (f : A → Result B Refused) (y : B) → (r >>= f) ≡ Ok y → ((x : A) → r ≡ Ok x → f x ≡ Ok y → P) → P
 through r f y e next = let b = bind_ok r f y e in next b.0 b.1 b.2
 
 pub same_pairs : {A B : Type 0} (a x : A) (b y : B) → two a b ≡ two x y → (a ≡ x) × (b ≡ y)
