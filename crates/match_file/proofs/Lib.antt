@@ -5,4 +5,5 @@ pub mod Spaced
 pub mod LineLaws
 pub mod NameLaws
 pub mod CommandTexts
+pub mod FaultLaws
 pub mod MatchLaws

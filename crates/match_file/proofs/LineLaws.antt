@@ -139,31 +139,31 @@ pub record IsKeyword (word : List ℕ) : Type 0 where
   pub fits : IsWord word
   pub short : length word ≤ 7
 
-length_keyword : IsKeyword length_word
+pub length_keyword : IsKeyword length_word
 unfolding length_word
 length_keyword = record { fits = refl; short = lit≤ tt }
 
-grid_keyword : IsKeyword grid_word
+pub grid_keyword : IsKeyword grid_word
 unfolding grid_word
 grid_keyword = record { fits = refl; short = lit≤ tt }
 
-mirrors_keyword : IsKeyword mirrors_word
+pub mirrors_keyword : IsKeyword mirrors_word
 unfolding mirrors_word
 mirrors_keyword = record { fits = refl; short = lit≤ tt }
 
-delays_keyword : IsKeyword delays_word
+pub delays_keyword : IsKeyword delays_word
 unfolding delays_word
 delays_keyword = record { fits = refl; short = lit≤ tt }
 
-pace_keyword : IsKeyword pace_word
+pub pace_keyword : IsKeyword pace_word
 unfolding pace_word
 pace_keyword = record { fits = refl; short = lit≤ tt }
 
-player_keyword : IsKeyword player_word
+pub player_keyword : IsKeyword player_word
 unfolding player_word
 player_keyword = record { fits = refl; short = lit≤ tt }
 
-command_keyword : IsKeyword command_word
+pub command_keyword : IsKeyword command_word
 unfolding command_word
 command_keyword = record { fits = refl; short = lit≤ tt }
 
@@ -171,7 +171,7 @@ command_keyword = record { fits = refl; short = lit≤ tt }
 short_number : (n : ℕ) → n < 2 ^ 32 → length (decimal n) ≤ 10
 short_number n small = length-decimal-le 10 n (omega arith) (omega arith) (omega arith)
 
-number_word : (n : ℕ) → n < 2 ^ 32 → IsWord (decimal n)
+pub number_word : (n : ℕ) → n < 2 ^ 32 → IsWord (decimal n)
 number_word n small = IsWord-decimal n (omega arith)
 
 -- ---- lines of numbers, again
@@ -302,6 +302,12 @@ player_takes sides lines p rest e =
     subst (λ (q : PlayerData × Lines). (lines ≡ line (spaced (player_line q.0.name q.0.home)) q.1) × IsPlaced sides q.0) g.1
       (whole, record { name = named.0; column = ltb-true _ _ inside.0; row = ltb-true _ _ inside.1 })))))
 
+pub player_fits : (sides : Sides) (p : PlayerData) → IsPlaced sides p → sides.width ≤ 64 → sides.height ≤ 64 → AreWords (player_line p.name p.home)
+player_fits sides p h narrow low =
+    let column = h.column in
+    let row = h.row in
+    (player_keyword.fits, (IsWord-name p.name h.name, (number_word p.home.x (omega arith), (number_word p.home.y (omega arith), ((face_fits p.home.face).0, tt)))))
+
 pub player_again : (sides : Sides) (p : PlayerData) (rest : Lines) → IsPlaced sides p → sides.width ≤ 64 → sides.height ≤ 64
     → player_at sides (line (spaced (player_line p.name p.home)) rest) ≡ Ok (p, rest)
 unfolding player_at player_words front_at last_at
@@ -311,7 +317,7 @@ player_again sides p rest h narrow low =
     let words : List (List ℕ) = player_line p.name p.home in
     let column = h.column in
     let row = h.row in
-    let fit : AreWords words = (player_keyword.fits, (IsWord-name p.name h.name, (number_word x (omega arith), (number_word y (omega arith), ((face_fits p.home.face).0, tt))))) in
+    let fit = player_fits sides p h narrow low in
     let short : length (spaced words) ≤ 120 = omega (arith, spaced_short words, player_keyword.short, length-name p.name h.name, short_number x (omega arith), short_number y (omega arith), (face_fits p.home.face).1) in
     let in_column : ltb x sides.width ≡ true = lt-ltb _ _ column in
     let in_row : ltb y sides.height ≡ true = lt-ltb _ _ row in

@@ -1,6 +1,6 @@
 -- Reading a match text and the text of a match undo each other, and every fault is the same.
-use Rattle.std.proofs.Common.{◌≡◌, ◌≢◌, ℕ, zero, suc, ◌+◌, ◌-◌, ◌<◌, ◌≤◌, Bool, true, false, cond, not, eqb, ltb, ◌&&◌, List, [], ◌∷◌, ◌++◌, length, map, Option, Some, None, Result, Ok, Err, refl, sym, ap, subst, ◌∙◌, arith, lit≤}
-use Rattle.std.specs.Prelude.{decimal, replicate, filter, nat_lt, bytes_eq}
+use Rattle.std.proofs.Common.{◌≡◌, ◌≢◌, ℕ, zero, suc, ◌+◌, ◌-◌, ◌<◌, ◌≤◌, Bool, true, false, cond, not, eqb, ltb, ◌&&◌, List, [], ◌∷◌, ◌++◌, length, map, ◌^◌, Option, Some, None, Result, Ok, Err, refl, sym, ap, subst, ◌∙◌, arith, lit≤}
+use Rattle.std.specs.Prelude.{decimal, replicate, filter, nat_lt, bytes_eq, IfOk, IfErr}
 use Rattle.std.specs.List.{AllByRecursion, IsDistinct, list_all}
 use Rattle.std.proofs.lemmas.Bool.{lt-ltb, ltb-true, and_parts}
 use Rattle.game_trait.specs.declared.command.Act.TheVariants.{Shoot}
@@ -12,19 +12,21 @@ use Rattle.arena_rules.proofs.Walls.{is_walled-open_grid, IsGrid-open_grid}
 use Rattle.tss_io.specs.Reading.{◌>>=◌}
 use Rattle.tss_io.proofs.Reading.{then}
 use Rattle.match_file.specs.declared.fault.Refused.{Refused}
+use Rattle.match_file.specs.declared.fault.TextFault.{TextFault}
 use Rattle.match_file.specs.declared.opening.Opening.{Opening}
 use Rattle.match_file.specs.declared.opening.Sides.{Sides}
 use Rattle.match_file.specs.declared.script_line.ScriptLine.{ScriptLine}
 use Rattle.match_file.specs.Lines.{Lines, torn, line, lines_of, text_of, spaced}
 use Rattle.match_file.specs.Names.{is_name}
 use Rattle.match_file.specs.Data.{MatchData, IsCommand, IsMatch, IsPlain, longest, Rises}
-use Rattle.match_file.specs.Text.{before, below, walls_of, player_lines, player_line, command_line, opening_lines, match_lines, match_text}
-use Rattle.match_file.specs.Reading.{PlayerData, plain_match, commands_at, match_at, read_text}
+use Rattle.match_file.specs.Text.{head_words, length_word, grid_word, mirrors_word, delays_word, pace_word, end_word, before, below, walls_of, player_lines, player_line, command_line, opening_lines, match_lines, match_text}
+use Rattle.match_file.specs.Reading.{Gives, IsShape, PlayerData, plain_match, opening_at, player_at, commands_at, match_at, read_text}
 use Rattle.match_file.proofs.Lines.{text_of-lines_of}
-use Rattle.match_file.proofs.Spaced.{AreWords, AreLines, AreLines-before, lines_of-text_of}
-use Rattle.match_file.proofs.LineLaws.{through, IsPlainCommand, IsPlaced, player_takes, player_again, IsOpening, opening_before, opening_takes, opening_again}
+use Rattle.match_file.proofs.Spaced.{AreWords, Lacks, Lacks-spaced, AreLines, AreLines-before, lines_of-text_of}
+use Rattle.match_file.proofs.LineLaws.{through, IsKeyword, length_keyword, grid_keyword, mirrors_keyword, delays_keyword, pace_keyword, number_word, player_fits, IsPlainCommand, IsPlaced, player_takes, player_again, IsOpening, opening_before, opening_takes, opening_again}
+use Rattle.match_file.proofs.FaultLaws.{IsShape-fails}
 use Rattle.match_file.proofs.NameLaws.{all_map, AreCommands, AreCommands-none}
-use Rattle.match_file.proofs.CommandTexts.{command_lines, ReadsOn, commands_take, commands_again}
+use Rattle.match_file.proofs.CommandTexts.{command_lines, ReadsOn, commands_take, commands_again, commands_are_lines, end_is_line}
 
 -- ---- a grid without walls
 
@@ -170,7 +172,7 @@ parts_of m h =
 pub match_takes : (lines : Lines) (m : MatchData) → match_at lines ≡ Ok m → IsPlain m × (lines ≡ match_lines m)
 unfolding match_at
 match_takes lines m e =
-    through _ _ _ e (λ opening opening_is e. through _ _ _ e (λ player player_is e. through _ _ _ e (λ commands commands_is e.
+    through _ _ _ e (λ (opening : Opening × Lines) opening_is e. through _ _ _ e (λ (player : PlayerData × Lines) player_is e. through _ _ _ e (λ (commands : List Command) commands_is e.
     let o = opening.0 in
     let a = opening_takes lines o opening.1 opening_is in
     let b = player_takes o.sides opening.1 player.0 player.1 player_is in
@@ -192,3 +194,67 @@ match_again m h =
     let parts = parts_of m h in
     subst (λ (q : MatchData). match_at (match_lines q) ≡ Ok q) (sym parts.whole)
       (ap match_at (match_lines-plain parts.o parts.p m.commands) ∙ plain_again parts.o parts.p m.commands parts.fit)
+
+-- ---- reading texts, both ways
+
+head_fits : AreWords head_words
+unfolding head_words
+head_fits = (refl, (refl, (refl, tt)))
+
+number_fits : (keyword : List ℕ) (n : ℕ) → IsKeyword keyword → n < 2 ^ 32 → Lacks 10 (spaced (keyword ∷ decimal n ∷ []))
+number_fits keyword n k small = Lacks-spaced (keyword ∷ decimal n ∷ []) (k.fits, (number_word n small, tt))
+
+plain_are_lines : (o : Opening) (p : PlayerData) (commands : List Command) → IsPlainParts o p commands → AreLines (plain_lines o p commands)
+plain_are_lines o p commands h =
+    let ticks = h.opening.ticks in
+    let width = h.opening.width in
+    let height = h.opening.height in
+    let mirrors = h.opening.mirrors in
+    let delay = h.opening.delay in
+    let pace = h.opening.pace in
+    (Lacks-spaced head_words head_fits,
+    (number_fits length_word o.length length_keyword (omega arith),
+    (Lacks-spaced (grid_word ∷ decimal o.sides.width ∷ decimal o.sides.height ∷ []) (grid_keyword.fits, (number_word o.sides.width (omega arith), (number_word o.sides.height (omega arith), tt))),
+    (number_fits mirrors_word o.mirrors mirrors_keyword (omega arith),
+    (number_fits delays_word o.delay delays_keyword (omega arith),
+    (number_fits pace_word o.pace pace_keyword (omega arith),
+    (Lacks-spaced (player_line p.name p.home) (player_fits o.sides p h.player (omega arith) (omega arith)),
+    AreLines-before (map command_line commands) (line end_word (torn [])) (commands_are_lines o.length commands ticks.1 h.commands.each) end_is_line)))))))
+
+match_are_lines : (m : MatchData) → IsPlain m → AreLines (match_lines m)
+match_are_lines m h =
+    let parts = parts_of m h in
+    subst (λ (q : MatchData). AreLines (match_lines q)) (sym parts.whole)
+      (subst AreLines (sym (match_lines-plain parts.o parts.p m.commands)) (plain_are_lines parts.o parts.p m.commands parts.fit))
+
+-- What is read from a text is a match of the plain form, and the text is its text.
+pub match_text-read_text : (text : List ℕ) (m : MatchData) → read_text text ≡ Ok m → IsPlain m × (text ≡ match_text m)
+unfolding read_text
+match_text-read_text text m e =
+    let a = match_takes (lines_of text) m e in
+    (a.0, sym (text_of-lines_of text) ∙ ap text_of a.1)
+
+-- From the text of a match of the plain form that match is read.
+pub read_text-match_text : (m : MatchData) → IsPlain m → read_text (match_text m) ≡ Ok m
+unfolding read_text
+read_text-match_text m h = ap match_at (lines_of-text_of (match_lines m) (match_are_lines m h)) ∙ match_again m h
+
+-- ---- what a call returned
+
+pub is_match : (lines : Lines) (o : Opening) (one : Lines) (p : PlayerData) (two : Lines) (commands : List Command)
+    → opening_at lines ≡ Ok (o, one) → player_at o.sides one ≡ Ok (p, two) → commands_at o.length [] two ≡ Ok commands → IsMatch (plain_match o p commands)
+unfolding match_at
+is_match lines o one p two commands a b c =
+    let read : match_at lines ≡ Ok (plain_match o p commands) = then _ _ _ _ a (then _ _ _ _ b (then _ _ _ _ c refl)) in
+    (match_takes lines (plain_match o p commands) read).0.sound
+
+pub is_found : (text : List ℕ) (r : Result MatchData TextFault) → Gives (λ m. m) r (read_text text) → IfOk r (λ m. IsPlain m × (text ≡ match_text m))
+is_found text (Ok m) h = match_text-read_text text m h
+is_found text (Err e) h = tt
+
+pub is_only : (text : List ℕ) (r : Result MatchData TextFault) → Gives (λ m. m) r (read_text text) → (m : MatchData) → IsPlain m → text ≡ match_text m → Gives (λ v. v) r (Ok m)
+is_only text r h m plain e = subst (λ (f : Result MatchData Refused). Gives (λ v. v) r f) (ap read_text e ∙ read_text-match_text m plain) h
+
+pub is_refused : (text : List ℕ) (r : Result MatchData TextFault) → Gives (λ m. m) r (read_text text) → IfErr r IsShape
+is_refused text (Ok m) h = tt
+is_refused text (Err e) h = IsShape-fails e text h

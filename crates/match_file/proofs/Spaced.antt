@@ -97,7 +97,7 @@ pub spaced-words_of : (l : List ℕ) → spaced (words_of l) ≡ l
 unfolding words_of spaced
 spaced-words_of l = join_with_byte-slice_split 32 l
 
-Lacks-spaced : (words : List (List ℕ)) → AreWords words → Lacks 10 (spaced words)
+pub Lacks-spaced : (words : List (List ℕ)) → AreWords words → Lacks 10 (spaced words)
 unfolding spaced
 Lacks-spaced [] fit = tt
 Lacks-spaced (word ∷ []) fit = Lacks-word 10 word (lit< tt) fit.0
