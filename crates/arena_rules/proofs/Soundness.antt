@@ -1,16 +1,16 @@
 -- Every world of an arena is sound: at the start, and after each act and each beat.
-use Rattle.std.proofs.Common.{◌≡◌, ℕ, zero, suc, ◌+◌, ◌<◌, ◌≤◌, ◌^◌, ◌⊎◌, inl, inr, Bool, true, false, not, ◌&&◌, if◌then◌else◌, ℤ, pos, negsuc, Option, Some, None, slice_get, List, [], ◌∷◌, ◌++◌, map, length, get_or, set, refl, sym, ap, ◌∙◌, subst, arith, lit<, length-set, unwrap_or}
+use Rattle.std.proofs.Common.{◌≡◌, ℕ, zero, suc, inl, inr, true, false, if◌then◌else◌, ℤ, pos, negsuc, Some, None, slice_get, List, [], ◌∷◌, map, length, get_or, set, refl, sym, ap, ◌∙◌, subst, arith, lit<, length-set, unwrap_or}
 use Rattle.std.specs.Int.{FitsUnsignedBits}
-use Rattle.std.specs.List.{list_any, list_all, IsDistinct, All}
+use Rattle.std.specs.List.{list_any, list_all}
 use Rattle.std.proofs.lemmas.Bool.{and_parts, and_left, cond-false, not-true}
-use Rattle.std.proofs.lemmas.List.{map-set, length-map, set-get_or}
-use Rattle.std.proofs.lemmas.List.Elements.{All-set, All-map, All-get_or}
+use Rattle.std.proofs.lemmas.List.{map-set, length-map}
+use Rattle.std.proofs.lemmas.List.Elements.{All-set, All-map}
 use Rattle.std.proofs.lemmas.List.Folds.{list_all-append}
 use Rattle.std.proofs.lemmas.List.Recursion.{and_set}
 use Rattle.std.proofs.lemmas.Option.{get_or_from_slice_get, slice_get_cases}
-use Rattle.arena_rules.specs.Ground.{IsGrid, is_open}
+use Rattle.arena_rules.specs.Ground.{is_open}
 use Rattle.arena_rules.specs.Setup.{Layout, Cell, same_cell, spot_cell, pickup_cell, IsLayout}
-use Rattle.arena_rules.specs.World.{World, opening_player, opening_world, held_cells, is_held, is_vacant, moved_to, turned_to, gone, with_player, beaten, HasNumbersInRange, IsSound}
+use Rattle.arena_rules.specs.World.{World, opening_player, opening_world, held_cells, is_held, is_vacant, moved_to, turned_to, gone, with_player, HasNumbersInRange, IsSound}
 use Rattle.arena_rules.specs.declared.face.Face.{Face}
 use Rattle.arena_rules.specs.declared.spot.Spot.{Spot}
 use Rattle.arena_rules.specs.declared.player.Player.{Player}

@@ -1,7 +1,7 @@
 -- Which cells are walled, and that a grid stays one that the ground can have.
-use Rattle.std.proofs.Common.{◌≡◌, ◌≢◌, ℕ, ◌+◌, ◌<◌, ◌≤◌, ◌⊎◌, ◌||◌, ◌&&◌, ◌==◌, ◌^◌, ◌*◌, ◌%◌, Bool, true, false, max, ℤ, pos, negsuc, ◌<ℤ◌, refl, sym, ap, ◌∙◌, inl, inr, List, length, get_or, slice_index, set, replicate, bit_or, arith, length-set, get_or-set_same, get_or-set_other}
+use Rattle.std.proofs.Common.{◌≡◌, ℕ, ◌<◌, ◌≤◌, ◌||◌, ◌&&◌, ◌==◌, ◌^◌, ◌*◌, ◌%◌, false, ℤ, pos, negsuc, refl, sym, ap, ◌∙◌, inl, inr, length, slice_index, replicate, bit_or, arith, length-set, get_or-set_other}
 use Rattle.std.specs.Int.{bit_at, FitsUnsignedBits}
-use Rattle.std.proofs.lemmas.Bool.{cases_lt, cases_eq, eqb-true, eq-eqb, ne_eqb, or_cases, and_parts, and_left, and_right, le-ltb, false≢true}
+use Rattle.std.proofs.lemmas.Bool.{cases_lt, cases_eq, eqb-true, ne_eqb, or_cases, and_parts, and_left, and_right, le-ltb, false≢true}
 use Rattle.std.proofs.lemmas.Bool.Decides.{nat_tests}
 use Rattle.std.proofs.lemmas.Grind.{get_or-set_at}
 use Rattle.std.proofs.lemmas.List.{get_or-replicate, get_or_past, length-replicate}

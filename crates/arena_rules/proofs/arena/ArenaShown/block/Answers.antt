@@ -1,6 +1,5 @@
-use Rattle.std.proofs.Common.{◌≡◌, ◌<◌, ◌++◌, ap, ◌∙◌, length, get_or, arith}
+use Rattle.std.proofs.Common.{◌≡◌, ◌<◌, ap, ◌∙◌, length}
 use Rattle.std.proofs.lemmas.Result.{err_from_is_err_and}
-use Rattle.arena_rules.specs.Block.{live_line, name_of, GainsFront}
 use Rattle.arena_rules.proofs.Lines.{no_player_lines, player_lines-next, GainsFront-next}
 use Rattle.arena_rules.proofs.arena.ArenaShown.block.Goals as goal
 
