@@ -103,6 +103,7 @@ impl Arena {
     fn gone(&self, player: Player, x: i32, y: i32) -> Player
         ensures { result ≡ gone self.now player (x, y) }
     {
+        // Reads the world, whose invariant the answers below rest on.
         let _ = &self.time;
         let Ok(x) = u8::try_from(x) else {
             return player;
@@ -226,51 +227,15 @@ mod tests {
         assert_eq!(rt; arena.score(1), 0);
         let opening = arena.twin();
         for (player, act, shown) in [
-            (
-                2,
-                Act::Go,
-                b"live ann 0 0 e 3 5 0\nlive ? 2 0 s 3 5 0\n".as_slice(),
-            ),
-            (
-                0,
-                Act::Go,
-                b"live ann 1 0 e 3 5 0\nlive ? 2 0 s 3 5 0\n".as_slice(),
-            ),
-            (
-                0,
-                Act::Go,
-                b"live ann 1 0 e 3 5 0\nlive ? 2 0 s 3 5 0\n".as_slice(),
-            ),
-            (
-                1,
-                Act::Go,
-                b"live ann 1 0 e 3 5 0\nlive ? 2 1 s 3 5 0\n".as_slice(),
-            ),
-            (
-                1,
-                Act::Go,
-                b"live ann 1 0 e 3 5 0\nlive ? 2 1 s 3 5 0\n".as_slice(),
-            ),
-            (
-                0,
-                Act::Right,
-                b"live ann 1 0 s 3 5 0\nlive ? 2 1 s 3 5 0\n".as_slice(),
-            ),
-            (
-                0,
-                Act::Go,
-                b"live ann 1 0 s 3 5 0\nlive ? 2 1 s 3 5 0\n".as_slice(),
-            ),
-            (
-                0,
-                Act::Shoot,
-                b"live ann 1 0 s 3 5 0\nlive ? 2 1 s 3 5 0\n".as_slice(),
-            ),
-            (
-                1,
-                Act::Left,
-                b"live ann 1 0 s 3 5 0\nlive ? 2 1 e 3 5 0\n".as_slice(),
-            ),
+            (2, Act::Go, b"live ann 0 0 e 3 5 0\nlive ? 2 0 s 3 5 0\n"),
+            (0, Act::Go, b"live ann 1 0 e 3 5 0\nlive ? 2 0 s 3 5 0\n"),
+            (0, Act::Go, b"live ann 1 0 e 3 5 0\nlive ? 2 0 s 3 5 0\n"),
+            (1, Act::Go, b"live ann 1 0 e 3 5 0\nlive ? 2 1 s 3 5 0\n"),
+            (1, Act::Go, b"live ann 1 0 e 3 5 0\nlive ? 2 1 s 3 5 0\n"),
+            (0, Act::Right, b"live ann 1 0 s 3 5 0\nlive ? 2 1 s 3 5 0\n"),
+            (0, Act::Go, b"live ann 1 0 s 3 5 0\nlive ? 2 1 s 3 5 0\n"),
+            (0, Act::Shoot, b"live ann 1 0 s 3 5 0\nlive ? 2 1 s 3 5 0\n"),
+            (1, Act::Left, b"live ann 1 0 s 3 5 0\nlive ? 2 1 e 3 5 0\n"),
         ] {
             arena.apply(&Command {
                 player,
@@ -280,7 +245,7 @@ mod tests {
             arena.beat();
             let mut out = Vec::new(rt.alloc());
             arena.block(&roster, &mut out)?;
-            assert_eq!(rt; out.as_slice(), shown);
+            assert_eq!(rt; out.as_slice(), shown.as_slice());
         }
         assert_eq!(rt; arena.time(), 9);
         arena.set_from(&opening);

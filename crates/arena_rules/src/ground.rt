@@ -54,6 +54,7 @@ impl Ground {
     pub fn free(&self, x: i32, y: i32) -> bool
         ensures { result ≡ is_free self.now x y }
     {
+        // Reads the ground, whose invariant the answers below rest on.
         let _ = &self.width;
         let Ok(x) = u8::try_from(x) else {
             return false;
