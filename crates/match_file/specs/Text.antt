@@ -50,6 +50,25 @@ script_word = codes "script"
 unfoldable pub end_word : List ℕ
 end_word = codes "end"
 
+-- the first words of a script's lines
+unfoldable pub tick_word : List ℕ
+tick_word = codes "tick"
+
+unfoldable pub turn_word : List ℕ
+turn_word = codes "turn"
+
+unfoldable pub arrive_word : List ℕ
+arrive_word = codes "arrive"
+
+unfoldable pub step_word : List ℕ
+step_word = codes "step"
+
+unfoldable pub world_word : List ℕ
+world_word = codes "world"
+
+unfoldable pub run_word : List ℕ
+run_word = codes "run"
+
 -- the words of the first line
 unfoldable pub head_words : List (List ℕ)
 head_words = codes "tss" ∷ codes "match" ∷ codes "1" ∷ []
@@ -87,12 +106,12 @@ command_line x = command_word ∷ decimal x.time ∷ decimal x.from ∷ decimal 
 
 -- a line of the script
 abbrev pub script_line : ScriptLine → List (List ℕ)
-script_line (Tick mirror) = codes "tick" ∷ decimal mirror ∷ []
-script_line (Turn mirror) = codes "turn" ∷ decimal mirror ∷ []
-script_line (Arrive mirror from number) = codes "arrive" ∷ decimal mirror ∷ decimal from ∷ decimal number ∷ []
-script_line (Step mirror copy) = codes "step" ∷ decimal mirror ∷ decimal copy ∷ []
-script_line (World mirror copy) = codes "world" ∷ decimal mirror ∷ decimal copy ∷ []
-script_line (Run mirror copy) = codes "run" ∷ decimal mirror ∷ decimal copy ∷ []
+script_line (Tick mirror) = tick_word ∷ decimal mirror ∷ []
+script_line (Turn mirror) = turn_word ∷ decimal mirror ∷ []
+script_line (Arrive mirror from number) = arrive_word ∷ decimal mirror ∷ decimal from ∷ decimal number ∷ []
+script_line (Step mirror copy) = step_word ∷ decimal mirror ∷ decimal copy ∷ []
+script_line (World mirror copy) = world_word ∷ decimal mirror ∷ decimal copy ∷ []
+script_line (Run mirror copy) = run_word ∷ decimal mirror ∷ decimal copy ∷ []
 
 -- the numbers below n, in order
 unfoldable pub below : ℕ → List ℕ

@@ -8,6 +8,7 @@ mod game_match;
 mod opening;
 mod player;
 mod reading;
+mod script;
 mod script_line;
 mod words;
 
