@@ -1,5 +1,5 @@
 use Rattle.std.proofs.Common.{sym, ◌∙◌}
-use Rattle.match_file.proofs.CommandLaws.{is_end-lines_of}
+use Rattle.match_file.proofs.ScriptLaws.{is_end-lines_of}
 use Rattle.match_file.proofs.script.at_end.Goals as goal
 
 pub returns : goal.returns
