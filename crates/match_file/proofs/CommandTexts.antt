@@ -43,25 +43,25 @@ commands_take ticks so_far (torn bytes) all h e = absurd cc
 commands_take ticks so_far (line l rest) all h e =
     let g = guard_then (ltb 120 (length l)) shape _ all e in
     either (bytes_eq l end_word) _ _ all
-      (λ last e.
-        let k = unless_ok (is_end rest) shape so_far all e in
-        record {
-          more = [];
-          whole = sym k.1 ∙ sym (append-nil so_far);
-          text = rw (same_words l end_word last, is_end_takes rest k.0) refl;
-          fit = subst (AreCommands ticks) k.1 h;
-        })
-      (λ _ e. through _ _ _ e (λ x x_is e. through _ _ _ e (λ with_x with_x_is e.
-        let a = command_takes ticks l x x_is in
-        let b = added_takes so_far x with_x with_x_is in
-        let r = commands_take ticks with_x rest all (AreCommands-added ticks so_far x with_x h a.1 with_x_is) e in
-        record {
-          more = x ∷ r.more;
-          whole = r.whole ∙ ap (λ (xs : List Command). xs ++ r.more) b.0 ∙ append_assoc so_far (x ∷ []) r.more;
-          text = ap (λ (k : List ℕ). line k rest) a.0 ∙ ap (line (spaced (command_line x))) r.text;
-          fit = r.fit;
-        })))
-      g.1
+    (λ last e.
+    let k = unless_ok (is_end rest) shape so_far all e in
+    record {
+      more = [];
+      whole = sym k.1 ∙ sym (append-nil so_far);
+      text = rw (same_words l end_word last, is_end_takes rest k.0) refl;
+      fit = subst (AreCommands ticks) k.1 h;
+    })
+    (λ _ e. through _ _ _ e (λ x x_is e. through _ _ _ e (λ with_x with_x_is e.
+    let a = command_takes ticks l x x_is in
+    let b = added_takes so_far x with_x with_x_is in
+    let r = commands_take ticks with_x rest all (AreCommands-added ticks so_far x with_x h a.1 with_x_is) e in
+    record {
+      more = x ∷ r.more;
+      whole = r.whole ∙ ap (λ (xs : List Command). xs ++ r.more) b.0 ∙ append_assoc so_far (x ∷ []) r.more;
+      text = ap (λ (k : List ℕ). line k rest) a.0 ∙ ap (line (spaced (command_line x))) r.text;
+      fit = r.fit;
+    })))
+    g.1
 
 not_last : (x : Command) → bytes_eq (spaced (command_line x)) end_word ≡ false
 unfolding spaced command_word end_word
@@ -82,9 +82,9 @@ commands_again ticks (x ∷ more) so_far few h =
     let regroup : (so_far ++ x ∷ []) ++ more ≡ so_far ++ x ∷ more = append_assoc so_far (x ∷ []) more in
     let room : length so_far < 16384 = omega (arith, length-append so_far (x ∷ more), h.count) in
     rw (t, not_last x)
-      (then _ _ _ _ (command_again ticks x few one)
-      (then _ _ _ _ (added-new so_far x room (differ_middle so_far x more h.differ))
-      (commands_again ticks more (so_far ++ x ∷ []) few (rw regroup h) ∙ ap Ok regroup)))
+    (then _ _ _ _ (command_again ticks x few one)
+    (then _ _ _ _ (added-new so_far x room (differ_middle so_far x more h.differ))
+    (commands_again ticks more (so_far ++ x ∷ []) few (rw regroup h) ∙ ap Ok regroup)))
 
 pub commands_are_lines : (ticks : ℕ) (commands : List Command) → ticks ≤ 8192 → AllByRecursion (IsPlainCommand ticks) commands → AllByRecursion AreWords (map command_line commands)
 commands_are_lines ticks [] few h = tt

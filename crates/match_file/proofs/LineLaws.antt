@@ -300,7 +300,7 @@ player_takes sides lines p rest e =
     let d = number_takes 0 (2 ^ 32 - 1) words.y y y_is in
     let whole : lines ≡ line (spaced (player_line made.name made.home)) l.1 = cc in
     subst (λ (q : PlayerData × Lines). (lines ≡ line (spaced (player_line q.0.name q.0.home)) q.1) × IsPlaced sides q.0) g.1
-      (whole, record { name = named.0; column = ltb-true _ _ inside.0; row = ltb-true _ _ inside.1 })))))
+    (whole, record { name = named.0; column = ltb-true _ _ inside.0; row = ltb-true _ _ inside.1 })))))
 
 pub player_fits : (sides : Sides) (p : PlayerData) → IsPlaced sides p → sides.width ≤ 64 → sides.height ≤ 64 → AreWords (player_line p.name p.home)
 player_fits sides p h narrow low =
@@ -323,7 +323,7 @@ player_again sides p rest h narrow low =
     let in_row : ltb y sides.height ≡ true = lt-ltb _ _ row in
     then _ _ _ _ (line_again (spaced words) rest short)
     (then _ _ _ _ (then _ _ _ _ (behind_again player_word p.name (decimal x ∷ decimal y ∷ face_word p.home.face ∷ []) fit)
-      (then _ _ _ _ (face_again p.home.face) refl))
+    (then _ _ _ _ (face_again p.home.face) refl))
     (then _ _ _ _ (number_again 0 (2 ^ 32 - 1) x (omega arith) (omega arith) (lit< tt))
     (then _ _ _ _ (number_again 0 (2 ^ 32 - 1) y (omega arith) (omega arith) (lit< tt)) (rw (h.name, in_column, in_row) refl))))
 
@@ -365,7 +365,7 @@ command_takes ticks l x e =
     let same : made ≡ x = cc in
     let whole : l ≡ spaced (command_line made) = cc in
     subst (λ (q : Command). (l ≡ spaced (command_line q)) × IsPlainCommand ticks q) same
-      (whole, record { time = b.2; from = c.2; number = d.2; player = f.2; act = a.1 }))))))
+    (whole, record { time = b.2; from = c.2; number = d.2; player = f.2; act = a.1 }))))))
 
 pub command_short : (ticks : ℕ) (x : Command) → ticks ≤ 8192 → IsPlainCommand ticks x → length (spaced (command_line x)) ≤ 120
 command_short ticks x few h =
@@ -387,7 +387,7 @@ pub command_again : (ticks : ℕ) (x : Command) → ticks ≤ 8192 → IsPlainCo
 unfolding command_at command_words front_at last_at
 command_again ticks x few h =
     then _ _ _ _ (then _ _ _ _ (behind_again command_word (decimal x.time) (decimal x.from ∷ decimal x.number ∷ decimal x.player ∷ act_word x.act ∷ []) (command_fits ticks x few h))
-      (then _ _ _ _ (act_again x.act h.act) refl))
+    (then _ _ _ _ (act_again x.act h.act) refl))
     (then _ _ _ _ (number_again 0 (ticks - 1) x.time (omega arith) h.time (omega arith))
     (then _ _ _ _ (number_again 0 0 x.from (omega arith) h.from (lit< tt))
     (then _ _ _ _ (number_again 0 999999 x.number (omega arith) h.number (lit< tt))

@@ -135,15 +135,15 @@ parts-IsPlain o p commands h =
 rebuilt : (m : MatchData) (d : ℕ) (name : List ℕ) (home : Spot) → m.delays ≡ d ∷ [] → m.names ≡ name ∷ [] → m.layout.players ≡ home ∷ [] → m.layout.grid.walls ≡ replicate 64 0 → m.layout.pickups ≡ [] → m.script ≡ []
     → m ≡ plain_match (record { length = m.length; sides = record { width = m.layout.grid.width; height = m.layout.grid.height }; mirrors = m.mirrors; delay = d; pace = m.pace }) (record { name = name; home = home }) m.commands
 rebuilt m d name home a b c e f g = λ i. record {
-    length = m.length;
-    mirrors = m.mirrors;
-    delays = a i;
-    pace = m.pace;
-    layout = record { grid = record { width = m.layout.grid.width; height = m.layout.grid.height; walls = e i }; pickups = f i; players = c i };
-    names = b i;
-    commands = m.commands;
-    script = g i;
-  }
+  length = m.length;
+  mirrors = m.mirrors;
+  delays = a i;
+  pace = m.pace;
+  layout = record { grid = record { width = m.layout.grid.width; height = m.layout.grid.height; walls = e i }; pickups = f i; players = c i };
+  names = b i;
+  commands = m.commands;
+  script = g i;
+}
 
 only_one : {X : Type 0} (xs : List X) → length xs ≡ 1 → (x : X) × (xs ≡ x ∷ [])
 only_one [] e = absurd (omega arith)
@@ -180,7 +180,7 @@ match_takes lines m e =
     let same : plain_match o player.0 commands ≡ m = cc in
     let text : lines ≡ plain_lines o player.0 commands = a.0 ∙ ap (opening_before o) (b.0 ∙ ap (line (spaced (player_line player.0.name player.0.home))) (c.text ∙ ap command_lines (sym c.whole))) in
     subst (λ (q : MatchData). IsPlain q × (lines ≡ match_lines q)) same
-      (IsPlain-parts o player.0 commands (record { opening = a.1; player = b.1; commands = c.fit }), text ∙ sym (match_lines-plain o player.0 commands)))))
+    (IsPlain-parts o player.0 commands (record { opening = a.1; player = b.1; commands = c.fit }), text ∙ sym (match_lines-plain o player.0 commands)))))
 
 plain_again : (o : Opening) (p : PlayerData) (commands : List Command) → IsPlainParts o p commands → match_at (plain_lines o p commands) ≡ Ok (plain_match o p commands)
 unfolding match_at
@@ -193,7 +193,7 @@ pub match_again : (m : MatchData) → IsPlain m → match_at (match_lines m) ≡
 match_again m h =
     let parts = parts_of m h in
     subst (λ (q : MatchData). match_at (match_lines q) ≡ Ok q) (sym parts.whole)
-      (ap match_at (match_lines-plain parts.o parts.p m.commands) ∙ plain_again parts.o parts.p m.commands parts.fit)
+    (ap match_at (match_lines-plain parts.o parts.p m.commands) ∙ plain_again parts.o parts.p m.commands parts.fit)
 
 -- ---- reading texts, both ways
 
@@ -211,21 +211,34 @@ plain_are_lines o p commands h =
     let height = h.opening.height in
     let mirrors = h.opening.mirrors in
     let delay = h.opening.delay in
-    let pace = h.opening.pace in
-    (Lacks-spaced head_words head_fits,
-    (number_fits length_word o.length length_keyword (omega arith),
-    (Lacks-spaced (grid_word ∷ decimal o.sides.width ∷ decimal o.sides.height ∷ []) (grid_keyword.fits, (number_word o.sides.width (omega arith), (number_word o.sides.height (omega arith), tt))),
-    (number_fits mirrors_word o.mirrors mirrors_keyword (omega arith),
-    (number_fits delays_word o.delay delays_keyword (omega arith),
-    (number_fits pace_word o.pace pace_keyword (omega arith),
-    (Lacks-spaced (player_line p.name p.home) (player_fits o.sides p h.player (omega arith) (omega arith)),
-    AreLines-before (map command_line commands) (line end_word (torn [])) (commands_are_lines o.length commands ticks.1 h.commands.each) end_is_line)))))))
+    let pace = h.opening.pace in (
+      Lacks-spaced head_words head_fits,
+      (
+        number_fits length_word o.length length_keyword (omega arith),
+        (
+          Lacks-spaced (grid_word ∷ decimal o.sides.width ∷ decimal o.sides.height ∷ []) (grid_keyword.fits, (number_word o.sides.width (omega arith), (number_word o.sides.height (omega arith), tt))),
+          (
+            number_fits mirrors_word o.mirrors mirrors_keyword (omega arith),
+            (
+              number_fits delays_word o.delay delays_keyword (omega arith),
+              (
+                number_fits pace_word o.pace pace_keyword (omega arith),
+                (
+                  Lacks-spaced (player_line p.name p.home) (player_fits o.sides p h.player (omega arith) (omega arith)),
+                  AreLines-before (map command_line commands) (line end_word (torn [])) (commands_are_lines o.length commands ticks.1 h.commands.each) end_is_line,
+                ),
+              ),
+            ),
+          ),
+        ),
+      ),
+    )
 
 match_are_lines : (m : MatchData) → IsPlain m → AreLines (match_lines m)
 match_are_lines m h =
     let parts = parts_of m h in
     subst (λ (q : MatchData). AreLines (match_lines q)) (sym parts.whole)
-      (subst AreLines (sym (match_lines-plain parts.o parts.p m.commands)) (plain_are_lines parts.o parts.p m.commands parts.fit))
+    (subst AreLines (sym (match_lines-plain parts.o parts.p m.commands)) (plain_are_lines parts.o parts.p m.commands parts.fit))
 
 -- What is read from a text is a match of the plain form, and the text is its text.
 pub match_text-read_text : (text : List ℕ) (m : MatchData) → read_text text ≡ Ok m → IsPlain m × (text ≡ match_text m)

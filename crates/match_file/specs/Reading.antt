@@ -160,8 +160,8 @@ player_at sides lines = do
   x ← number_in 0 (2 ^ 32 - 1) words.x
   y ← number_in 0 (2 ^ 32 - 1) words.y
   if is_name words.name && (nat_lt x sides.width && nat_lt y sides.height)
-    then Ok (record { name = words.name; home = record { x = x; y = y; face = words.face } }, l.1)
-    else Err shape
+      then Ok (record { name = words.name; home = record { x = x; y = y; face = words.face } }, l.1)
+      else Err shape
 
 -- the act that a word names; no shot is in the plain form
 unfoldable pub act_of : List ℕ → Result Act Refused

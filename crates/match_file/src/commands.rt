@@ -148,7 +148,11 @@ fn at_end(text: &[u8]) -> bool
 // Puts the command of the next line to the others and answers the text behind it, or answers none where the line is the
 // last.
 #[tactic(auto, unfolding(crate::specs::Reading::commands_step, crate::specs::Text::end_word))]
-fn read_command<'a>(ticks: u32, commands: &mut Commands, text: &'a [u8]) -> Result<Option<&'a [u8]>, TextFault>
+fn read_command<'a>(
+    ticks: u32,
+    commands: &mut Commands,
+    text: &'a [u8],
+) -> Result<Option<&'a [u8]>, TextFault>
     requires { 1 ≤ ticks }
     ensures read { Gives (λ o. (commands.new, option_map (λ rest. lines_of rest.now) o)) result (commands_step ticks commands.old (lines_of text.now)) }
     ensures shorter { IfOk result (λ o. IfSome o (λ rest. length rest.now < length text.now)) }
@@ -165,7 +169,7 @@ fn read_command<'a>(ticks: u32, commands: &mut Commands, text: &'a [u8]) -> Resu
     Ok(Some(rest))
 }
 
-// The commands of the lines up to the last, which ends the text.
+/// The commands of the lines up to the last, which ends the text.
 pub fn read_commands(alloc: Global, ticks: u32, text: &[u8]) -> Result<Seq<Command>, TextFault>
     requires { 1 ≤ ticks }
     ensures { Gives (λ x. x) result (commands_at ticks [] (lines_of text.now)) }
