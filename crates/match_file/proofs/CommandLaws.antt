@@ -1,15 +1,13 @@
 -- Commands put one behind the other, and their lines.
-use Rattle.std.proofs.Common.{◌≡◌, ℕ, zero, suc, ◌+◌, ◌<◌, ◌≤◌, Bool, true, false, cond, eqb, ltb, ◌&&◌, ◌||◌, List, [], ◌∷◌, ◌++◌, length, Option, Some, None, Result, Ok, Err, refl, sym, ap, subst, ◌∙◌, arith}
-use Rattle.std.specs.Prelude.{bytes_eq}
-use Rattle.std.proofs.lemmas.Bool.{ltb-false, lt-ltb, le-ltb}
-use Rattle.std.proofs.lemmas.Bool.Decides.{nat_tests}
+use Rattle.std.proofs.Common.{◌≡◌, ℕ, ◌<◌, ◌≤◌, Bool, true, false, cond, eqb, ltb, ◌&&◌, ◌||◌, List, [], ◌∷◌, ◌++◌, length, Option, Some, None, Result, Ok, Err, refl, sym, ap, ◌∙◌}
+use Rattle.std.proofs.lemmas.Bool.{lt-ltb, le-ltb}
 use Rattle.std.proofs.lemmas.List.Recursion.{or_push}
 use Rattle.game_trait.specs.declared.command.Command.{Command}
 use Rattle.tss_io.specs.Reading.{◌>>=◌}
 use Rattle.match_file.specs.declared.fault.Refused.{Refused}
 use Rattle.match_file.specs.declared.fault.TextFault.{TextFault}
 use Rattle.match_file.specs.declared.fault.TextFault.TheVariants as faults
-use Rattle.match_file.specs.Lines.{Lines, torn, line, onto, lines_of}
+use Rattle.match_file.specs.Lines.{Lines, torn, line}
 use Rattle.match_file.specs.Names.{same_numbers, has_command}
 use Rattle.match_file.specs.Reading.{Fails, shape, added, is_closing, line_at, command_at, line_step, commands_step, commands_at}
 

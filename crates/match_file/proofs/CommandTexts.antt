@@ -1,18 +1,16 @@
 -- The lines of commands up to the one that closes them, both ways.
-use Rattle.std.proofs.Common.{◌≡◌, ◌≢◌, ℕ, suc, ◌+◌, ◌-◌, ◌<◌, ◌≤◌, Bool, true, false, cond, eqb, ltb, ◌&&◌, List, [], ◌∷◌, ◌++◌, length, map, Result, Ok, Err, refl, sym, ap, subst, ◌∙◌, append_assoc, arith, lit≤, length-append}
-use Rattle.std.specs.Prelude.{bytes_eq}
+use Rattle.std.proofs.Common.{◌≡◌, ℕ, ◌<◌, ◌≤◌, Bool, true, false, cond, ltb, List, [], ◌∷◌, ◌++◌, length, map, Result, Ok, refl, sym, ap, subst, ◌∙◌, append_assoc, arith, length-append}
 use Rattle.std.specs.List.{AllByRecursion}
 use Rattle.std.proofs.lemmas.Bool.{le-ltb}
 use Rattle.std.proofs.lemmas.List.{append-nil}
 use Rattle.game_trait.specs.declared.command.Command.{Command}
-use Rattle.tss_io.specs.Reading.{◌>>=◌}
 use Rattle.tss_io.proofs.Reading.{then, guard_then, ok_is}
 use Rattle.match_file.specs.declared.fault.Refused.{Refused}
 use Rattle.match_file.specs.Lines.{Lines, torn, line, spaced}
 use Rattle.match_file.specs.Text.{command_line, command_word, script_word, end_word, before}
-use Rattle.match_file.specs.Reading.{shape, command_at, added, is_closing, commands_at}
-use Rattle.match_file.proofs.Spaced.{AreWords, AreLines, AreLines-before}
-use Rattle.match_file.proofs.LineLaws.{through, same_words, bytes_eq-same, IsPlainCommand, command_takes, command_short, command_fits, command_again}
+use Rattle.match_file.specs.Reading.{shape, is_closing, commands_at}
+use Rattle.match_file.proofs.Spaced.{AreWords}
+use Rattle.match_file.proofs.LineLaws.{through, IsPlainCommand, command_takes, command_short, command_fits, command_again}
 use Rattle.match_file.proofs.CommandLaws.{added-new}
 use Rattle.match_file.proofs.NameLaws.{all_middle, differ_middle, AreCommands, added_takes, AreCommands-added}
 
@@ -38,19 +36,19 @@ commands_take ticks so_far (torn bytes) all h e = absurd cc
 commands_take ticks so_far (line l rest) all h e =
     let g = guard_then (ltb 120 (length l)) shape _ all e in
     either (is_closing l) _ _ all
-      (λ last e. subst (ReadsOn ticks so_far (line l rest)) (ok_is (so_far, line l rest) all e)
-        (record { more = []; whole = sym (append-nil so_far); text = refl; fit = h }))
-      (λ _ e. through _ _ _ e (λ x x_is e. through _ _ _ e (λ with_x with_x_is e.
-        let a = command_takes ticks l x x_is in
-        let b = added_takes so_far x with_x with_x_is in
-        let r = commands_take ticks with_x rest all (AreCommands-added ticks so_far x with_x h a.1 with_x_is) e in
-        record {
-          more = x ∷ r.more;
-          whole = r.whole ∙ ap (λ (xs : List Command). xs ++ r.more) b.0 ∙ append_assoc so_far (x ∷ []) r.more;
-          text = ap (λ (k : List ℕ). line k rest) a.0 ∙ ap (line (spaced (command_line x))) r.text;
-          fit = r.fit;
-        })))
-      g.1
+    (λ last e. subst (ReadsOn ticks so_far (line l rest)) (ok_is (so_far, line l rest) all e)
+    (record { more = []; whole = sym (append-nil so_far); text = refl; fit = h }))
+    (λ _ e. through _ _ _ e (λ x x_is e. through _ _ _ e (λ with_x with_x_is e.
+    let a = command_takes ticks l x x_is in
+    let b = added_takes so_far x with_x with_x_is in
+    let r = commands_take ticks with_x rest all (AreCommands-added ticks so_far x with_x h a.1 with_x_is) e in
+    record {
+      more = x ∷ r.more;
+      whole = r.whole ∙ ap (λ (xs : List Command). xs ++ r.more) b.0 ∙ append_assoc so_far (x ∷ []) r.more;
+      text = ap (λ (k : List ℕ). line k rest) a.0 ∙ ap (line (spaced (command_line x))) r.text;
+      fit = r.fit;
+    })))
+    g.1
 
 not_last : (x : Command) → is_closing (spaced (command_line x)) ≡ false
 unfolding spaced command_word end_word script_word
@@ -76,9 +74,9 @@ commands_again ticks (x ∷ more) so_far last few h closes =
     let regroup : (so_far ++ x ∷ []) ++ more ≡ so_far ++ x ∷ more = append_assoc so_far (x ∷ []) more in
     let room : length so_far < 16384 = omega (arith, length-append so_far (x ∷ more), h.count) in
     rw (t, not_last x)
-      (then _ _ _ _ (command_again ticks x few one)
-      (then _ _ _ _ (added-new so_far x room (differ_middle so_far x more h.differ))
-      (commands_again ticks more (so_far ++ x ∷ []) last few (rw regroup h) closes ∙ ap (λ (xs : List Command). read xs last) regroup)))
+    (then _ _ _ _ (command_again ticks x few one)
+    (then _ _ _ _ (added-new so_far x room (differ_middle so_far x more h.differ))
+    (commands_again ticks more (so_far ++ x ∷ []) last few (rw regroup h) closes ∙ ap (λ (xs : List Command). read xs last) regroup)))
 
 pub commands_are_lines : (ticks : ℕ) (commands : List Command) → ticks ≤ 8192 → AllByRecursion (IsPlainCommand ticks) commands → AllByRecursion AreWords (map command_line commands)
 commands_are_lines ticks [] few h = tt

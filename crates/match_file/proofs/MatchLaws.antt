@@ -1,33 +1,29 @@
 -- Reading a match text and the text of a match undo each other, and every fault is the same.
-use Rattle.std.proofs.Common.{◌≡◌, ◌≢◌, ℕ, zero, suc, ◌+◌, ◌-◌, ◌<◌, ◌≤◌, Bool, true, false, cond, not, eqb, ltb, ◌&&◌, List, [], ◌∷◌, ◌++◌, length, map, ◌^◌, Option, Some, None, Result, Ok, Err, refl, sym, ap, subst, ◌∙◌, arith, lit<, lit≤}
-use Rattle.std.specs.Prelude.{decimal, replicate, filter, nat_lt, bytes_eq, IfOk, IfErr}
-use Rattle.std.specs.List.{AllByRecursion, IsDistinct, list_all}
+use Rattle.std.proofs.Common.{◌≡◌, ◌≢◌, ℕ, zero, suc, ◌<◌, Bool, true, false, not, ltb, ◌&&◌, List, [], ◌∷◌, length, map, ◌^◌, Result, Ok, Err, refl, sym, ap, subst, ◌∙◌, arith, lit<, lit≤}
+use Rattle.std.specs.Prelude.{decimal, replicate, filter, IfOk, IfErr}
+use Rattle.std.specs.List.{AllByRecursion, IsDistinct}
 use Rattle.std.proofs.lemmas.Bool.{lt-ltb, ltb-true, and_parts}
 use Rattle.game_trait.specs.declared.command.Act.TheVariants.{Shoot}
 use Rattle.game_trait.specs.declared.command.Command.{Command}
 use Rattle.arena_rules.specs.declared.spot.Spot.{Spot}
-use Rattle.arena_rules.specs.Ground.{Grid, IsGrid, open_grid, is_walled, is_open}
-use Rattle.arena_rules.specs.Setup.{Layout, Cell, IsLayout, same_cell}
+use Rattle.arena_rules.specs.Ground.{Grid, open_grid, is_walled, is_open}
+use Rattle.arena_rules.specs.Setup.{IsLayout}
 use Rattle.arena_rules.proofs.Walls.{is_walled-open_grid, IsGrid-open_grid}
-use Rattle.tss_io.specs.Reading.{◌>>=◌}
 use Rattle.tss_io.proofs.Reading.{then}
 use Rattle.match_file.specs.declared.fault.Refused.{Refused}
 use Rattle.match_file.specs.declared.fault.TextFault.{TextFault}
 use Rattle.match_file.specs.declared.opening.Opening.{Opening}
-use Rattle.match_file.specs.declared.opening.Sides.{Sides}
 use Rattle.match_file.specs.declared.script_line.ScriptLine.{ScriptLine}
-use Rattle.match_file.specs.declared.script_line.ScriptLine.TheVariants.{Tick, Turn, Arrive, Step, World, Run}
-use Rattle.match_file.specs.Lines.{Lines, torn, line, lines_of, text_of, spaced}
-use Rattle.match_file.specs.Names.{is_name, has_command}
-use Rattle.match_file.specs.Data.{MatchData, IsCommand, IsScriptLine, IsMatch, IsPlain, longest, shows, Rises}
-use Rattle.match_file.specs.Text.{head_words, length_word, grid_word, mirrors_word, delays_word, pace_word, before, below, walls_of, player_lines, player_line, command_line, opening_lines, match_lines, match_text}
+use Rattle.match_file.specs.Lines.{Lines, line, lines_of, text_of, spaced}
+use Rattle.match_file.specs.Data.{MatchData, IsCommand, IsScriptLine, IsMatch, IsPlain, Rises}
+use Rattle.match_file.specs.Text.{head_words, length_word, grid_word, mirrors_word, delays_word, pace_word, before, below, walls_of, player_lines, player_line, command_line, match_lines, match_text}
 use Rattle.match_file.specs.Reading.{Gives, IsShape, PlayerData, plain_match, opening_at, player_at, commands_at, closing_at, match_at, read_text}
 use Rattle.match_file.proofs.Lines.{text_of-lines_of}
 use Rattle.match_file.proofs.Spaced.{AreWords, Lacks, Lacks-spaced, AreLines, AreLines-before, lines_of-text_of}
 use Rattle.match_file.proofs.LineLaws.{through, IsKeyword, length_keyword, grid_keyword, mirrors_keyword, delays_keyword, pace_keyword, number_word, player_fits, IsPlainCommand, IsPlaced, player_takes, player_again, IsOpening, opening_before, opening_takes, opening_again}
 use Rattle.match_file.proofs.FaultLaws.{IsShape-fails}
 use Rattle.match_file.proofs.NameLaws.{all_map, AreCommands, AreCommands-none}
-use Rattle.match_file.proofs.CommandTexts.{command_lines, ReadsOn, commands_take, commands_again, commands_are_lines}
+use Rattle.match_file.proofs.CommandTexts.{command_lines, commands_take, commands_again, commands_are_lines}
 use Rattle.match_file.proofs.ScriptLines.{IsPlainLine}
 use Rattle.match_file.proofs.ScriptTexts.{AreScript, closing_lines, closing_takes, closing_again, Closes-closing, closing_are_lines}
 use Rattle.match_file.proofs.ScriptData.{is_script_line, no_shown, none_shown, script_is_plain}
@@ -131,7 +127,7 @@ parts-IsPlain o p commands script h =
     let column = and_parts (ltb p.home.x o.sides.width) (ltb p.home.y o.sides.height && not (is_walled (open_grid o.sides.width o.sides.height) p.home.x p.home.y)) free.0 in
     let row = and_parts (ltb p.home.y o.sides.height) (not (is_walled (open_grid o.sides.width o.sides.height) p.home.x p.home.y)) column.1 in
     let each : AllByRecursion (IsPlainCommand o.length) commands =
-        all_both (IsCommand (plain_match o p commands script)) (λ x. x.act ≢ Shoot) (IsPlainCommand o.length) (is_plain_command o p commands script h.mirror) commands h.sound.commands h.acts
+    all_both (IsCommand (plain_match o p commands script)) (λ x. x.act ≢ Shoot) (IsPlainCommand o.length) (is_plain_command o p commands script h.mirror) commands h.sound.commands h.acts
     in
     record {
       opening = record { ticks = h.sound.ticks; width = h.sound.layout.grid.width; height = h.sound.layout.grid.height; mirrors = (omega (arith, h.mirror), omega (arith, h.mirror)); delay = h.sound.delay.0; pace = h.sound.pace };
@@ -144,15 +140,15 @@ parts-IsPlain o p commands script h =
 rebuilt : (m : MatchData) (d : ℕ) (name : List ℕ) (home : Spot) → m.delays ≡ d ∷ [] → m.names ≡ name ∷ [] → m.layout.players ≡ home ∷ [] → m.layout.grid.walls ≡ replicate 64 0 → m.layout.pickups ≡ []
     → m ≡ plain_match (record { length = m.length; sides = record { width = m.layout.grid.width; height = m.layout.grid.height }; mirrors = m.mirrors; delay = d; pace = m.pace }) (record { name = name; home = home }) m.commands m.script
 rebuilt m d name home a b c e f = λ i. record {
-    length = m.length;
-    mirrors = m.mirrors;
-    delays = a i;
-    pace = m.pace;
-    layout = record { grid = record { width = m.layout.grid.width; height = m.layout.grid.height; walls = e i }; pickups = f i; players = c i };
-    names = b i;
-    commands = m.commands;
-    script = m.script;
-  }
+  length = m.length;
+  mirrors = m.mirrors;
+  delays = a i;
+  pace = m.pace;
+  layout = record { grid = record { width = m.layout.grid.width; height = m.layout.grid.height; walls = e i }; pickups = f i; players = c i };
+  names = b i;
+  commands = m.commands;
+  script = m.script;
+}
 
 only_one : {X : Type 0} (xs : List X) → length xs ≡ 1 → (x : X) × (xs ≡ x ∷ [])
 only_one [] e = absurd (omega arith)
@@ -190,11 +186,11 @@ match_takes lines m e =
     let d = closing_takes commands.0 commands.1 script script_is in
     let same : plain_match o p commands.0 script ≡ m = cc in
     let behind : player.1 ≡ command_lines commands.0 (closing_lines script) =
-        c.text ∙ ap (λ (xs : List Command). command_lines xs commands.1) (sym c.whole) ∙ ap (command_lines commands.0) d.0
+    c.text ∙ ap (λ (xs : List Command). command_lines xs commands.1) (sym c.whole) ∙ ap (command_lines commands.0) d.0
     in
     let text : lines ≡ plain_lines o p commands.0 script = a.0 ∙ ap (opening_before o) (b.0 ∙ ap (line (spaced (player_line p.name p.home))) behind) in
     subst (λ (q : MatchData). IsPlain q × (lines ≡ match_lines q)) same
-      (IsPlain-parts o p commands.0 script (record { opening = a.1; player = b.1; commands = c.fit; script = d.1 }), text ∙ sym (match_lines-plain o p commands.0 script))))))
+    (IsPlain-parts o p commands.0 script (record { opening = a.1; player = b.1; commands = c.fit; script = d.1 }), text ∙ sym (match_lines-plain o p commands.0 script))))))
 
 plain_again : (o : Opening) (p : PlayerData) (commands : List Command) (script : List ScriptLine) → IsPlainParts o p commands script → match_at (plain_lines o p commands script) ≡ Ok (plain_match o p commands script)
 unfolding match_at
@@ -208,7 +204,7 @@ pub match_again : (m : MatchData) → IsPlain m → match_at (match_lines m) ≡
 match_again m h =
     let parts = parts_of m h in
     subst (λ (q : MatchData). match_at (match_lines q) ≡ Ok q) (sym parts.whole)
-      (ap match_at (match_lines-plain parts.o parts.p m.commands m.script) ∙ plain_again parts.o parts.p m.commands m.script parts.fit)
+    (ap match_at (match_lines-plain parts.o parts.p m.commands m.script) ∙ plain_again parts.o parts.p m.commands m.script parts.fit)
 
 -- ---- reading texts, both ways
 
@@ -226,21 +222,34 @@ plain_are_lines o p commands script h =
     let height = h.opening.height in
     let mirrors = h.opening.mirrors in
     let delay = h.opening.delay in
-    let pace = h.opening.pace in
-    (Lacks-spaced head_words head_fits,
-    (number_fits length_word o.length length_keyword (omega arith),
-    (Lacks-spaced (grid_word ∷ decimal o.sides.width ∷ decimal o.sides.height ∷ []) (grid_keyword.fits, (number_word o.sides.width (omega arith), (number_word o.sides.height (omega arith), tt))),
-    (number_fits mirrors_word o.mirrors mirrors_keyword (omega arith),
-    (number_fits delays_word o.delay delays_keyword (omega arith),
-    (number_fits pace_word o.pace pace_keyword (omega arith),
-    (Lacks-spaced (player_line p.name p.home) (player_fits o.sides p h.player (omega arith) (omega arith)),
-    AreLines-before (map command_line commands) (closing_lines script) (commands_are_lines o.length commands ticks.1 h.commands.each) (closing_are_lines commands script h.script))))))))
+    let pace = h.opening.pace in (
+      Lacks-spaced head_words head_fits,
+      (
+        number_fits length_word o.length length_keyword (omega arith),
+        (
+          Lacks-spaced (grid_word ∷ decimal o.sides.width ∷ decimal o.sides.height ∷ []) (grid_keyword.fits, (number_word o.sides.width (omega arith), (number_word o.sides.height (omega arith), tt))),
+          (
+            number_fits mirrors_word o.mirrors mirrors_keyword (omega arith),
+            (
+              number_fits delays_word o.delay delays_keyword (omega arith),
+              (
+                number_fits pace_word o.pace pace_keyword (omega arith),
+                (
+                  Lacks-spaced (player_line p.name p.home) (player_fits o.sides p h.player (omega arith) (omega arith)),
+                  AreLines-before (map command_line commands) (closing_lines script) (commands_are_lines o.length commands ticks.1 h.commands.each) (closing_are_lines commands script h.script),
+                ),
+              ),
+            ),
+          ),
+        ),
+      ),
+    )
 
 match_are_lines : (m : MatchData) → IsPlain m → AreLines (match_lines m)
 match_are_lines m h =
     let parts = parts_of m h in
     subst (λ (q : MatchData). AreLines (match_lines q)) (sym parts.whole)
-      (subst AreLines (sym (match_lines-plain parts.o parts.p m.commands m.script)) (plain_are_lines parts.o parts.p m.commands m.script parts.fit))
+    (subst AreLines (sym (match_lines-plain parts.o parts.p m.commands m.script)) (plain_are_lines parts.o parts.p m.commands m.script parts.fit))
 
 -- What is read from a text is a match of the plain form, and the text is its text.
 pub match_text-read_text : (text : List ℕ) (m : MatchData) → read_text text ≡ Ok m → IsPlain m × (text ≡ match_text m)

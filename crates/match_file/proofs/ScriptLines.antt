@@ -1,19 +1,17 @@
 -- Each kind of a script's line both ways: what is read from it stands in it, and what stands in it is read.
-use Rattle.std.proofs.Common.{◌≡◌, ℕ, suc, ◌+◌, ◌^◌, ◌<◌, ◌≤◌, Bool, true, false, cond, List, [], ◌∷◌, ◌++◌, length, Result, Ok, Err, refl, sym, ap, subst, ◌∙◌, arith, lit<, lit≤}
+use Rattle.std.proofs.Common.{◌≡◌, ℕ, ◌≤◌, true, List, [], ◌∷◌, length, Ok, refl, sym, ap, subst, ◌∙◌, arith, lit<, lit≤}
 use Rattle.std.specs.Prelude.{bytes_eq, decimal}
 use Rattle.std.proofs.lemmas.Fmt.{length-decimal-le}
 use Rattle.game_trait.specs.declared.command.Command.{Command}
-use Rattle.tss_io.specs.Reading.{◌>>=◌}
 use Rattle.tss_io.proofs.Reading.{then, unless_ok}
-use Rattle.match_file.specs.declared.fault.Refused.{Refused}
 use Rattle.match_file.specs.declared.script_line.ScriptLine.{ScriptLine}
 use Rattle.match_file.specs.declared.script_line.ScriptLine.TheVariants.{Tick, Turn, Arrive, Step, World, Run}
 use Rattle.match_file.specs.Lines.{words_of, spaced}
 use Rattle.match_file.specs.Names.{has_command}
 use Rattle.match_file.specs.Text.{tick_word, turn_word, arrive_word, step_word, script_line}
-use Rattle.match_file.specs.Reading.{shape, front_at, last_at, number_in, tick_at, turn_at, arrive_at, step_at, kind_at, script_line_at}
+use Rattle.match_file.specs.Reading.{shape, front_at, last_at, tick_at, turn_at, arrive_at, step_at, kind_at, script_line_at}
 use Rattle.match_file.proofs.Spaced.{IsWord, AreWords, words_of-spaced, spaced-words_of}
-use Rattle.match_file.proofs.LineLaws.{through, same_words, front_takes, last_takes, number_takes, number_again, long, spaced_short, IsKeyword, number_word}
+use Rattle.match_file.proofs.LineLaws.{through, same_words, front_takes, last_takes, number_takes, number_again, spaced_short, IsKeyword, number_word}
 use Rattle.match_file.proofs.CommandTexts.{either}
 
 -- a line of a script of the plain form, in a match of these commands

@@ -1,18 +1,16 @@
 -- The lines of a script up to the end of the text, both ways.
-use Rattle.std.proofs.Common.{◌≡◌, ℕ, zero, suc, ◌+◌, ◌<◌, ◌≤◌, Bool, true, false, cond, ltb, ◌&&◌, List, [], ◌∷◌, ◌++◌, length, map, Result, Ok, Err, refl, sym, ap, subst, ◌∙◌, append_assoc, arith, lit≤, length-append}
+use Rattle.std.proofs.Common.{◌≡◌, ℕ, ◌<◌, ◌≤◌, true, false, ltb, ◌&&◌, List, [], ◌∷◌, ◌++◌, length, map, Ok, refl, sym, ap, subst, ◌∙◌, append_assoc, arith, lit≤, length-append}
 use Rattle.std.specs.Prelude.{bytes_eq}
 use Rattle.std.specs.List.{AllByRecursion}
 use Rattle.std.proofs.lemmas.Bool.{le-ltb, lt-ltb, ltb-true, and_parts}
 use Rattle.std.proofs.lemmas.List.{append-nil}
 use Rattle.game_trait.specs.declared.command.Command.{Command}
-use Rattle.tss_io.specs.Reading.{◌>>=◌}
 use Rattle.tss_io.proofs.Reading.{then, guard_then, unless_ok, unless_then}
-use Rattle.match_file.specs.declared.fault.Refused.{Refused}
 use Rattle.match_file.specs.declared.script_line.ScriptLine.{ScriptLine}
 use Rattle.match_file.specs.declared.script_line.ScriptLine.TheVariants.{Tick, Turn, Arrive, Step, World, Run}
 use Rattle.match_file.specs.Lines.{Lines, torn, line, spaced}
-use Rattle.match_file.specs.Text.{script_word, end_word, tick_word, turn_word, arrive_word, step_word, world_word, run_word, script_line, script_lines, before}
-use Rattle.match_file.specs.Reading.{shape, is_end, script_line_at, lengthened, script_at, closing_at}
+use Rattle.match_file.specs.Text.{script_word, end_word, tick_word, turn_word, arrive_word, step_word, script_line, script_lines, before}
+use Rattle.match_file.specs.Reading.{shape, is_end, lengthened, script_at, closing_at}
 use Rattle.match_file.proofs.Spaced.{AreWords, AreLines, AreLines-before}
 use Rattle.match_file.proofs.LineLaws.{through, same_words, bytes_eq-same, line_takes, line_again}
 use Rattle.match_file.proofs.NameLaws.{all_middle, all_push}
@@ -64,29 +62,29 @@ script_takes commands so_far (torn bytes) all h e = absurd cc
 script_takes commands so_far (line l rest) all h e =
     let g = guard_then (ltb 120 (length l)) shape _ all e in
     either (bytes_eq l end_word) _ _ all
-      (λ last e.
-        let k = unless_ok (is_end rest && ltb 0 (length so_far)) shape so_far all e in
-        let parts = and_parts (is_end rest) (ltb 0 (length so_far)) k.0 in
-        let some = ltb-true _ _ parts.1 in
-        record {
-          more = [];
-          whole = sym k.1 ∙ sym (append-nil so_far);
-          text = rw (same_words l end_word last, is_end_takes rest parts.0) refl;
-          fit = subst (AreScript commands) k.1 h;
-          some = omega (arith, ap length k.1, some);
-        })
-      (λ _ e. through _ _ _ e (λ s s_is e. through _ _ _ e (λ with_s with_s_is e.
-        let a = script_line_takes commands l s s_is in
-        let b = lengthened_takes commands so_far s with_s h a.1 with_s_is in
-        let r = script_takes commands with_s rest all b.1 e in
-        record {
-          more = s ∷ r.more;
-          whole = r.whole ∙ ap (λ (xs : List ScriptLine). xs ++ r.more) b.0 ∙ append_assoc so_far (s ∷ []) r.more;
-          text = ap (λ (k : List ℕ). line k rest) a.0 ∙ ap (line (spaced (script_line s))) r.text;
-          fit = r.fit;
-          some = r.some;
-        })))
-      g.1
+    (λ last e.
+    let k = unless_ok (is_end rest && ltb 0 (length so_far)) shape so_far all e in
+    let parts = and_parts (is_end rest) (ltb 0 (length so_far)) k.0 in
+    let some = ltb-true _ _ parts.1 in
+    record {
+      more = [];
+      whole = sym k.1 ∙ sym (append-nil so_far);
+      text = rw (same_words l end_word last, is_end_takes rest parts.0) refl;
+      fit = subst (AreScript commands) k.1 h;
+      some = omega (arith, ap length k.1, some);
+    })
+    (λ _ e. through _ _ _ e (λ s s_is e. through _ _ _ e (λ with_s with_s_is e.
+    let a = script_line_takes commands l s s_is in
+    let b = lengthened_takes commands so_far s with_s h a.1 with_s_is in
+    let r = script_takes commands with_s rest all b.1 e in
+    record {
+      more = s ∷ r.more;
+      whole = r.whole ∙ ap (λ (xs : List ScriptLine). xs ++ r.more) b.0 ∙ append_assoc so_far (s ∷ []) r.more;
+      text = ap (λ (k : List ℕ). line k rest) a.0 ∙ ap (line (spaced (script_line s))) r.text;
+      fit = r.fit;
+      some = r.some;
+    })))
+    g.1
 
 -- a script with a line has an opening
 opened : (script : List ScriptLine) → 0 < length script → line script_word (before (map script_line script) last_line) ≡ closing_lines script
@@ -100,16 +98,16 @@ closing_takes commands lines script e =
     through _ _ _ e (λ l l_is e.
     let a = line_takes lines l l_is in
     either (bytes_eq l.0 end_word) _ _ script
-      (λ last e.
-        let k = unless_ok (is_end l.1) shape [] script e in
-        let whole : lines ≡ last_line = a ∙ rw (same_words l.0 end_word last, is_end_takes l.1 k.0) refl in
-        subst (λ (q : List ScriptLine). (lines ≡ closing_lines q) × AreScript commands q) k.1 (whole, AreScript-none commands))
-      (λ _ e.
-        let k = unless_then (bytes_eq l.0 script_word) shape _ script e in
-        let r = script_takes commands [] l.1 script (AreScript-none commands) k.1 in
-        let whole : lines ≡ line script_word (before (map script_line script) last_line) = a ∙ ap (λ (w : List ℕ). line w l.1) (same_words l.0 script_word k.0) ∙ ap (line script_word) (r.text ∙ ap (λ (xs : List ScriptLine). before (map script_line xs) last_line) (sym r.whole)) in
-        (whole ∙ opened script r.some, r.fit))
-      e)
+    (λ last e.
+    let k = unless_ok (is_end l.1) shape [] script e in
+    let whole : lines ≡ last_line = a ∙ rw (same_words l.0 end_word last, is_end_takes l.1 k.0) refl in
+    subst (λ (q : List ScriptLine). (lines ≡ closing_lines q) × AreScript commands q) k.1 (whole, AreScript-none commands))
+    (λ _ e.
+    let k = unless_then (bytes_eq l.0 script_word) shape _ script e in
+    let r = script_takes commands [] l.1 script (AreScript-none commands) k.1 in
+    let whole : lines ≡ line script_word (before (map script_line script) last_line) = a ∙ ap (λ (w : List ℕ). line w l.1) (same_words l.0 script_word k.0) ∙ ap (line script_word) (r.text ∙ ap (λ (xs : List ScriptLine). before (map script_line xs) last_line) (sym r.whole)) in
+    (whole ∙ opened script r.some, r.fit))
+    e)
 
 -- ---- what is written
 
@@ -146,9 +144,9 @@ script_again commands (s ∷ more) so_far h some =
     let regroup : (so_far ++ s ∷ []) ++ more ≡ so_far ++ s ∷ more = append_assoc so_far (s ∷ []) more in
     let room : length so_far < 262144 = omega (arith, length-append so_far (s ∷ more), h.count) in
     rw (t, not_last commands s one)
-      (then _ _ _ _ (script_line_again commands s one)
-      (then _ _ _ _ (lengthened-room so_far s room)
-      (script_again commands more (so_far ++ s ∷ []) (rw regroup h) (rw regroup some) ∙ ap Ok regroup)))
+    (then _ _ _ _ (script_line_again commands s one)
+    (then _ _ _ _ (lengthened-room so_far s room)
+    (script_again commands more (so_far ++ s ∷ []) (rw regroup h) (rw regroup some) ∙ ap Ok regroup)))
 
 not_the_end : bytes_eq script_word end_word ≡ false
 unfolding script_word end_word
@@ -159,7 +157,7 @@ unfolding closing_at before spaced
 closing_again commands [] h = then _ _ _ _ (line_again end_word (torn []) end_short) (rw (bytes_eq-same end_word) refl)
 closing_again commands (s ∷ script) h =
     then _ _ _ _ (line_again script_word (before (map script_line (s ∷ script)) last_line) script_short)
-      (rw (not_the_end, bytes_eq-same script_word) (script_again commands (s ∷ script) [] h (omega arith)))
+    (rw (not_the_end, bytes_eq-same script_word) (script_again commands (s ∷ script) [] h (omega arith)))
 
 -- the first of these lines closes the commands
 pub Closes-closing : (script : List ScriptLine) → Closes (closing_lines script)

@@ -157,7 +157,11 @@ fn is_closing(line: &[u8]) -> bool
 // Puts the command of the next line to the others and answers the text behind it, or answers none where the line closes
 // them.
 #[tactic(auto, unfolding(crate::specs::Reading::commands_step))]
-fn read_command<'a>(ticks: u32, commands: &mut Commands, text: &'a [u8]) -> Result<Option<&'a [u8]>, TextFault>
+fn read_command<'a>(
+    ticks: u32,
+    commands: &mut Commands,
+    text: &'a [u8],
+) -> Result<Option<&'a [u8]>, TextFault>
     requires { 1 ≤ ticks }
     ensures read { Gives (λ o. (commands.new, option_map (λ rest. lines_of rest.now) o)) result (commands_step ticks commands.old (lines_of text.now)) }
     ensures shorter { IfOk result (λ o. IfSome o (λ rest. length rest.now < length text.now)) }

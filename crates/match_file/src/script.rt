@@ -115,13 +115,17 @@ fn lengthen(script: &mut Seq<ScriptLine>, line: ScriptLine) -> Result<(), TextFa
 
 // Puts the next line to the script and answers the text behind it, or answers none where the line is the last.
 #[tactic(auto, unfolding(crate::specs::Reading::script_step, crate::specs::Text::end_word))]
-fn read_line<'a>(commands: &Commands, script: &mut Seq<ScriptLine>, text: &'a [u8]) -> Result<Option<&'a [u8]>, TextFault>
+fn read_line<'a>(
+    commands: &Commands,
+    script: &mut Seq<ScriptLine>,
+    text: &'a [u8],
+) -> Result<Option<&'a [u8]>, TextFault>
     ensures read { Gives (λ o. (script.new, option_map (λ rest. lines_of rest.now) o)) result (script_step commands.now script.old (lines_of text.now)) }
     ensures shorter { IfOk result (λ o. IfSome o (λ rest. length rest.now < length text.now)) }
 {
     let (line, rest) = words::next_line(text)?;
     if line == b"end".as_slice() {
-        if !at_end(rest) || script.len() == 0 {
+        if !at_end(rest) || script.is_empty() {
             return Err(TextFault::Refused(SHAPE));
         }
         return Ok(None);
@@ -145,7 +149,11 @@ fn read_lines(alloc: Global, commands: &Commands, text: &[u8]) -> Result<Seq<Scr
 
 /// The script, where there is one, up to the end of the text.
 #[tactic(auto, unfolding(crate::specs::Reading::closing_at, crate::specs::Text::end_word, crate::specs::Text::script_word))]
-pub fn read_script(alloc: Global, commands: &Commands, text: &[u8]) -> Result<Seq<ScriptLine>, TextFault>
+pub fn read_script(
+    alloc: Global,
+    commands: &Commands,
+    text: &[u8],
+) -> Result<Seq<ScriptLine>, TextFault>
     ensures { Gives (λ x. x) result (closing_at commands.now (lines_of text.now)) }
 {
     let (line, rest) = words::next_line(text)?;
