@@ -11,3 +11,4 @@ pub mod ScriptTexts
 pub mod ScriptData
 pub mod FaultLaws
 pub mod MatchLaws
+pub mod TextLength

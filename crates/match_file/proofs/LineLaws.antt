@@ -91,7 +91,7 @@ head_takes lines rest e =
     let g = unless_ok (bytes_eq a.0.0 (spaced head_words)) shape a.0.1 rest a.2 in
     line_takes lines a.0 a.1 ∙ rw (same_words a.0.0 (spaced head_words) g.0, g.1) refl
 
-head_short : length (spaced head_words) ≤ 120
+pub head_short : length (spaced head_words) ≤ 120
 unfolding spaced head_words
 head_short = lit≤ tt
 
@@ -168,7 +168,7 @@ unfolding command_word
 command_keyword = record { fits = refl; short = lit≤ tt }
 
 -- a number of at most ten digits
-short_number : (n : ℕ) → n < 2 ^ 32 → length (decimal n) ≤ 10
+pub short_number : (n : ℕ) → n < 2 ^ 32 → length (decimal n) ≤ 10
 short_number n small = length-decimal-le 10 n (omega arith) (omega arith) (omega arith)
 
 pub number_word : (n : ℕ) → n < 2 ^ 32 → IsWord (decimal n)
@@ -308,6 +308,12 @@ player_fits sides p h narrow low =
     let row = h.row in
     (player_keyword.fits, (IsWord-name p.name h.name, (number_word p.home.x (omega arith), (number_word p.home.y (omega arith), ((face_fits p.home.face).0, tt)))))
 
+pub player_short : (sides : Sides) (p : PlayerData) → IsPlaced sides p → sides.width ≤ 64 → sides.height ≤ 64 → length (spaced (player_line p.name p.home)) ≤ 120
+player_short sides p h narrow low =
+    let column = h.column in
+    let row = h.row in
+    omega (arith, spaced_short (player_line p.name p.home), player_keyword.short, length-name p.name h.name, short_number p.home.x (omega arith), short_number p.home.y (omega arith), (face_fits p.home.face).1)
+
 pub player_again : (sides : Sides) (p : PlayerData) (rest : Lines) → IsPlaced sides p → sides.width ≤ 64 → sides.height ≤ 64
     → player_at sides (line (spaced (player_line p.name p.home)) rest) ≡ Ok (p, rest)
 unfolding player_at player_words front_at last_at
@@ -318,7 +324,7 @@ player_again sides p rest h narrow low =
     let column = h.column in
     let row = h.row in
     let fit = player_fits sides p h narrow low in
-    let short : length (spaced words) ≤ 120 = omega (arith, spaced_short words, player_keyword.short, length-name p.name h.name, short_number x (omega arith), short_number y (omega arith), (face_fits p.home.face).1) in
+    let short : length (spaced words) ≤ 120 = player_short sides p h narrow low in
     let in_column : ltb x sides.width ≡ true = lt-ltb _ _ column in
     let in_row : ltb y sides.height ≡ true = lt-ltb _ _ row in
     then _ _ _ _ (line_again (spaced words) rest short)

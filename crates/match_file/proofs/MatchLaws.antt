@@ -45,7 +45,7 @@ no_walls grid columns (suc y) h = rw (no_walls grid columns y h, filter_none (λ
 abbrev pub plain_lines : Opening → PlayerData → List Command → List ScriptLine → Lines
 plain_lines o p commands script = opening_before o (line (spaced (player_line p.name p.home)) (command_lines commands (closing_lines script)))
 
-match_lines-plain : (o : Opening) (p : PlayerData) (commands : List Command) (script : List ScriptLine) → match_lines (plain_match o p commands script) ≡ plain_lines o p commands script
+pub match_lines-plain : (o : Opening) (p : PlayerData) (commands : List Command) (script : List ScriptLine) → match_lines (plain_match o p commands script) ≡ plain_lines o p commands script
 unfolding match_lines before player_lines
 match_lines-plain o p commands script =
     rw (no_walls (open_grid o.sides.width o.sides.height) o.sides.width o.sides.height (is_walled-open_grid o.sides.width o.sides.height)) refl
