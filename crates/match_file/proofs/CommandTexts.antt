@@ -1,17 +1,16 @@
 -- The lines of commands up to the end of the text, both ways.
-use Rattle.std.proofs.Common.{◌≡◌, ◌≢◌, ℕ, suc, ◌+◌, ◌-◌, ◌<◌, ◌≤◌, Bool, true, false, cond, eqb, ltb, ◌&&◌, List, [], ◌∷◌, ◌++◌, length, map, Result, Ok, Err, refl, sym, ap, subst, ◌∙◌, append_assoc, arith, lit≤, length-append}
+use Rattle.std.proofs.Common.{◌≡◌, ℕ, ◌<◌, ◌≤◌, Bool, true, false, cond, ltb, List, [], ◌∷◌, ◌++◌, length, map, Result, Ok, refl, sym, ap, subst, ◌∙◌, append_assoc, arith, lit≤, length-append}
 use Rattle.std.specs.Prelude.{bytes_eq}
 use Rattle.std.specs.List.{AllByRecursion}
 use Rattle.std.proofs.lemmas.Bool.{le-ltb}
 use Rattle.std.proofs.lemmas.List.{append-nil}
 use Rattle.game_trait.specs.declared.command.Command.{Command}
-use Rattle.tss_io.specs.Reading.{◌>>=◌}
 use Rattle.tss_io.proofs.Reading.{then, guard_then, unless_ok}
 use Rattle.match_file.specs.declared.fault.Refused.{Refused}
 use Rattle.match_file.specs.Lines.{Lines, torn, line, spaced}
 use Rattle.match_file.specs.Text.{command_line, command_word, end_word, before}
-use Rattle.match_file.specs.Reading.{shape, command_at, added, is_end, commands_at}
-use Rattle.match_file.proofs.Spaced.{AreWords, AreLines, AreLines-before}
+use Rattle.match_file.specs.Reading.{shape, is_end, commands_at}
+use Rattle.match_file.proofs.Spaced.{AreWords, AreLines}
 use Rattle.match_file.proofs.LineLaws.{through, same_words, bytes_eq-same, IsPlainCommand, command_takes, command_short, command_fits, command_again}
 use Rattle.match_file.proofs.CommandLaws.{added-new}
 use Rattle.match_file.proofs.NameLaws.{all_middle, differ_middle, AreCommands, added_takes, AreCommands-added}

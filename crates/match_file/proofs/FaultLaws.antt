@@ -1,5 +1,5 @@
 -- Every fault of a text that isn't of the plain form is the same one.
-use Rattle.std.proofs.Common.{◌≡◌, ℕ, Bool, true, false, cond, eqb, ltb, ◌&&◌, not, List, [], ◌∷◌, ◌++◌, length, Option, Some, None, Result, Ok, Err, refl, sym, ◌∙◌}
+use Rattle.std.proofs.Common.{◌≡◌, ℕ, Bool, true, false, cond, ltb, List, [], ◌∷◌, length, Some, None, Result, Ok, Err, refl, sym, ◌∙◌}
 use Rattle.std.specs.Prelude.{bytes_eq}
 use Rattle.game_trait.specs.declared.command.Command.{Command}
 use Rattle.game_trait.specs.declared.command.Act.TheVariants.{Go, Left, Right}
@@ -12,7 +12,6 @@ use Rattle.match_file.specs.declared.fault.TextFault.TheVariants as faults
 use Rattle.match_file.specs.declared.opening.Sides.{Sides}
 use Rattle.match_file.specs.Lines.{Lines, torn, line, words_of, lines_of}
 use Rattle.match_file.specs.Text.{end_word, face_word, act_word}
-use Rattle.match_file.specs.Data.{MatchData}
 use Rattle.match_file.specs.Reading.{IsShape, Fails, shape, line_at, front_at, last_at, behind, at_least, number_in, head_at, number_at, grid_at, opening_at, face_of, player_words, player_at, act_of, command_words, command_at, added, is_end, commands_at, match_at, read_text}
 
 -- where there is a fault it is this one

@@ -1,7 +1,7 @@
 -- Each kind of line both ways: what is read from it stands in it, and what stands in it is read.
-use Rattle.std.proofs.Common.{◌≡◌, ◌≢◌, ℕ, zero, suc, ◌+◌, ◌-◌, ◌^◌, ◌<◌, ◌≤◌, Bool, true, false, not, cond, eqb, ltb, leb, ◌&&◌, List, [], ◌∷◌, ◌++◌, length, Option, Some, None, Result, Ok, Err, refl, sym, ap, subst, ◌∙◌, arith, lit<, lit≤, length-append}
-use Rattle.std.specs.Prelude.{bytes_eq, decimal, nat_le, nat_lt, codes}
-use Rattle.std.specs.List.{list_all, join_with_byte}
+use Rattle.std.proofs.Common.{◌≡◌, ◌≢◌, ℕ, ◌+◌, ◌-◌, ◌^◌, ◌<◌, ◌≤◌, Bool, true, false, cond, ltb, ◌&&◌, List, [], ◌∷◌, length, Option, Some, None, Result, Ok, Err, refl, sym, ap, subst, ◌∙◌, arith, lit<, lit≤, length-append}
+use Rattle.std.specs.Prelude.{bytes_eq, decimal}
+use Rattle.std.specs.List.{join_with_byte}
 use Rattle.std.proofs.lemmas.Bool.{ltb-false, ltb-true, lt-ltb, le-ltb, and_parts}
 use Rattle.std.proofs.lemmas.Fmt.{length-decimal-le}
 use Rattle.std.proofs.lemmas.Slice.Eq.{bytes_eq-Decides}
@@ -13,13 +13,13 @@ use Rattle.arena_rules.specs.declared.face.Face.TheVariants.{N, E, S, W}
 use Rattle.tss_io.specs.Decimals.{number_of}
 use Rattle.tss_io.specs.Reading.{◌>>=◌}
 use Rattle.tss_io.proofs.DecimalLaws.{number_of-some, number_of-decimal}
-use Rattle.tss_io.proofs.Reading.{bind_ok, then, guard_ok, guard_then, unless_ok, unless_then}
+use Rattle.tss_io.proofs.Reading.{bind_ok, then, guard_ok, unless_ok}
 use Rattle.match_file.specs.declared.fault.Refused.{Refused}
 use Rattle.match_file.specs.declared.opening.Opening.{Opening}
 use Rattle.match_file.specs.declared.opening.Sides.{Sides}
 use Rattle.match_file.specs.Lines.{Lines, torn, line, words_of, spaced}
 use Rattle.match_file.specs.Names.{is_name}
-use Rattle.match_file.specs.Text.{length_word, grid_word, mirrors_word, delays_word, pace_word, player_word, command_word, end_word, head_words, face_word, act_word, player_line, command_line}
+use Rattle.match_file.specs.Text.{length_word, grid_word, mirrors_word, delays_word, pace_word, player_word, command_word, head_words, face_word, act_word, player_line, command_line}
 use Rattle.match_file.specs.Reading.{shape, line_at, front_at, last_at, behind, at_least, number_in, head_at, number_at, grid_at, opening_at, face_of, NamedPlace, player_words, PlayerData, player_at, act_of, CommandParts, command_words, command_at}
 use Rattle.match_file.proofs.Spaced.{IsWord, AreWords, words_of-spaced, spaced-words_of, IsWord-decimal, IsWord-name, length-name}
 

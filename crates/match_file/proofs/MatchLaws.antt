@@ -1,32 +1,28 @@
 -- Reading a match text and the text of a match undo each other, and every fault is the same.
-use Rattle.std.proofs.Common.{◌≡◌, ◌≢◌, ℕ, zero, suc, ◌+◌, ◌-◌, ◌<◌, ◌≤◌, Bool, true, false, cond, not, eqb, ltb, ◌&&◌, List, [], ◌∷◌, ◌++◌, length, map, ◌^◌, Option, Some, None, Result, Ok, Err, refl, sym, ap, subst, ◌∙◌, arith, lit≤}
-use Rattle.std.specs.Prelude.{decimal, replicate, filter, nat_lt, bytes_eq, IfOk, IfErr}
-use Rattle.std.specs.List.{AllByRecursion, IsDistinct, list_all}
+use Rattle.std.proofs.Common.{◌≡◌, ◌≢◌, ℕ, zero, suc, ◌<◌, Bool, true, false, not, ltb, ◌&&◌, List, [], ◌∷◌, length, map, ◌^◌, Result, Ok, Err, refl, sym, ap, subst, ◌∙◌, arith, lit≤}
+use Rattle.std.specs.Prelude.{decimal, replicate, filter, IfOk, IfErr}
+use Rattle.std.specs.List.{AllByRecursion, IsDistinct}
 use Rattle.std.proofs.lemmas.Bool.{lt-ltb, ltb-true, and_parts}
 use Rattle.game_trait.specs.declared.command.Act.TheVariants.{Shoot}
 use Rattle.game_trait.specs.declared.command.Command.{Command}
 use Rattle.arena_rules.specs.declared.spot.Spot.{Spot}
-use Rattle.arena_rules.specs.Ground.{Grid, IsGrid, open_grid, is_walled, is_open}
-use Rattle.arena_rules.specs.Setup.{Layout, Cell, IsLayout, same_cell}
+use Rattle.arena_rules.specs.Ground.{Grid, open_grid, is_walled, is_open}
+use Rattle.arena_rules.specs.Setup.{IsLayout}
 use Rattle.arena_rules.proofs.Walls.{is_walled-open_grid, IsGrid-open_grid}
-use Rattle.tss_io.specs.Reading.{◌>>=◌}
 use Rattle.tss_io.proofs.Reading.{then}
 use Rattle.match_file.specs.declared.fault.Refused.{Refused}
 use Rattle.match_file.specs.declared.fault.TextFault.{TextFault}
 use Rattle.match_file.specs.declared.opening.Opening.{Opening}
-use Rattle.match_file.specs.declared.opening.Sides.{Sides}
-use Rattle.match_file.specs.declared.script_line.ScriptLine.{ScriptLine}
 use Rattle.match_file.specs.Lines.{Lines, torn, line, lines_of, text_of, spaced}
-use Rattle.match_file.specs.Names.{is_name}
-use Rattle.match_file.specs.Data.{MatchData, IsCommand, IsMatch, IsPlain, longest, Rises}
-use Rattle.match_file.specs.Text.{head_words, length_word, grid_word, mirrors_word, delays_word, pace_word, end_word, before, below, walls_of, player_lines, player_line, command_line, opening_lines, match_lines, match_text}
+use Rattle.match_file.specs.Data.{MatchData, IsCommand, IsMatch, IsPlain, Rises}
+use Rattle.match_file.specs.Text.{head_words, length_word, grid_word, mirrors_word, delays_word, pace_word, end_word, before, below, walls_of, player_lines, player_line, command_line, match_lines, match_text}
 use Rattle.match_file.specs.Reading.{Gives, IsShape, PlayerData, plain_match, opening_at, player_at, commands_at, match_at, read_text}
 use Rattle.match_file.proofs.Lines.{text_of-lines_of}
 use Rattle.match_file.proofs.Spaced.{AreWords, Lacks, Lacks-spaced, AreLines, AreLines-before, lines_of-text_of}
 use Rattle.match_file.proofs.LineLaws.{through, IsKeyword, length_keyword, grid_keyword, mirrors_keyword, delays_keyword, pace_keyword, number_word, player_fits, IsPlainCommand, IsPlaced, player_takes, player_again, IsOpening, opening_before, opening_takes, opening_again}
 use Rattle.match_file.proofs.FaultLaws.{IsShape-fails}
 use Rattle.match_file.proofs.NameLaws.{all_map, AreCommands, AreCommands-none}
-use Rattle.match_file.proofs.CommandTexts.{command_lines, ReadsOn, commands_take, commands_again, commands_are_lines, end_is_line}
+use Rattle.match_file.proofs.CommandTexts.{command_lines, commands_take, commands_again, commands_are_lines, end_is_line}
 
 -- ---- a grid without walls
 

@@ -1,8 +1,8 @@
 -- Reading a match text from its first line to its end, with the first fault that is met. Now each fault is that the text isn't
 -- of the plain form.
-use Rattle.std.specs.Prelude.{◌≡◌, ℕ, ◌-◌, ◌^◌, Bool, true, false, cond, ◌&&◌, ◌||◌, not, nat_lt, nat_le, List, [], ◌∷◌, ◌++◌, length, replicate, Option, Some, None, Result, Ok, Err, if◌then◌else◌, bytes_eq, codes}
+use Rattle.std.specs.Prelude.{◌≡◌, ℕ, ◌-◌, ◌^◌, Bool, true, false, ◌&&◌, not, nat_lt, List, [], ◌∷◌, ◌++◌, length, replicate, Option, Some, None, Result, Ok, Err, if◌then◌else◌, bytes_eq}
 use Rattle.game_trait.specs.declared.command.Act.{Act}
-use Rattle.game_trait.specs.declared.command.Act.TheVariants.{Go, Left, Right, Shoot}
+use Rattle.game_trait.specs.declared.command.Act.TheVariants.{Go, Left, Right}
 use Rattle.game_trait.specs.declared.command.Command.{Command}
 use Rattle.arena_rules.specs.declared.face.Face.{Face}
 use Rattle.arena_rules.specs.declared.face.Face.TheVariants.{N, E, S, W}

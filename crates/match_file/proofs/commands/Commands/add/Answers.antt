@@ -1,5 +1,5 @@
-use Rattle.std.proofs.Common.{◌≡◌, ◌<◌, ◌≤◌, Bool, true, false, not, cond, length, refl, sym, ap, ◌∙◌, arith}
-use Rattle.match_file.specs.Names.{same_numbers, has_command}
+use Rattle.std.proofs.Common.{◌≡◌, Bool, true, false, not, refl, sym, ap, ◌∙◌, arith}
+use Rattle.match_file.specs.Names.{has_command}
 use Rattle.match_file.proofs.CommandLaws.{added-full, added-known, added-new, has_command-push}
 use Rattle.match_file.proofs.commands.Commands.add.Goals as goal
 
