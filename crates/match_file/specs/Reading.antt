@@ -132,9 +132,11 @@ pub record NamedPlace : Type 0 where
   pub y : List ℕ
   pub face : Face
 
+-- those words, without where they lie in memory
 abbrev pub words_seen : PlayerWords → NamedPlace
 words_seen words = record { name = words.name.now; x = words.x.now; y = words.y.now; face = words.face }
 
+-- the words of a line, where they are a player's
 unfoldable pub player_words : List ℕ → Result NamedPlace Refused
 player_words l = do
   words ← behind player_word l
@@ -150,9 +152,11 @@ pub record PlayerData : Type 0 where
   pub name : List ℕ
   pub home : Spot
 
+-- the same, without where the name lies in memory
 abbrev pub player_seen : Player → PlayerData
 player_seen player = record { name = player.name.now; home = player.home }
 
+-- a player's line, whose cell is in the grid, and the lines after it
 unfoldable pub player_at : Sides → Lines → Result (PlayerData × Lines) Refused
 player_at sides lines = do
   l ← line_at lines
@@ -179,9 +183,11 @@ pub record CommandParts : Type 0 where
   pub player : List ℕ
   pub act : Act
 
+-- those words, without where they lie in memory
 abbrev pub command_seen : CommandWords → CommandParts
 command_seen words = record { time = words.time.now; from = words.from.now; number = words.number.now; player = words.player.now; act = words.act }
 
+-- the words of a line, where they are a command's
 unfoldable pub command_words : List ℕ → Result CommandParts Refused
 command_words l = do
   words ← behind command_word l
@@ -222,6 +228,7 @@ line_step ticks so_far l =
     if bytes_eq l.0 end_word then (if is_end l.1 then Ok (so_far, None) else Err shape)
     else (command_at ticks l.0 >>= λ x. added so_far x >>= λ more. Ok (more, Some l.1))
 
+-- the same for the next line
 unfoldable pub commands_step : ℕ → List Command → Lines → Result (List Command × Option Lines) Refused
 commands_step ticks so_far lines = line_at lines >>= line_step ticks so_far
 
@@ -250,6 +257,7 @@ plain_match opening player commands = record {
   script = [];
 }
 
+-- the match of lines
 unfoldable pub match_at : Lines → Result MatchData Refused
 match_at lines = do
   opening ← opening_at lines
