@@ -35,9 +35,11 @@ GainsFront-words bytes first words i old new gained = (first ++ behind_spaces by
 -- some words of a line, and the space in front of the next
 pub GainsFront-space : {W : Type 0} (bytes : W → List ℕ) (first : List ℕ) (words : List W) (i : ℕ) (old mid new : List ℕ) → i < length words → mid ≡ old ++ (first ++ behind_spaces bytes (take i words)) → new ≡ mid ++ 32 ∷ [] → GainsFront old (line_of first (map bytes words)) new
 GainsFront-space bytes first words i old mid new within gained more =
-    let next = next_space bytes words i within in
-    ((first ++ behind_spaces bytes (take i words)) ++ 32 ∷ [], more ∙ rw gained (simp append_assoc refl),
-      (next.0 ++ 10 ∷ [], cut_line bytes first words i ∙ rw next.1 (simp append_assoc refl)))
+    let next = next_space bytes words i within in (
+      (first ++ behind_spaces bytes (take i words)) ++ 32 ∷ [],
+      more ∙ rw gained (simp append_assoc refl),
+      (next.0 ++ 10 ∷ [], cut_line bytes first words i ∙ rw next.1 (simp append_assoc refl)),
+    )
 
 -- all words of a line, and its end
 pub line_whole : {W : Type 0} (bytes : W → List ℕ) (first : List ℕ) (words : List W) (i : ℕ) (old mid new : List ℕ) → length words ≤ i → mid ≡ old ++ (first ++ behind_spaces bytes (take i words)) → new ≡ mid ++ 10 ∷ [] → new ≡ old ++ line_of first (map bytes words)
@@ -76,6 +78,8 @@ player_lines-next names ps i d old mid new within so_far next =
 pub GainsFront-next : (names : List (List ℕ)) (ps : List Player) (i : ℕ) (d : Player) (old mid new : List ℕ) → i < length ps → mid ≡ old ++ player_lines names 0 (take i ps) → GainsFront mid (live_line (name_of names i) (get_or ps i d)) new → GainsFront old (player_lines names 0 ps) new
 GainsFront-next names ps i d old mid new within so_far gained =
     let cut = player_lines-cut names 0 ps i d within in
-    let e : 0 + i ≡ i = omega arith in
-    (player_lines names 0 (take i ps) ++ gained.0, gained.1 ∙ rw so_far (append_assoc old _ _),
-      (gained.2.0 ++ cut.0, cut.1 ∙ rw (e, gained.2.1) (simp append_assoc refl)))
+    let e : 0 + i ≡ i = omega arith in (
+      player_lines names 0 (take i ps) ++ gained.0,
+      gained.1 ∙ rw so_far (append_assoc old _ _),
+      (gained.2.0 ++ cut.0, cut.1 ∙ rw (e, gained.2.1) (simp append_assoc refl)),
+    )

@@ -1,5 +1,5 @@
 -- The names of a roster, which a set of keys holds.
-use Rattle.std.proofs.Common.{◌≡◌, ℕ, Bool, true, false, ◌||◌, if◌then◌else◌, List, [], ◌∷◌, ◌++◌, map, refl, sym, ap, ◌∙◌, subst}
+use Rattle.std.proofs.Common.{◌≡◌, ℕ, Bool, true, false, ◌||◌, if◌then◌else◌, List, [], ◌∷◌, ◌++◌, map, refl, ap}
 use Rattle.std.specs.List.{list_any, IsDistinct}
 use Rattle.std.specs.Str.{bytes_eq}
 use Rattle.std.proofs.lemmas.Cmp.{nat_list_eq_equiv}
@@ -22,8 +22,9 @@ NamesDiffer-nil = tt
 pub NamesDiffer-with_name : (names : List (List ℕ)) (name : List ℕ) → NamesDiffer names → NamesDiffer (with_name names name)
 NamesDiffer-with_name names name differ =
     elim (is_known names name) as (λ known. is_known names name ≡ known → NamesDiffer (if known then names else names ++ name ∷ [])) [
-      true ↦ λ _. differ
-    | false ↦ λ unknown. IsDistinct-push nat_list_eq_equiv names name differ unknown ] refl
+      | true ↦ λ _. differ
+      | false ↦ λ unknown. IsDistinct-push nat_list_eq_equiv names name differ unknown
+    ] refl
 
 -- a set of keys holds a name
 pub is_known-keys : {K : Type 0} (name : K → List ℕ) (keys : List K) (word : List ℕ) → is_known (map name keys) word ≡ list_any (λ k. bytes_eq word (name k)) keys
@@ -34,5 +35,6 @@ pub names-insert_key : {K : Type 0} (name : K → List ℕ) (keys : List K) (key
 names-insert_key name keys key =
     rw (is_known-keys name keys (name key))
     (elim (list_any (λ k. bytes_eq (name key) (name k)) keys) as (λ known. map name (if known then keys else keys ++ key ∷ []) ≡ (if known then map name keys else map name keys ++ name key ∷ [])) [
-      true ↦ refl
-    | false ↦ map-append name keys (key ∷ []) ])
+      | true ↦ refl
+      | false ↦ map-append name keys (key ∷ [])
+    ])

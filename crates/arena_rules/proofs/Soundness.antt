@@ -1,16 +1,16 @@
 -- Every world of an arena is sound: at the start, and after each act and each beat.
-use Rattle.std.proofs.Common.{◌≡◌, ℕ, zero, suc, ◌+◌, ◌<◌, ◌≤◌, ◌^◌, ◌⊎◌, inl, inr, Bool, true, false, not, ◌&&◌, if◌then◌else◌, ℤ, pos, negsuc, Option, Some, None, slice_get, List, [], ◌∷◌, ◌++◌, map, length, get_or, set, refl, sym, ap, ◌∙◌, subst, arith, lit<, length-set, unwrap_or}
+use Rattle.std.proofs.Common.{◌≡◌, ℕ, zero, suc, inl, inr, true, false, if◌then◌else◌, ℤ, pos, negsuc, Some, None, slice_get, List, [], ◌∷◌, map, length, get_or, set, refl, sym, ap, ◌∙◌, subst, arith, lit<, length-set, unwrap_or}
 use Rattle.std.specs.Int.{FitsUnsignedBits}
-use Rattle.std.specs.List.{list_any, list_all, IsDistinct, All}
+use Rattle.std.specs.List.{list_any, list_all}
 use Rattle.std.proofs.lemmas.Bool.{and_parts, and_left, cond-false, not-true}
-use Rattle.std.proofs.lemmas.List.{map-set, length-map, set-get_or}
-use Rattle.std.proofs.lemmas.List.Elements.{All-set, All-map, All-get_or}
+use Rattle.std.proofs.lemmas.List.{map-set, length-map}
+use Rattle.std.proofs.lemmas.List.Elements.{All-set, All-map}
 use Rattle.std.proofs.lemmas.List.Folds.{list_all-append}
 use Rattle.std.proofs.lemmas.List.Recursion.{and_set}
 use Rattle.std.proofs.lemmas.Option.{get_or_from_slice_get, slice_get_cases}
-use Rattle.arena_rules.specs.Ground.{IsGrid, is_open}
+use Rattle.arena_rules.specs.Ground.{is_open}
 use Rattle.arena_rules.specs.Setup.{Layout, Cell, same_cell, spot_cell, pickup_cell, IsLayout}
-use Rattle.arena_rules.specs.World.{World, opening_player, opening_world, held_cells, is_held, is_vacant, moved_to, turned_to, gone, with_player, beaten, HasNumbersInRange, IsSound}
+use Rattle.arena_rules.specs.World.{World, opening_player, opening_world, held_cells, is_held, is_vacant, moved_to, turned_to, gone, with_player, HasNumbersInRange, IsSound}
 use Rattle.arena_rules.specs.declared.face.Face.{Face}
 use Rattle.arena_rules.specs.declared.spot.Spot.{Spot}
 use Rattle.arena_rules.specs.declared.player.Player.{Player}
@@ -30,12 +30,13 @@ opening_numbers home = record { health = (omega arith, omega arith); ammo = omeg
 -- the opening world is sound
 pub IsSound-opening_world : (layout : Layout) → IsLayout layout → IsSound (opening_world layout)
 IsSound-opening_world layout possible = record {
-    grid = possible.grid;
-    count = let l : length (map opening_player layout.players) ≡ length layout.players = length-map layout.players opening_player in omega (arith, l, possible.players.1);
-    free = rw held_cells-opening (and_parts _ _ (sym (list_all-append (λ c. is_open layout.grid c.x c.y) (map pickup_cell layout.pickups) (map spot_cell layout.players)) ∙ possible.free)).1;
-    apart = rw held_cells-opening (IsDistinct-back same_cell (map pickup_cell layout.pickups) (map spot_cell layout.players) possible.apart);
-    numbers = All-map HasNumbersInRange opening_player layout.players (λ k d _. opening_numbers (get_or layout.players k d));
-    time = lit< tt }
+  grid = possible.grid;
+  count = let l : length (map opening_player layout.players) ≡ length layout.players = length-map layout.players opening_player in omega (arith, l, possible.players.1);
+  free = rw held_cells-opening (and_parts _ _ (sym (list_all-append (λ c. is_open layout.grid c.x c.y) (map pickup_cell layout.pickups) (map spot_cell layout.players)) ∙ possible.free)).1;
+  apart = rw held_cells-opening (IsDistinct-back same_cell (map pickup_cell layout.pickups) (map spot_cell layout.players) possible.apart);
+  numbers = All-map HasNumbersInRange opening_player layout.players (λ k d _. opening_numbers (get_or layout.players k d));
+  time = lit< tt;
+}
 
 -- the cells after one player is replaced
 held_cells-set : (players : List Player) (number : ℕ) (player : Player) → held_cells (set players number player) ≡ set (held_cells players) number (spot_cell player.spot)
@@ -53,7 +54,8 @@ IsSound-moved world number player sound numbers vacant =
       free = rw held_cells-set (and_set (list_all (λ (c : Cell). is_open world.grid c.x c.y)) (λ c. is_open world.grid c.x c.y) refl (λ _ _. refl) (held_cells world.players) number (spot_cell player.spot) free sound.free);
       apart = rw held_cells-set (IsDistinct-set same_cell same_cell-symm (held_cells world.players) number (spot_cell player.spot) sound.apart unheld);
       numbers = All-set HasNumbersInRange world.players number player numbers sound.numbers;
-      time = sound.time }
+      time = sound.time;
+    }
 
 -- a player who is there stands in the cell at his number
 cell_at_number : (players : List Player) (number : ℕ) (player : Player) → slice_get players number ≡ Some player → set (held_cells players) number (spot_cell player.spot) ≡ held_cells players
@@ -71,7 +73,8 @@ IsSound-stayed world number old new sound there numbers stays =
       free = rw cells sound.free;
       apart = rw cells sound.apart;
       numbers = All-set HasNumbersInRange world.players number new numbers sound.numbers;
-      time = sound.time }
+      time = sound.time;
+    }
 
 -- nothing isn't something
 none_there : {X : Type 0} {x : X} → None ≡ Some x → ⊥
@@ -80,8 +83,9 @@ none_there same = cc
 -- the numbers of a player who is there
 pub numbers_at : (world : World) (number : ℕ) (player : Player) → IsSound world → slice_get world.players number ≡ Some player → HasNumbersInRange player
 numbers_at world number player sound there = elim (slice_get_cases world.players number).1 [
-    inl found ↦ subst HasNumbersInRange (get_or_from_slice_get world.players number player player there) (sound.numbers number player found.1)
-  | inr missing ↦ absurd (none_there (sym missing.1 ∙ there)) ]
+  | inl found ↦ subst HasNumbersInRange (get_or_from_slice_get world.players number player player there) (sound.numbers number player found.1)
+  | inr missing ↦ absurd (none_there (sym missing.1 ∙ there))
+]
 
 -- a turn and a move change no number
 turned_numbers : (player : Player) (face : Face) → HasNumbersInRange player → HasNumbersInRange (turned_to player face)
@@ -99,8 +103,9 @@ pub IsSound-gone : (world : World) (number : ℕ) (player : Player) (place : ℤ
 IsSound-gone world number player (pos x, pos y) sound there =
     let cell : Cell = record { x = x; y = y } in
     elim (is_vacant world cell) as (λ v. is_vacant world cell ≡ v → IsSound (with_player world number (if v then moved_to player cell else player))) [
-      true ↦ λ vacant. IsSound-moved world number (moved_to player cell) sound (moved_numbers player cell (numbers_at world number player sound there)) vacant
-    | false ↦ λ _. IsSound-stayed world number player player sound there (numbers_at world number player sound there) refl ] refl
+      | true ↦ λ vacant. IsSound-moved world number (moved_to player cell) sound (moved_numbers player cell (numbers_at world number player sound there)) vacant
+      | false ↦ λ _. IsSound-stayed world number player player sound there (numbers_at world number player sound there) refl
+    ] refl
 IsSound-gone world number player (pos x, negsuc y) sound there = IsSound-stayed world number player player sound there (numbers_at world number player sound there) refl
 IsSound-gone world number player (negsuc x, y) sound there = IsSound-stayed world number player player sound there (numbers_at world number player sound there) refl
 

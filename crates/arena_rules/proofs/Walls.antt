@@ -1,7 +1,7 @@
 -- Which cells are walled, and that a grid stays one that the ground can have.
-use Rattle.std.proofs.Common.{◌≡◌, ◌≢◌, ℕ, ◌+◌, ◌<◌, ◌≤◌, ◌⊎◌, ◌||◌, ◌&&◌, ◌==◌, ◌^◌, ◌*◌, ◌%◌, Bool, true, false, max, ℤ, pos, negsuc, ◌<ℤ◌, refl, sym, ap, ◌∙◌, inl, inr, List, length, get_or, slice_index, set, replicate, bit_or, arith, length-set, get_or-set_same, get_or-set_other}
+use Rattle.std.proofs.Common.{◌≡◌, ℕ, ◌<◌, ◌≤◌, ◌||◌, ◌&&◌, ◌==◌, ◌^◌, ◌*◌, ◌%◌, false, ℤ, pos, negsuc, refl, sym, ap, ◌∙◌, inl, inr, length, slice_index, replicate, bit_or, arith, length-set, get_or-set_other}
 use Rattle.std.specs.Int.{bit_at, FitsUnsignedBits}
-use Rattle.std.proofs.lemmas.Bool.{cases_lt, cases_eq, eqb-true, eq-eqb, ne_eqb, or_cases, and_parts, and_left, and_right, le-ltb, false≢true}
+use Rattle.std.proofs.lemmas.Bool.{cases_lt, cases_eq, eqb-true, ne_eqb, or_cases, and_parts, and_left, and_right, le-ltb, false≢true}
 use Rattle.std.proofs.lemmas.Bool.Decides.{nat_tests}
 use Rattle.std.proofs.lemmas.Grind.{get_or-set_at}
 use Rattle.std.proofs.lemmas.List.{get_or-replicate, get_or_past, length-replicate}
@@ -21,15 +21,17 @@ is_walled-open_grid width height x y = ap (λ row. bit_at row x == 1) (no_wall_i
 -- a bit that is set in a number
 bit_at-set : (n x a : ℕ) → (bit_at (bit_or n (2 ^ x)) a == 1) ≡ ((bit_at n a == 1) || (a == x))
 bit_at-set n x a = elim (cases_eq a x) [
-    inl same ↦ grind (arith, nat_tests, same, bit_at_or n (2 ^ x) a, bit_at-lt n a, bit_at-pow_same x)
-  | inr apart ↦ grind (arith, nat_tests, bit_at_or n (2 ^ x) a, bit_at-lt n a, bit_at-pow_other x a apart) ]
+  | inl same ↦ grind (arith, nat_tests, same, bit_at_or n (2 ^ x) a, bit_at-lt n a, bit_at-pow_same x)
+  | inr apart ↦ grind (arith, nat_tests, bit_at_or n (2 ^ x) a, bit_at-lt n a, bit_at-pow_other x a apart)
+]
 
 -- a wall more walls its own cell, and leaves the others as they were
 pub is_walled-with_wall : (grid : Grid) (x y a b : ℕ) → y < length grid.walls → is_walled (with_wall grid x y) a b ≡ (is_walled grid a b || ((a == x) && (b == y)))
 unfolding is_walled with_wall
 is_walled-with_wall grid x y a b within = elim (cases_eq b y) [
-    inl same ↦ ap (λ row. bit_at row a == 1) (get_or-set_at grid.walls y b _ 0 same within) ∙ bit_at-set _ x a ∙ grind (arith, nat_tests, same)
-  | inr apart ↦ ap (λ row. bit_at row a == 1) (get_or-set_other grid.walls y b _ 0 apart) ∙ grind (arith, nat_tests, ne_eqb b y apart) ]
+  | inl same ↦ ap (λ row. bit_at row a == 1) (get_or-set_at grid.walls y b _ 0 same within) ∙ bit_at-set _ x a ∙ grind (arith, nat_tests, same)
+  | inr apart ↦ ap (λ row. bit_at row a == 1) (get_or-set_other grid.walls y b _ 0 apart) ∙ grind (arith, nat_tests, ne_eqb b y apart)
+]
 
 -- an open grid of sides in range is a grid
 pub IsGrid-open_grid : (width height : ℕ) → 3 ≤ width → width ≤ 64 → 1 ≤ height → height ≤ 64 → IsGrid (open_grid width height)
@@ -38,9 +40,15 @@ IsGrid-open_grid width height wide narrow high low = record { width = (wide, nar
 -- a grid with a wall more in it is a grid
 pub IsGrid-with_wall : (grid : Grid) (x y : ℕ) → IsGrid grid → x < grid.width → y < grid.height → IsGrid (with_wall grid x y)
 unfolding with_wall
-IsGrid-with_wall grid x y sound column row = record { width = sound.width; height = sound.height; rows = length-set _ _ _ ∙ sound.rows; walls = λ a b walled. elim (or_cases (is_walled grid a b) ((a == x) && (b == y)) (sym (is_walled-with_wall grid x y a b (omega (arith, sound.rows, sound.height.1))) ∙ walled)) [
-    inl old ↦ sound.walls a b old
-  | inr new ↦ let e : a ≡ x = eqb-true a x (and_parts (a == x) (b == y) new).0 in let f : b ≡ y = eqb-true b y (and_parts (a == x) (b == y) new).1 in (omega (arith, e, column), omega (arith, f, row)) ] }
+IsGrid-with_wall grid x y sound column row = record {
+  width = sound.width;
+  height = sound.height;
+  rows = length-set _ _ _ ∙ sound.rows;
+  walls = λ a b walled. elim (or_cases (is_walled grid a b) ((a == x) && (b == y)) (sym (is_walled-with_wall grid x y a b (omega (arith, sound.rows, sound.height.1))) ∙ walled)) [
+    | inl old ↦ sound.walls a b old
+    | inr new ↦ let e : a ≡ x = eqb-true a x (and_parts (a == x) (b == y) new).0 in let f : b ≡ y = eqb-true b y (and_parts (a == x) (b == y) new).1 in (omega (arith, e, column), omega (arith, f, row))
+  ];
+}
 
 -- a bit that the shift of a 64-bit number sets
 pub shifted_one : (x : ℕ) → x < 64 → 1 * 2 ^ x % 18446744073709551616 ≡ 2 ^ x

@@ -103,6 +103,7 @@ impl Arena {
     fn gone(&self, player: Player, x: i32, y: i32) -> Player
         ensures { result ≡ gone self.now player (x, y) }
     {
+        // Reads the world, whose invariant the answers below rest on.
         let _ = &self.time;
         let Ok(x) = u8::try_from(x) else {
             return player;
@@ -182,6 +183,73 @@ impl Shown for Arena {
         for (number, player) in self.players.iter().enumerate() {
             player.push_line(roster.printed_name(number as u8), out)?;
         }
+        Ok(())
+    }
+}
+
+#[cfg(test)]
+mod tests {
+    use super::*;
+    use crate::face::Face;
+    use crate::spot::Spot;
+    use std::test::Fail;
+
+    // A grid of 4 by 2 cells with a wall in (1, 1), player 0 in (0, 0) to the east and player 1 in (2, 0) to the south.
+    fn two_players() -> Arena
+        ensures { length result.players ≡ 2 }
+    {
+        let mut ground = Ground::new(4, 2);
+        ground.wall(1, 1);
+        let mut players = ArrayVec::new();
+        players.push(Spot {
+            x: 0,
+            y: 0,
+            face: Face::E,
+        });
+        players.push(Spot {
+            x: 2,
+            y: 0,
+            face: Face::S,
+        });
+        let setup = Setup {
+            ground,
+            pickups: ArrayVec::new(),
+            players,
+        };
+        Arena::start(&setup)
+    }
+
+    #[test]
+    fn goes_and_turns(rt: HostRuntime) -> Result<(), Fail> {
+        let mut roster = Roster::new(rt.alloc())?;
+        assert!(rt; roster.add(b"ann")?);
+        let mut arena = two_players();
+        assert_eq!(rt; arena.score(1), 0);
+        let opening = arena.twin();
+        for (player, act, shown) in [
+            (2, Act::Go, b"live ann 0 0 e 3 5 0\nlive ? 2 0 s 3 5 0\n"),
+            (0, Act::Go, b"live ann 1 0 e 3 5 0\nlive ? 2 0 s 3 5 0\n"),
+            (0, Act::Go, b"live ann 1 0 e 3 5 0\nlive ? 2 0 s 3 5 0\n"),
+            (1, Act::Go, b"live ann 1 0 e 3 5 0\nlive ? 2 1 s 3 5 0\n"),
+            (1, Act::Go, b"live ann 1 0 e 3 5 0\nlive ? 2 1 s 3 5 0\n"),
+            (0, Act::Right, b"live ann 1 0 s 3 5 0\nlive ? 2 1 s 3 5 0\n"),
+            (0, Act::Go, b"live ann 1 0 s 3 5 0\nlive ? 2 1 s 3 5 0\n"),
+            (0, Act::Shoot, b"live ann 1 0 s 3 5 0\nlive ? 2 1 s 3 5 0\n"),
+            (1, Act::Left, b"live ann 1 0 s 3 5 0\nlive ? 2 1 e 3 5 0\n"),
+        ] {
+            arena.apply(&Command {
+                player,
+                act,
+                ..Command::default()
+            });
+            arena.beat();
+            let mut out = Vec::new(rt.alloc());
+            arena.block(&roster, &mut out)?;
+            assert_eq!(rt; out.as_slice(), shown.as_slice());
+        }
+        assert_eq!(rt; arena.time(), 9);
+        arena.set_from(&opening);
+        assert_eq!(rt; arena.time(), 0);
         Ok(())
     }
 }

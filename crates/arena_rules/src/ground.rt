@@ -54,6 +54,7 @@ impl Ground {
     pub fn free(&self, x: i32, y: i32) -> bool
         ensures { result ≡ is_free self.now x y }
     {
+        // Reads the ground, whose invariant the answers below rest on.
         let _ = &self.width;
         let Ok(x) = u8::try_from(x) else {
             return false;
@@ -95,5 +96,31 @@ impl Ground {
         ensures sound { IsGrid self.now }
     {
         self.height
+    }
+}
+
+#[cfg(test)]
+mod tests {
+    use super::*;
+
+    #[test]
+    fn tells_free_cells(rt: HostRuntime) {
+        let mut ground = Ground::new(4, 2);
+        ground.wall(3, 1);
+        assert_eq!(rt; ground.width(), 4);
+        assert_eq!(rt; ground.height(), 2);
+        for (x, y, free) in [
+            (0, 0, true),
+            (2, 1, true),
+            (3, 1, false),
+            (3, 0, true),
+            (4, 0, false),
+            (0, 2, false),
+            (-1, 0, false),
+            (0, -1, false),
+            (256, 0, false),
+        ] {
+            assert_eq!(rt; ground.free(x, y), free, "at {x} {y}");
+        }
     }
 }

@@ -134,9 +134,11 @@ pub record NamedPlace : Type 0 where
   pub y : List ℕ
   pub face : Face
 
+-- those words, without where they lie in memory
 abbrev pub words_seen : PlayerWords → NamedPlace
 words_seen words = record { name = words.name.now; x = words.x.now; y = words.y.now; face = words.face }
 
+-- the words of a line, where they are a player's
 unfoldable pub player_words : List ℕ → Result NamedPlace Refused
 player_words l = do
   words ← behind player_word l
@@ -152,9 +154,11 @@ pub record PlayerData : Type 0 where
   pub name : List ℕ
   pub home : Spot
 
+-- the same, without where the name lies in memory
 abbrev pub player_seen : Player → PlayerData
 player_seen player = record { name = player.name.now; home = player.home }
 
+-- a player's line, whose cell is in the grid, and the lines after it
 unfoldable pub player_at : Sides → Lines → Result (PlayerData × Lines) Refused
 player_at sides lines = do
   l ← line_at lines
@@ -181,9 +185,11 @@ pub record CommandParts : Type 0 where
   pub player : List ℕ
   pub act : Act
 
+-- those words, without where they lie in memory
 abbrev pub command_seen : CommandWords → CommandParts
 command_seen words = record { time = words.time.now; from = words.from.now; number = words.number.now; player = words.player.now; act = words.act }
 
+-- the words of a line, where they are a command's
 unfoldable pub command_words : List ℕ → Result CommandParts Refused
 command_words l = do
   words ← behind command_word l
@@ -222,6 +228,7 @@ line_step ticks so_far l =
     if is_closing l.0 then Ok (so_far, None)
     else (command_at ticks l.0 >>= λ x. added so_far x >>= λ more. Ok (more, Some l.1))
 
+-- the same for the next line
 unfoldable pub commands_step : ℕ → List Command → Lines → Result (List Command × Option Lines) Refused
 commands_step ticks so_far lines = line_at lines >>= line_step ticks so_far
 
@@ -233,19 +240,21 @@ commands_at ticks so_far (line l rest) =
     else (if is_closing l then Ok (so_far, line l rest)
     else (command_at ticks l >>= λ x. added so_far x >>= λ more. commands_at ticks more rest))
 
--- the kinds of a script's lines, by the words behind the first
+-- a mirror's tick, by the words behind the first
 unfoldable pub tick_at : List (List ℕ) → Result ScriptLine Refused
 tick_at words = do
   word ← last_at words
   mirror ← number_in 0 0 word
   Ok (Tick mirror)
 
+-- a mirror's turn, in the same way
 unfoldable pub turn_at : List (List ℕ) → Result ScriptLine Refused
 turn_at words = do
   word ← last_at words
   mirror ← number_in 0 0 word
   Ok (Turn mirror)
 
+-- the arrival of one of the commands
 unfoldable pub arrive_at : List Command → List (List ℕ) → Result ScriptLine Refused
 arrive_at commands words = do
   first ← front_at words
@@ -256,6 +265,7 @@ arrive_at commands words = do
   number ← number_in 0 999999 third
   if has_command from number commands then Ok (Arrive mirror from number) else Err shape
 
+-- a copy's step
 unfoldable pub step_at : List (List ℕ) → Result ScriptLine Refused
 step_at words = do
   first ← front_at words
@@ -293,6 +303,7 @@ script_line_step commands so_far l =
     if bytes_eq l.0 end_word then (if is_end l.1 && nat_lt 0 (length so_far) then Ok (so_far, None) else Err shape)
     else (script_line_at commands l.0 >>= λ s. lengthened so_far s >>= λ more. Ok (more, Some l.1))
 
+-- the same for the next line
 unfoldable pub script_step : List Command → List ScriptLine → Lines → Result (List ScriptLine × Option Lines) Refused
 script_step commands so_far lines = line_at lines >>= script_line_step commands so_far
 
@@ -331,6 +342,7 @@ plain_match opening player commands script = record {
   script = script;
 }
 
+-- the match of lines
 unfoldable pub match_at : Lines → Result MatchData Refused
 match_at lines = do
   opening ← opening_at lines

@@ -73,34 +73,39 @@ run_word = codes "run"
 unfoldable pub head_words : List (List ℕ)
 head_words = codes "tss" ∷ codes "match" ∷ codes "1" ∷ []
 
--- the words of values
+-- the word of a facing
 abbrev pub face_word : Face → List ℕ
 face_word N = codes "n"
 face_word E = codes "e"
 face_word S = codes "s"
 face_word W = codes "w"
 
+-- the word of a pickup's kind
 abbrev pub kind_word : Kind → List ℕ
 kind_word Ammo = codes "ammo"
 kind_word Heal = codes "heal"
 kind_word Gold = codes "gold"
 
+-- the word of an act
 abbrev pub act_word : Act → List ℕ
 act_word Go = codes "go"
 act_word Left = codes "left"
 act_word Right = codes "right"
 act_word Shoot = codes "shoot"
 
--- the lines of walls, pickups, players and commands
+-- a wall's line, as its words
 abbrev pub wall_line : Cell → List (List ℕ)
 wall_line cell = wall_word ∷ decimal cell.x ∷ decimal cell.y ∷ []
 
+-- a pickup's line
 abbrev pub pickup_line : PickupSpot → List (List ℕ)
 pickup_line p = pickup_word ∷ decimal p.x ∷ decimal p.y ∷ kind_word p.kind ∷ []
 
+-- a player's line
 abbrev pub player_line : List ℕ → Spot → List (List ℕ)
 player_line name home = player_word ∷ name ∷ decimal home.x ∷ decimal home.y ∷ face_word home.face ∷ []
 
+-- a command's line
 abbrev pub command_line : Command → List (List ℕ)
 command_line x = command_word ∷ decimal x.time ∷ decimal x.from ∷ decimal x.number ∷ decimal x.player ∷ act_word x.act ∷ []
 

@@ -10,6 +10,7 @@ mod no_memory;
 mod put;
 mod read;
 mod read_fault;
+mod retries;
 mod seq;
 mod sink;
 mod source;

@@ -156,7 +156,23 @@ fn standard_streams(rt: HostRuntime) -> Result<(), Fail> {
     let mut room = [0u8; 4];
     let mut sink = StdSink::new(room.as_mut_slice());
     assert_eq!(rt; put_all(&mut sink, &text), Err(Failed));
+
+    assert_eq!(rt; StdSink::new(Unflushed).put(&text), Err(Failed));
     Ok(())
+}
+
+// It takes all, and then can't hand it on.
+#[derive(Drop)]
+struct Unflushed;
+
+impl Write for Unflushed {
+    fn write(&mut self, buf: &[u8]) -> io::Result<usize> {
+        Ok(buf.len())
+    }
+
+    fn flush(&mut self) -> io::Result<()> {
+        Err(ErrorKind::StorageFull.into())
+    }
 }
 
 #[test]

@@ -1,6 +1,5 @@
-use Rattle.std.proofs.Common.{◌≡◌, ◌<◌, ◌++◌, ap, ◌∙◌, length, get_or, arith}
+use Rattle.std.proofs.Common.{◌≡◌, ◌<◌, ap, ◌∙◌, length}
 use Rattle.std.proofs.lemmas.Result.{err_from_is_err_and}
-use Rattle.arena_rules.specs.Block.{live_line, name_of, GainsFront}
 use Rattle.arena_rules.proofs.Lines.{no_player_lines, player_lines-next, GainsFront-next}
 use Rattle.arena_rules.proofs.arena.ArenaShown.block.Goals as goal
 
@@ -13,11 +12,11 @@ returns-in_err-push_line-clause-err c =
     let players : c.deref-player-items.result.now ≡ c.args.self.now.players = c.deref-player-items.ensures.0 ∙ ap (λ world. world.players) c.self.view_is in
     let within : c.loop-number.number < length c.args.self.now.players = rw (← players) c.loop-number-test.true in
     rw p.1 (GainsFront-next c.args.roster.now c.args.self.now.players c.loop-number.number _ c.args.out.now.items c.loop-number.out.items c.push_line.new.out.items within c.loop-number.invariant
-      (rw (c.printed_name.ensures, players) at c.in_err-push_line.ensures.err))
+    (rw (c.printed_name.ensures, players) at c.in_err-push_line.ensures.err))
 
 pub loop-number-preserved : goal.loop-number-preserved
 loop-number-preserved c =
     let players : c.deref-player-items.result.now ≡ c.args.self.now.players = c.deref-player-items.ensures.0 ∙ ap (λ world. world.players) c.self.view_is in
     let within : c.loop-number.number < length c.args.self.now.players = rw (← players) c.loop-number-test.true in
     player_lines-next c.args.roster.now c.args.self.now.players c.loop-number.number _ c.args.out.now.items c.loop-number.out.items c.push_line.new.out.items within c.loop-number.invariant
-      (rw (c.printed_name.ensures, players) at c.in_ok-push_line.ensures.ok)
+    (rw (c.printed_name.ensures, players) at c.in_ok-push_line.ensures.ok)

@@ -1,4 +1,4 @@
-use Rattle.std.proofs.Common.{◌<◌, arith, w32}
+use Rattle.std.proofs.Common.{w32}
 use Rattle.std.proofs.lemmas.Int.{to_z-of_z}
 use Rattle.arena_rules.proofs.Walls.{is_free-wide, is_free-high}
 use Rattle.arena_rules.proofs.ground.Ground.free.Goals as goal

@@ -1,5 +1,5 @@
 use Rattle.std.proofs.Common.{◌≡◌, ◌<◌, arith, refl, ap}
-use Rattle.arena_rules.specs.Ground.{with_wall, Grid}
+use Rattle.arena_rules.specs.Ground.{with_wall}
 use Rattle.arena_rules.proofs.Walls.{IsGrid-with_wall, shifted_one}
 use Rattle.arena_rules.proofs.ground.Ground.wall.Goals as goal
 

@@ -1,5 +1,5 @@
 use Rattle.std.proofs.Common.{◌≡◌, true, false, not, map, ap, sym, ◌∙◌, refl, subst}
-use Rattle.arena_rules.specs.Roster.{is_known, with_name, NamesDiffer}
+use Rattle.arena_rules.specs.Roster.{is_known, NamesDiffer}
 use Rattle.arena_rules.proofs.Names.{is_known-keys, names-insert_key, NamesDiffer-with_name}
 use Rattle.arena_rules.proofs.roster.Roster.add.Goals as goal
 
