@@ -1,18 +1,15 @@
 -- Commands put one behind the other, and their lines.
-use Rattle.std.proofs.Common.{◌≡◌, ℕ, zero, suc, ◌+◌, ◌<◌, ◌≤◌, Bool, true, false, cond, eqb, ltb, ◌&&◌, ◌||◌, List, [], ◌∷◌, ◌++◌, length, Option, Some, None, Result, Ok, Err, refl, sym, ap, subst, ◌∙◌, arith}
-use Rattle.std.specs.Prelude.{bytes_eq}
-use Rattle.std.proofs.lemmas.Bool.{ltb-false, lt-ltb, le-ltb}
-use Rattle.std.proofs.lemmas.Bool.Decides.{nat_tests}
+use Rattle.std.proofs.Common.{◌≡◌, ℕ, ◌<◌, ◌≤◌, Bool, true, false, cond, eqb, ltb, ◌&&◌, ◌||◌, List, [], ◌∷◌, ◌++◌, length, Option, Some, None, Result, Ok, Err, refl, sym, ap, ◌∙◌}
+use Rattle.std.proofs.lemmas.Bool.{lt-ltb, le-ltb}
 use Rattle.std.proofs.lemmas.List.Recursion.{or_push}
 use Rattle.game_trait.specs.declared.command.Command.{Command}
 use Rattle.tss_io.specs.Reading.{◌>>=◌}
 use Rattle.match_file.specs.declared.fault.Refused.{Refused}
 use Rattle.match_file.specs.declared.fault.TextFault.{TextFault}
 use Rattle.match_file.specs.declared.fault.TextFault.TheVariants as faults
-use Rattle.match_file.specs.Lines.{Lines, torn, line, onto, lines_of}
+use Rattle.match_file.specs.Lines.{Lines, torn, line}
 use Rattle.match_file.specs.Names.{same_numbers, has_command}
-use Rattle.match_file.specs.Text.{end_word}
-use Rattle.match_file.specs.Reading.{Fails, shape, added, is_end, line_at, command_at, line_step, commands_step, commands_at}
+use Rattle.match_file.specs.Reading.{Fails, shape, added, is_closing, line_at, command_at, line_step, commands_step, commands_at}
 
 -- ---- one more command
 
@@ -41,63 +38,46 @@ unfolding has_command
 has_command-push from number commands x =
     or_push (λ ys. has_command from number ys) (λ y. eqb y.from from && eqb y.number number) refl (λ _ _. refl) commands x ∙ swapped (has_command from number commands) (eqb x.from from && eqb x.number number)
 
--- ---- the end of the text
-
-not_end : (b : ℕ) (lines : Lines) → is_end (onto b lines) ≡ false
-not_end b (torn bytes) = refl
-not_end b (line l rest) = refl
-
-pub is_end-lines_of : (bytes : List ℕ) → is_end (lines_of bytes) ≡ eqb (length bytes) 0
-unfolding lines_of
-is_end-lines_of [] = refl
-is_end-lines_of (b ∷ bytes) =
-    let none : eqb (length (b ∷ bytes)) 0 ≡ false = grind (arith, nat_tests) in
-    rw none (elim (eqb b 10) as (λ t. is_end (cond t (line [] (lines_of bytes)) (onto b (lines_of bytes))) ≡ false) [
-      | true ↦ refl
-      | false ↦ not_end b (lines_of bytes)
-    ])
-
 -- ---- a step, and the steps after it
 
 -- what a step gave, and what follows
-abbrev pub steps_on : ℕ → Result (List Command × Option Lines) Refused → Result (List Command) Refused
-steps_on ticks step = step >>= λ x. elim x.1 as (λ _. Result (List Command) Refused) [ None ↦ Ok x.0 | Some rest ↦ commands_at ticks x.0 rest ]
+abbrev pub steps_on : ℕ → Lines → Result (List Command × Option Lines) Refused → Result (List Command × Lines) Refused
+steps_on ticks lines step = step >>= λ x. elim x.1 as (λ _. Result (List Command × Lines) Refused) [ None ↦ Ok (x.0, lines) | Some rest ↦ commands_at ticks x.0 rest ]
 
 abbrev two : {A B : Type 0} → A → B → Result (A × B) Refused
 two a b = Ok (a, b)
 
-added_on : (ticks : ℕ) (rest : Lines) (more : Result (List Command) Refused) → (more >>= λ m. commands_at ticks m rest) ≡ steps_on ticks (more >>= λ m. two m (Some rest))
-added_on ticks rest (Ok m) = refl
-added_on ticks rest (Err e) = refl
+added_on : (ticks : ℕ) (lines rest : Lines) (more : Result (List Command) Refused) → (more >>= λ m. commands_at ticks m rest) ≡ steps_on ticks lines (more >>= λ m. two m (Some rest))
+added_on ticks lines rest (Ok m) = refl
+added_on ticks lines rest (Err e) = refl
 
-line_on : (ticks : ℕ) (so_far : List Command) (rest : Lines) (last whole : Bool) (x : Result Command Refused)
-    → cond last (cond whole (Ok so_far) (Err shape)) (x >>= λ y. added so_far y >>= λ m. commands_at ticks m rest)
-    ≡ steps_on ticks (cond last (cond whole (two so_far None) (Err shape)) (x >>= λ y. added so_far y >>= λ m. two m (Some rest)))
-line_on ticks so_far rest true true x = refl
-line_on ticks so_far rest true false x = refl
-line_on ticks so_far rest false whole (Ok y) = added_on ticks rest (added so_far y)
-line_on ticks so_far rest false whole (Err e) = refl
+line_on : (ticks : ℕ) (so_far : List Command) (lines rest : Lines) (last : Bool) (x : Result Command Refused)
+    → cond last (two so_far lines) (x >>= λ y. added so_far y >>= λ m. commands_at ticks m rest)
+    ≡ steps_on ticks lines (cond last (two so_far None) (x >>= λ y. added so_far y >>= λ m. two m (Some rest)))
+line_on ticks so_far lines rest true x = refl
+line_on ticks so_far lines rest false (Ok y) = added_on ticks lines rest (added so_far y)
+line_on ticks so_far lines rest false (Err e) = refl
 
-pub commands_at-step : (ticks : ℕ) (so_far : List Command) (lines : Lines) → commands_at ticks so_far lines ≡ steps_on ticks (commands_step ticks so_far lines)
+pub commands_at-step : (ticks : ℕ) (so_far : List Command) (lines : Lines) → commands_at ticks so_far lines ≡ steps_on ticks lines (commands_step ticks so_far lines)
 unfolding commands_at commands_step line_at
 commands_at-step ticks so_far (torn bytes) = refl
 commands_at-step ticks so_far (line l rest) =
-    elim (ltb 120 (length l)) as (λ t. cond t (Err shape) (cond (bytes_eq l end_word) (cond (is_end rest) (Ok so_far) (Err shape)) (command_at ticks l >>= λ y. added so_far y >>= λ m. commands_at ticks m rest)) ≡ steps_on ticks (cond t (Err shape) (two l rest) >>= line_step ticks so_far)) [
+    elim (ltb 120 (length l)) as (λ t. cond t (Err shape) (cond (is_closing l) (two so_far (line l rest)) (command_at ticks l >>= λ y. added so_far y >>= λ m. commands_at ticks m rest)) ≡ steps_on ticks (line l rest) (cond t (Err shape) (two l rest) >>= line_step ticks so_far)) [
       | true ↦ refl
-      | false ↦ line_on ticks so_far rest (bytes_eq l end_word) (is_end rest) (command_at ticks l)
+      | false ↦ line_on ticks so_far (line l rest) rest (is_closing l) (command_at ticks l)
     ]
 
 -- ---- the steps of a loop
 
-pub steps_go_on : (ticks : ℕ) (so_far more : List Command) (lines rest : Lines) (total : Result (List Command) Refused)
+pub steps_go_on : (ticks : ℕ) (so_far more : List Command) (lines rest : Lines) (total : Result (List Command × Lines) Refused)
     → commands_step ticks so_far lines ≡ Ok (more, Some rest) → commands_at ticks so_far lines ≡ total → commands_at ticks more rest ≡ total
-steps_go_on ticks so_far more lines rest total step so = sym (ap (steps_on ticks) step) ∙ sym (commands_at-step ticks so_far lines) ∙ so
+steps_go_on ticks so_far more lines rest total step so = sym (ap (steps_on ticks lines) step) ∙ sym (commands_at-step ticks so_far lines) ∙ so
 
-pub steps_end : (ticks : ℕ) (so_far more : List Command) (lines : Lines) (total : Result (List Command) Refused)
-    → commands_step ticks so_far lines ≡ Ok (more, None) → commands_at ticks so_far lines ≡ total → total ≡ Ok more
-steps_end ticks so_far more lines total step so = sym so ∙ commands_at-step ticks so_far lines ∙ ap (steps_on ticks) step
+pub steps_end : (ticks : ℕ) (so_far more : List Command) (lines : Lines) (total : Result (List Command × Lines) Refused)
+    → commands_step ticks so_far lines ≡ Ok (more, None) → commands_at ticks so_far lines ≡ total → total ≡ Ok (more, lines)
+steps_end ticks so_far more lines total step so = sym so ∙ commands_at-step ticks so_far lines ∙ ap (steps_on ticks lines) step
 
-pub steps_fail : (e : TextFault) (ticks : ℕ) (so_far : List Command) (lines : Lines) (total : Result (List Command) Refused)
+pub steps_fail : (e : TextFault) (ticks : ℕ) (so_far : List Command) (lines : Lines) (total : Result (List Command × Lines) Refused)
     → Fails e (commands_step ticks so_far lines) → commands_at ticks so_far lines ≡ total → Fails e total
 steps_fail faults.NoMemory ticks so_far lines total step so = tt
-steps_fail (faults.Refused e) ticks so_far lines total step so = sym so ∙ commands_at-step ticks so_far lines ∙ ap (steps_on ticks) step
+steps_fail (faults.Refused e) ticks so_far lines total step so = sym so ∙ commands_at-step ticks so_far lines ∙ ap (steps_on ticks lines) step

@@ -1,5 +1,5 @@
 -- Every fault of a text that isn't of the plain form is the same one.
-use Rattle.std.proofs.Common.{◌≡◌, ℕ, Bool, true, false, cond, eqb, ltb, ◌&&◌, not, List, [], ◌∷◌, ◌++◌, length, Option, Some, None, Result, Ok, Err, refl, sym, ◌∙◌}
+use Rattle.std.proofs.Common.{◌≡◌, ℕ, Bool, true, false, cond, ltb, ◌&&◌, List, [], ◌∷◌, length, Some, None, Result, Ok, Err, refl, sym, ◌∙◌}
 use Rattle.std.specs.Prelude.{bytes_eq}
 use Rattle.game_trait.specs.declared.command.Command.{Command}
 use Rattle.game_trait.specs.declared.command.Act.TheVariants.{Go, Left, Right}
@@ -10,10 +10,10 @@ use Rattle.match_file.specs.declared.fault.Refused.{Refused}
 use Rattle.match_file.specs.declared.fault.TextFault.{TextFault}
 use Rattle.match_file.specs.declared.fault.TextFault.TheVariants as faults
 use Rattle.match_file.specs.declared.opening.Sides.{Sides}
+use Rattle.match_file.specs.declared.script_line.ScriptLine.{ScriptLine}
 use Rattle.match_file.specs.Lines.{Lines, torn, line, words_of, lines_of}
-use Rattle.match_file.specs.Text.{end_word, face_word, act_word}
-use Rattle.match_file.specs.Data.{MatchData}
-use Rattle.match_file.specs.Reading.{IsShape, Fails, shape, line_at, front_at, last_at, behind, at_least, number_in, head_at, number_at, grid_at, opening_at, face_of, player_words, player_at, act_of, command_words, command_at, added, is_end, commands_at, match_at, read_text}
+use Rattle.match_file.specs.Text.{script_word, end_word, face_word, act_word}
+use Rattle.match_file.specs.Reading.{IsShape, Fails, shape, line_at, front_at, last_at, behind, at_least, number_in, head_at, number_at, grid_at, opening_at, face_of, player_words, player_at, act_of, command_words, command_at, added, is_closing, commands_at, tick_at, turn_at, arrive_at, step_at, kind_at, script_line_at, lengthened, is_end, script_at, closing_at, match_at, read_text}
 
 -- where there is a fault it is this one
 pub record OnlyShape {A : Type 0} (r : Result A Refused) : Type 0 where
@@ -119,12 +119,54 @@ commands_shape : (ticks : ℕ) (so_far : List Command) (lines : Lines) → OnlyS
 unfolding commands_at
 commands_shape ticks so_far (torn bytes) = refused
 commands_shape ticks so_far (line l rest) =
-    either (ltb 120 (length l)) _ _ refused (either (bytes_eq l end_word) _ _ (chosen (is_end rest) so_far _ refused) (bind _ _ (command_shape ticks l) (λ x. bind _ _ (added_shape so_far x) (λ more. commands_shape ticks more rest))))
+    either (ltb 120 (length l)) _ _ refused (chosen (is_closing l) (so_far, line l rest) _ (bind _ _ (command_shape ticks l) (λ x. bind _ _ (added_shape so_far x) (λ more. commands_shape ticks more rest))))
+
+tick_shape : (words : List (List ℕ)) → OnlyShape (tick_at words)
+unfolding tick_at
+tick_shape words = bind _ _ (last_shape words) (λ word. bind _ _ (number_shape 0 0 word) (λ mirror. read))
+
+turn_shape : (words : List (List ℕ)) → OnlyShape (turn_at words)
+unfolding turn_at
+turn_shape words = bind _ _ (last_shape words) (λ word. bind _ _ (number_shape 0 0 word) (λ mirror. read))
+
+arrive_shape : (commands : List Command) (words : List (List ℕ)) → OnlyShape (arrive_at commands words)
+unfolding arrive_at
+arrive_shape commands words =
+    bind _ _ (front_shape words) (λ first. bind _ _ (front_shape first.1) (λ second. bind _ _ (last_shape second.1) (λ third. bind _ _ (number_shape 0 0 first.0) (λ mirror. bind _ _ (number_shape 0 0 second.0) (λ from. bind _ _ (number_shape 0 _ third) (λ number. either _ _ _ read refused))))))
+
+step_shape : (words : List (List ℕ)) → OnlyShape (step_at words)
+unfolding step_at
+step_shape words =
+    bind _ _ (front_shape words) (λ first. bind _ _ (last_shape first.1) (λ second. bind _ _ (number_shape 0 0 first.0) (λ mirror. bind _ _ (number_shape 0 0 second) (λ copy. read))))
+
+kind_shape : (commands : List Command) (word : List ℕ) (words : List (List ℕ)) → OnlyShape (kind_at commands word words)
+unfolding kind_at
+kind_shape commands word words =
+    either _ _ _ (tick_shape words) (either _ _ _ (turn_shape words) (either _ _ _ (arrive_shape commands words) (either _ _ _ (step_shape words) refused)))
+
+script_line_shape : (commands : List Command) (l : List ℕ) → OnlyShape (script_line_at commands l)
+unfolding script_line_at
+script_line_shape commands l = bind _ _ (front_shape (words_of l)) (λ words. kind_shape commands words.0 words.1)
+
+lengthened_shape : (script : List ScriptLine) (s : ScriptLine) → OnlyShape (lengthened script s)
+unfolding lengthened
+lengthened_shape script s = either _ _ _ read refused
+
+script_shape : (commands : List Command) (so_far : List ScriptLine) (lines : Lines) → OnlyShape (script_at commands so_far lines)
+unfolding script_at
+script_shape commands so_far (torn bytes) = refused
+script_shape commands so_far (line l rest) =
+    either (ltb 120 (length l)) _ _ refused (either (bytes_eq l end_word) _ _ (chosen (is_end rest && ltb 0 (length so_far)) so_far _ refused) (bind _ _ (script_line_shape commands l) (λ s. bind _ _ (lengthened_shape so_far s) (λ more. script_shape commands more rest))))
+
+closing_shape : (commands : List Command) (lines : Lines) → OnlyShape (closing_at commands lines)
+unfolding closing_at
+closing_shape commands lines =
+    bind _ _ (line_shape lines) (λ l. either (bytes_eq l.0 end_word) _ _ (chosen (is_end l.1) [] _ refused) (either (bytes_eq l.0 script_word) _ _ (script_shape commands [] l.1) refused))
 
 match_shape : (lines : Lines) → OnlyShape (match_at lines)
 unfolding match_at
 match_shape lines =
-    bind _ _ (opening_shape lines) (λ opening. bind _ _ (player_shape _ opening.1) (λ player. bind _ _ (commands_shape _ [] player.1) (λ commands. read)))
+    bind _ _ (opening_shape lines) (λ opening. bind _ _ (player_shape _ opening.1) (λ player. bind _ _ (commands_shape _ [] player.1) (λ commands. bind _ _ (closing_shape commands.0 commands.1) (λ script. read))))
 
 -- A text that isn't read is refused as a whole.
 pub read_text-err : (text : List ℕ) (e : Refused) → read_text text ≡ Err e → e ≡ shape

@@ -5,5 +5,10 @@ pub mod Spaced
 pub mod LineLaws
 pub mod NameLaws
 pub mod CommandTexts
+pub mod ScriptLaws
+pub mod ScriptLines
+pub mod ScriptTexts
+pub mod ScriptData
 pub mod FaultLaws
 pub mod MatchLaws
+pub mod TextLength

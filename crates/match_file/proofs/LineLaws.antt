@@ -1,7 +1,7 @@
 -- Each kind of line both ways: what is read from it stands in it, and what stands in it is read.
-use Rattle.std.proofs.Common.{◌≡◌, ◌≢◌, ℕ, zero, suc, ◌+◌, ◌-◌, ◌^◌, ◌<◌, ◌≤◌, Bool, true, false, not, cond, eqb, ltb, leb, ◌&&◌, List, [], ◌∷◌, ◌++◌, length, Option, Some, None, Result, Ok, Err, refl, sym, ap, subst, ◌∙◌, arith, lit<, lit≤, length-append}
-use Rattle.std.specs.Prelude.{bytes_eq, decimal, nat_le, nat_lt, codes}
-use Rattle.std.specs.List.{list_all, join_with_byte}
+use Rattle.std.proofs.Common.{◌≡◌, ◌≢◌, ℕ, ◌+◌, ◌-◌, ◌^◌, ◌<◌, ◌≤◌, Bool, true, false, cond, ltb, ◌&&◌, List, [], ◌∷◌, length, Option, Some, None, Result, Ok, Err, refl, sym, ap, subst, ◌∙◌, arith, lit<, lit≤, length-append}
+use Rattle.std.specs.Prelude.{bytes_eq, decimal}
+use Rattle.std.specs.List.{join_with_byte}
 use Rattle.std.proofs.lemmas.Bool.{ltb-false, ltb-true, lt-ltb, le-ltb, and_parts}
 use Rattle.std.proofs.lemmas.Fmt.{length-decimal-le}
 use Rattle.std.proofs.lemmas.Slice.Eq.{bytes_eq-Decides}
@@ -13,13 +13,13 @@ use Rattle.arena_rules.specs.declared.face.Face.TheVariants.{N, E, S, W}
 use Rattle.tss_io.specs.Decimals.{number_of}
 use Rattle.tss_io.specs.Reading.{◌>>=◌}
 use Rattle.tss_io.proofs.DecimalLaws.{number_of-some, number_of-decimal}
-use Rattle.tss_io.proofs.Reading.{bind_ok, then, guard_ok, guard_then, unless_ok, unless_then}
+use Rattle.tss_io.proofs.Reading.{bind_ok, then, guard_ok, unless_ok}
 use Rattle.match_file.specs.declared.fault.Refused.{Refused}
 use Rattle.match_file.specs.declared.opening.Opening.{Opening}
 use Rattle.match_file.specs.declared.opening.Sides.{Sides}
 use Rattle.match_file.specs.Lines.{Lines, torn, line, words_of, spaced}
 use Rattle.match_file.specs.Names.{is_name}
-use Rattle.match_file.specs.Text.{length_word, grid_word, mirrors_word, delays_word, pace_word, player_word, command_word, end_word, head_words, face_word, act_word, player_line, command_line}
+use Rattle.match_file.specs.Text.{length_word, grid_word, mirrors_word, delays_word, pace_word, player_word, command_word, head_words, face_word, act_word, player_line, command_line}
 use Rattle.match_file.specs.Reading.{shape, line_at, front_at, last_at, behind, at_least, number_in, head_at, number_at, grid_at, opening_at, face_of, NamedPlace, player_words, PlayerData, player_at, act_of, CommandParts, command_words, command_at}
 use Rattle.match_file.proofs.Spaced.{IsWord, AreWords, words_of-spaced, spaced-words_of, IsWord-decimal, IsWord-name, length-name}
 
@@ -91,7 +91,7 @@ head_takes lines rest e =
     let g = unless_ok (bytes_eq a.0.0 (spaced head_words)) shape a.0.1 rest a.2 in
     line_takes lines a.0 a.1 ∙ rw (same_words a.0.0 (spaced head_words) g.0, g.1) refl
 
-head_short : length (spaced head_words) ≤ 120
+pub head_short : length (spaced head_words) ≤ 120
 unfolding spaced head_words
 head_short = lit≤ tt
 
@@ -168,7 +168,7 @@ unfolding command_word
 command_keyword = record { fits = refl; short = lit≤ tt }
 
 -- a number of at most ten digits
-short_number : (n : ℕ) → n < 2 ^ 32 → length (decimal n) ≤ 10
+pub short_number : (n : ℕ) → n < 2 ^ 32 → length (decimal n) ≤ 10
 short_number n small = length-decimal-le 10 n (omega arith) (omega arith) (omega arith)
 
 pub number_word : (n : ℕ) → n < 2 ^ 32 → IsWord (decimal n)
@@ -300,13 +300,19 @@ player_takes sides lines p rest e =
     let d = number_takes 0 (2 ^ 32 - 1) words.y y y_is in
     let whole : lines ≡ line (spaced (player_line made.name made.home)) l.1 = cc in
     subst (λ (q : PlayerData × Lines). (lines ≡ line (spaced (player_line q.0.name q.0.home)) q.1) × IsPlaced sides q.0) g.1
-      (whole, record { name = named.0; column = ltb-true _ _ inside.0; row = ltb-true _ _ inside.1 })))))
+    (whole, record { name = named.0; column = ltb-true _ _ inside.0; row = ltb-true _ _ inside.1 })))))
 
 pub player_fits : (sides : Sides) (p : PlayerData) → IsPlaced sides p → sides.width ≤ 64 → sides.height ≤ 64 → AreWords (player_line p.name p.home)
 player_fits sides p h narrow low =
     let column = h.column in
     let row = h.row in
     (player_keyword.fits, (IsWord-name p.name h.name, (number_word p.home.x (omega arith), (number_word p.home.y (omega arith), ((face_fits p.home.face).0, tt)))))
+
+pub player_short : (sides : Sides) (p : PlayerData) → IsPlaced sides p → sides.width ≤ 64 → sides.height ≤ 64 → length (spaced (player_line p.name p.home)) ≤ 120
+player_short sides p h narrow low =
+    let column = h.column in
+    let row = h.row in
+    omega (arith, spaced_short (player_line p.name p.home), player_keyword.short, length-name p.name h.name, short_number p.home.x (omega arith), short_number p.home.y (omega arith), (face_fits p.home.face).1)
 
 pub player_again : (sides : Sides) (p : PlayerData) (rest : Lines) → IsPlaced sides p → sides.width ≤ 64 → sides.height ≤ 64
     → player_at sides (line (spaced (player_line p.name p.home)) rest) ≡ Ok (p, rest)
@@ -318,12 +324,12 @@ player_again sides p rest h narrow low =
     let column = h.column in
     let row = h.row in
     let fit = player_fits sides p h narrow low in
-    let short : length (spaced words) ≤ 120 = omega (arith, spaced_short words, player_keyword.short, length-name p.name h.name, short_number x (omega arith), short_number y (omega arith), (face_fits p.home.face).1) in
+    let short : length (spaced words) ≤ 120 = player_short sides p h narrow low in
     let in_column : ltb x sides.width ≡ true = lt-ltb _ _ column in
     let in_row : ltb y sides.height ≡ true = lt-ltb _ _ row in
     then _ _ _ _ (line_again (spaced words) rest short)
     (then _ _ _ _ (then _ _ _ _ (behind_again player_word p.name (decimal x ∷ decimal y ∷ face_word p.home.face ∷ []) fit)
-      (then _ _ _ _ (face_again p.home.face) refl))
+    (then _ _ _ _ (face_again p.home.face) refl))
     (then _ _ _ _ (number_again 0 (2 ^ 32 - 1) x (omega arith) (omega arith) (lit< tt))
     (then _ _ _ _ (number_again 0 (2 ^ 32 - 1) y (omega arith) (omega arith) (lit< tt)) (rw (h.name, in_column, in_row) refl))))
 
@@ -365,7 +371,7 @@ command_takes ticks l x e =
     let same : made ≡ x = cc in
     let whole : l ≡ spaced (command_line made) = cc in
     subst (λ (q : Command). (l ≡ spaced (command_line q)) × IsPlainCommand ticks q) same
-      (whole, record { time = b.2; from = c.2; number = d.2; player = f.2; act = a.1 }))))))
+    (whole, record { time = b.2; from = c.2; number = d.2; player = f.2; act = a.1 }))))))
 
 pub command_short : (ticks : ℕ) (x : Command) → ticks ≤ 8192 → IsPlainCommand ticks x → length (spaced (command_line x)) ≤ 120
 command_short ticks x few h =
@@ -387,7 +393,7 @@ pub command_again : (ticks : ℕ) (x : Command) → ticks ≤ 8192 → IsPlainCo
 unfolding command_at command_words front_at last_at
 command_again ticks x few h =
     then _ _ _ _ (then _ _ _ _ (behind_again command_word (decimal x.time) (decimal x.from ∷ decimal x.number ∷ decimal x.player ∷ act_word x.act ∷ []) (command_fits ticks x few h))
-      (then _ _ _ _ (act_again x.act h.act) refl))
+    (then _ _ _ _ (act_again x.act h.act) refl))
     (then _ _ _ _ (number_again 0 (ticks - 1) x.time (omega arith) h.time (omega arith))
     (then _ _ _ _ (number_again 0 0 x.from (omega arith) h.from (lit< tt))
     (then _ _ _ _ (number_again 0 999999 x.number (omega arith) h.number (lit< tt))

@@ -1,13 +1,12 @@
 -- Texts, their lines and their words.
-use Rattle.std.proofs.Common.{◌≡◌, ℕ, zero, suc, ◌+◌, ◌<◌, ◌≤◌, Bool, true, false, cond, eqb, ltb, List, [], ◌∷◌, ◌++◌, length, take, drop, Option, Some, None, refl, sym, ap, subst, ◌∙◌, append_assoc, arith, add-one}
+use Rattle.std.proofs.Common.{◌≡◌, ℕ, suc, ◌+◌, Bool, true, false, cond, eqb, ltb, List, [], ◌∷◌, length, take, drop, Option, Some, None, refl, ap, ◌∙◌, arith}
 use Rattle.std.specs.Prelude.{not, position}
-use Rattle.std.specs.List.{position_or_len, prefix_len, before_first, after_first, slice_split, onto_first}
+use Rattle.std.specs.List.{position_or_len, onto_first}
 use Rattle.std.proofs.lemmas.Bool.{eqb-true}
 use Rattle.std.proofs.lemmas.Bool.Decides.{nat_tests}
 use Rattle.std.proofs.lemmas.List.{drop-drop}
 use Rattle.std.proofs.lemmas.Option.{cond_some}
-use Rattle.tss_io.specs.Reading.{as_line}
-use Rattle.match_file.specs.Lines.{fronted, cut_at, Lines, torn, line, onto, lines_of, text_of, words_of, spaced}
+use Rattle.match_file.specs.Lines.{fronted, cut_at, Lines, torn, line, onto, lines_of, text_of, words_of}
 
 -- the two parts round a place
 abbrev parts_at : ℕ → List ℕ → Option (List ℕ × List ℕ)

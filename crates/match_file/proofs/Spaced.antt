@@ -1,15 +1,14 @@
 -- Lines of words, and texts of such lines, are read as they were written.
-use Rattle.std.proofs.Common.{◌≡◌, ℕ, zero, suc, ◌+◌, ◌*◌, ◌^◌, ◌/◌, ◌%◌, ◌<◌, ◌≤◌, Bool, true, false, cond, eqb, ltb, leb, ◌&&◌, List, [], ◌∷◌, ◌++◌, length, map, Option, Some, None, Result, Ok, Err, refl, sym, ap, subst, ◌∙◌, append_assoc, arith, length-append, lit<}
-use Rattle.std.specs.Prelude.{bytes_eq, decimal, nat_le}
-use Rattle.std.specs.List.{All, AllByRecursion, list_all, slice_split, join_with_byte}
-use Rattle.std.proofs.lemmas.Bool.{eqb-true, and_parts, and_left, and_right}
+use Rattle.std.proofs.Common.{◌≡◌, ℕ, ◌+◌, ◌^◌, ◌%◌, ◌<◌, ◌≤◌, Bool, true, false, eqb, ◌&&◌, List, [], ◌∷◌, ◌++◌, length, refl, ap, ◌∙◌, arith, lit<}
+use Rattle.std.specs.Prelude.{decimal, nat_le}
+use Rattle.std.specs.List.{AllByRecursion, list_all, join_with_byte}
+use Rattle.std.proofs.lemmas.Bool.{and_parts}
 use Rattle.std.proofs.lemmas.Bool.Decides.{nat_tests}
-use Rattle.std.proofs.lemmas.Fmt.{decimal_by_steps, length-decimal-le}
+use Rattle.std.proofs.lemmas.Fmt.{decimal_by_steps}
 use Rattle.std.proofs.lemmas.List.Elements.{All-from_recursion}
 use Rattle.std.proofs.lemmas.List.Splits.{slice_split_none, slice_split_at, join_with_byte-slice_split}
-use Rattle.std.proofs.lemmas.Slice.Eq.{bytes_eq-Decides}
 use Rattle.tss_io.specs.Reading.{as_line}
-use Rattle.match_file.specs.Lines.{Lines, torn, line, onto, lines_of, text_of, words_of, spaced}
+use Rattle.match_file.specs.Lines.{Lines, torn, line, lines_of, text_of, words_of, spaced}
 use Rattle.match_file.specs.Names.{is_letter, is_name_byte, is_name}
 use Rattle.match_file.specs.Text.{before}
 

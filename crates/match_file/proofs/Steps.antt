@@ -1,9 +1,9 @@
 -- Single steps of reading: a line, a word, a number.
-use Rattle.std.proofs.Common.{◌≡◌, ℕ, zero, suc, ◌+◌, ◌<◌, ◌≤◌, Bool, true, false, cond, ltb, List, [], ◌∷◌, ◌++◌, length, Option, Some, None, Result, Ok, Err, refl, sym, ap, subst, ◌∙◌, arith}
-use Rattle.std.proofs.lemmas.Bool.{ltb-false, lt-ltb, le-ltb}
-use Rattle.match_file.specs.Lines.{cut_at, Lines, torn, line, lines_of, words_of}
+use Rattle.std.proofs.Common.{◌≡◌, ℕ, ◌<◌, ◌≤◌, true, false, ltb, List, [], ◌∷◌, length, Some, None, Ok, Err, refl}
+use Rattle.std.proofs.lemmas.Bool.{lt-ltb, le-ltb}
+use Rattle.match_file.specs.Lines.{cut_at, lines_of, words_of}
 use Rattle.match_file.specs.Reading.{shape, line_at, front_at, last_at}
-use Rattle.match_file.proofs.Lines.{lines_by, lines_of-cut, words_by, words_of-cut}
+use Rattle.match_file.proofs.Lines.{lines_of-cut, words_by, words_of-cut}
 
 -- ---- steps, by the first newline or space
 

@@ -75,7 +75,7 @@ pub record IsMatch (m : MatchData) : Type 0 where
   pub script : AllByRecursion (IsScriptLine m) m.script
   pub shown : count_by shows m.script ≤ 1024
 
--- a match of one mirror, one copy and one player, without walls, pickups, shots and script
+-- a match of one mirror, one copy and one player, without walls, pickups and shots, whose script prints no world and no run
 pub record IsPlain (m : MatchData) : Type 0 where
   pub sound : IsMatch m
   pub mirror : m.mirrors ≡ 1
@@ -84,4 +84,4 @@ pub record IsPlain (m : MatchData) : Type 0 where
   pub walls : m.layout.grid.walls ≡ replicate 64 0
   pub pickups : m.layout.pickups ≡ []
   pub acts : AllByRecursion (λ x. x.act ≢ Shoot) m.commands
-  pub script : m.script ≡ []
+  pub script : AllByRecursion (λ s. shows s ≡ false) m.script

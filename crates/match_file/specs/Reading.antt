@@ -1,8 +1,8 @@
 -- Reading a match text from its first line to its end, with the first fault that is met. Now each fault is that the text isn't
 -- of the plain form.
-use Rattle.std.specs.Prelude.{◌≡◌, ℕ, ◌-◌, ◌^◌, Bool, true, false, cond, ◌&&◌, ◌||◌, not, nat_lt, nat_le, List, [], ◌∷◌, ◌++◌, length, replicate, Option, Some, None, Result, Ok, Err, if◌then◌else◌, bytes_eq, codes}
+use Rattle.std.specs.Prelude.{◌≡◌, ℕ, ◌-◌, ◌^◌, Bool, true, false, ◌&&◌, ◌||◌, not, nat_lt, List, [], ◌∷◌, ◌++◌, length, replicate, Option, Some, None, Result, Ok, Err, if◌then◌else◌, bytes_eq}
 use Rattle.game_trait.specs.declared.command.Act.{Act}
-use Rattle.game_trait.specs.declared.command.Act.TheVariants.{Go, Left, Right, Shoot}
+use Rattle.game_trait.specs.declared.command.Act.TheVariants.{Go, Left, Right}
 use Rattle.game_trait.specs.declared.command.Command.{Command}
 use Rattle.arena_rules.specs.declared.face.Face.{Face}
 use Rattle.arena_rules.specs.declared.face.Face.TheVariants.{N, E, S, W}
@@ -18,10 +18,12 @@ use Rattle.match_file.specs.declared.opening.Sides.{Sides}
 use Rattle.match_file.specs.declared.player.Player.{Player}
 use Rattle.match_file.specs.declared.player.PlayerWords.{PlayerWords}
 use Rattle.match_file.specs.declared.commands.CommandWords.{CommandWords}
+use Rattle.match_file.specs.declared.script_line.ScriptLine.{ScriptLine}
+use Rattle.match_file.specs.declared.script_line.ScriptLine.TheVariants.{Tick, Turn, Arrive, Step}
 use Rattle.match_file.specs.Lines.{Lines, torn, line, lines_of, words_of, spaced}
 use Rattle.match_file.specs.Names.{is_name, has_command}
 use Rattle.match_file.specs.Data.{MatchData}
-use Rattle.match_file.specs.Text.{length_word, grid_word, mirrors_word, delays_word, pace_word, player_word, command_word, end_word, head_words, face_word, act_word}
+use Rattle.match_file.specs.Text.{length_word, grid_word, mirrors_word, delays_word, pace_word, player_word, command_word, script_word, end_word, tick_word, turn_word, arrive_word, step_word, head_words, face_word, act_word}
 
 -- what a function returned, seen by view, is what reading gives
 abbrev pub Answers : {X Y : Type 0} → (X → Y) → Result X Refused → Result Y Refused → Type 0
@@ -132,9 +134,11 @@ pub record NamedPlace : Type 0 where
   pub y : List ℕ
   pub face : Face
 
+-- those words, without where they lie in memory
 abbrev pub words_seen : PlayerWords → NamedPlace
 words_seen words = record { name = words.name.now; x = words.x.now; y = words.y.now; face = words.face }
 
+-- the words of a line, where they are a player's
 unfoldable pub player_words : List ℕ → Result NamedPlace Refused
 player_words l = do
   words ← behind player_word l
@@ -150,9 +154,11 @@ pub record PlayerData : Type 0 where
   pub name : List ℕ
   pub home : Spot
 
+-- the same, without where the name lies in memory
 abbrev pub player_seen : Player → PlayerData
 player_seen player = record { name = player.name.now; home = player.home }
 
+-- a player's line, whose cell is in the grid, and the lines after it
 unfoldable pub player_at : Sides → Lines → Result (PlayerData × Lines) Refused
 player_at sides lines = do
   l ← line_at lines
@@ -160,8 +166,8 @@ player_at sides lines = do
   x ← number_in 0 (2 ^ 32 - 1) words.x
   y ← number_in 0 (2 ^ 32 - 1) words.y
   if is_name words.name && (nat_lt x sides.width && nat_lt y sides.height)
-    then Ok (record { name = words.name; home = record { x = x; y = y; face = words.face } }, l.1)
-    else Err shape
+      then Ok (record { name = words.name; home = record { x = x; y = y; face = words.face } }, l.1)
+      else Err shape
 
 -- the act that a word names; no shot is in the plain form
 unfoldable pub act_of : List ℕ → Result Act Refused
@@ -179,9 +185,11 @@ pub record CommandParts : Type 0 where
   pub player : List ℕ
   pub act : Act
 
+-- those words, without where they lie in memory
 abbrev pub command_seen : CommandWords → CommandParts
 command_seen words = record { time = words.time.now; from = words.from.now; number = words.number.now; player = words.player.now; act = words.act }
 
+-- the words of a line, where they are a command's
 unfoldable pub command_words : List ℕ → Result CommandParts Refused
 command_words l = do
   words ← behind command_word l
@@ -210,32 +218,116 @@ added commands x =
     then Ok (commands ++ x ∷ [])
     else Err shape
 
+-- the line closes the commands: the end, or the opening of the script
+abbrev pub is_closing : List ℕ → Bool
+is_closing l = bytes_eq l end_word || bytes_eq l script_word
+
+-- a line behind the commands so far: with its command there are these and the lines after it, or it closes them
+abbrev pub line_step : ℕ → List Command → List ℕ × Lines → Result (List Command × Option Lines) Refused
+line_step ticks so_far l =
+    if is_closing l.0 then Ok (so_far, None)
+    else (command_at ticks l.0 >>= λ x. added so_far x >>= λ more. Ok (more, Some l.1))
+
+-- the same for the next line
+unfoldable pub commands_step : ℕ → List Command → Lines → Result (List Command × Option Lines) Refused
+commands_step ticks so_far lines = line_at lines >>= line_step ticks so_far
+
+-- the commands so far and those of the lines up to the one that closes them, and the lines from that one on
+unfoldable pub commands_at : ℕ → List Command → Lines → Result (List Command × Lines) Refused
+commands_at ticks so_far (torn bytes) = Err shape
+commands_at ticks so_far (line l rest) =
+    if nat_lt 120 (length l) then Err shape
+    else (if is_closing l then Ok (so_far, line l rest)
+    else (command_at ticks l >>= λ x. added so_far x >>= λ more. commands_at ticks more rest))
+
+-- a mirror's tick, by the words behind the first
+unfoldable pub tick_at : List (List ℕ) → Result ScriptLine Refused
+tick_at words = do
+  word ← last_at words
+  mirror ← number_in 0 0 word
+  Ok (Tick mirror)
+
+-- a mirror's turn, in the same way
+unfoldable pub turn_at : List (List ℕ) → Result ScriptLine Refused
+turn_at words = do
+  word ← last_at words
+  mirror ← number_in 0 0 word
+  Ok (Turn mirror)
+
+-- the arrival of one of the commands
+unfoldable pub arrive_at : List Command → List (List ℕ) → Result ScriptLine Refused
+arrive_at commands words = do
+  first ← front_at words
+  second ← front_at first.1
+  third ← last_at second.1
+  mirror ← number_in 0 0 first.0
+  from ← number_in 0 0 second.0
+  number ← number_in 0 999999 third
+  if has_command from number commands then Ok (Arrive mirror from number) else Err shape
+
+-- a copy's step
+unfoldable pub step_at : List (List ℕ) → Result ScriptLine Refused
+step_at words = do
+  first ← front_at words
+  second ← last_at first.1
+  mirror ← number_in 0 0 first.0
+  copy ← number_in 0 0 second
+  Ok (Step mirror copy)
+
+-- a script's line of the kind that the first word names; no world and no run is in the plain form
+unfoldable pub kind_at : List Command → List ℕ → List (List ℕ) → Result ScriptLine Refused
+kind_at commands word words =
+    if bytes_eq word tick_word then tick_at words
+    else (if bytes_eq word turn_word then turn_at words
+    else (if bytes_eq word arrive_word then arrive_at commands words
+    else (if bytes_eq word step_word then step_at words
+    else Err shape)))
+
+-- a line of the script in a match of these commands
+unfoldable pub script_line_at : List Command → List ℕ → Result ScriptLine Refused
+script_line_at commands l = front_at (words_of l) >>= λ words. kind_at commands words.0 words.1
+
+-- the script with one more line, where there is room
+unfoldable pub lengthened : List ScriptLine → ScriptLine → Result (List ScriptLine) Refused
+lengthened script s = if nat_lt (length script) 262144 then Ok (script ++ s ∷ []) else Err shape
+
 -- no byte is left
 abbrev pub is_end : Lines → Bool
 is_end (torn []) = true
 is_end (torn (b ∷ bytes)) = false
 is_end (line l rest) = false
 
--- a line behind the commands so far: with its command there are these and the lines after it, or it is the last line
-abbrev pub line_step : ℕ → List Command → List ℕ × Lines → Result (List Command × Option Lines) Refused
-line_step ticks so_far l =
-    if bytes_eq l.0 end_word then (if is_end l.1 then Ok (so_far, None) else Err shape)
-    else (command_at ticks l.0 >>= λ x. added so_far x >>= λ more. Ok (more, Some l.1))
+-- a line behind the script so far: with it there are these and the lines after it, or it is the last line
+abbrev pub script_line_step : List Command → List ScriptLine → List ℕ × Lines → Result (List ScriptLine × Option Lines) Refused
+script_line_step commands so_far l =
+    if bytes_eq l.0 end_word then (if is_end l.1 && nat_lt 0 (length so_far) then Ok (so_far, None) else Err shape)
+    else (script_line_at commands l.0 >>= λ s. lengthened so_far s >>= λ more. Ok (more, Some l.1))
 
-unfoldable pub commands_step : ℕ → List Command → Lines → Result (List Command × Option Lines) Refused
-commands_step ticks so_far lines = line_at lines >>= line_step ticks so_far
+-- the same for the next line
+unfoldable pub script_step : List Command → List ScriptLine → Lines → Result (List ScriptLine × Option Lines) Refused
+script_step commands so_far lines = line_at lines >>= script_line_step commands so_far
 
--- the commands so far and those of the lines up to the last
-unfoldable pub commands_at : ℕ → List Command → Lines → Result (List Command) Refused
-commands_at ticks so_far (torn bytes) = Err shape
-commands_at ticks so_far (line l rest) =
+-- the script so far and the lines up to the last; a script has at least one line
+unfoldable pub script_at : List Command → List ScriptLine → Lines → Result (List ScriptLine) Refused
+script_at commands so_far (torn bytes) = Err shape
+script_at commands so_far (line l rest) =
     if nat_lt 120 (length l) then Err shape
-    else (if bytes_eq l end_word then (if is_end rest then Ok so_far else Err shape)
-    else (command_at ticks l >>= λ x. added so_far x >>= λ more. commands_at ticks more rest))
+    else (if bytes_eq l end_word then (if is_end rest && nat_lt 0 (length so_far) then Ok so_far else Err shape)
+    else (script_line_at commands l >>= λ s. lengthened so_far s >>= λ more. script_at commands more rest))
+
+-- a line behind the commands: the end of the text, or the opening of the script
+abbrev pub closing_step : List Command → List ℕ × Lines → Result (List ScriptLine) Refused
+closing_step commands l =
+    if bytes_eq l.0 end_word then (if is_end l.1 then Ok [] else Err shape)
+    else (if bytes_eq l.0 script_word then script_at commands [] l.1 else Err shape)
+
+-- the script, where there is one, up to the end of the text
+unfoldable pub closing_at : List Command → Lines → Result (List ScriptLine) Refused
+closing_at commands lines = line_at lines >>= closing_step commands
 
 -- the match of these parts
-abbrev pub plain_match : Opening → PlayerData → List Command → MatchData
-plain_match opening player commands = record {
+abbrev pub plain_match : Opening → PlayerData → List Command → List ScriptLine → MatchData
+plain_match opening player commands script = record {
   length = opening.length;
   mirrors = opening.mirrors;
   delays = opening.delay ∷ [];
@@ -247,15 +339,17 @@ plain_match opening player commands = record {
   };
   names = player.name ∷ [];
   commands = commands;
-  script = [];
+  script = script;
 }
 
+-- the match of lines
 unfoldable pub match_at : Lines → Result MatchData Refused
 match_at lines = do
   opening ← opening_at lines
   player ← player_at opening.0.sides opening.1
   commands ← commands_at opening.0.length [] player.1
-  Ok (plain_match opening.0 player.0 commands)
+  script ← closing_at commands.0 commands.1
+  Ok (plain_match opening.0 player.0 commands.0 script)
 
 -- the match that a text says
 unfoldable pub read_text : List ℕ → Result MatchData Refused

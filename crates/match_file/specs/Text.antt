@@ -1,5 +1,5 @@
 -- The text of a match, as lines of words.
-use Rattle.std.specs.Prelude.{ℕ, ◌+◌, zero, suc, List, [], ◌∷◌, ◌++◌, map, filter, codes, decimal}
+use Rattle.std.specs.Prelude.{ℕ, zero, suc, List, [], ◌∷◌, ◌++◌, map, filter, codes, decimal}
 use Rattle.game_trait.specs.declared.command.Act.{Act}
 use Rattle.game_trait.specs.declared.command.Act.TheVariants.{Go, Left, Right, Shoot}
 use Rattle.game_trait.specs.declared.command.Command.{Command}
@@ -50,49 +50,73 @@ script_word = codes "script"
 unfoldable pub end_word : List ℕ
 end_word = codes "end"
 
+-- the first words of a script's lines
+unfoldable pub tick_word : List ℕ
+tick_word = codes "tick"
+
+unfoldable pub turn_word : List ℕ
+turn_word = codes "turn"
+
+unfoldable pub arrive_word : List ℕ
+arrive_word = codes "arrive"
+
+unfoldable pub step_word : List ℕ
+step_word = codes "step"
+
+unfoldable pub world_word : List ℕ
+world_word = codes "world"
+
+unfoldable pub run_word : List ℕ
+run_word = codes "run"
+
 -- the words of the first line
 unfoldable pub head_words : List (List ℕ)
 head_words = codes "tss" ∷ codes "match" ∷ codes "1" ∷ []
 
--- the words of values
+-- the word of a facing
 abbrev pub face_word : Face → List ℕ
 face_word N = codes "n"
 face_word E = codes "e"
 face_word S = codes "s"
 face_word W = codes "w"
 
+-- the word of a pickup's kind
 abbrev pub kind_word : Kind → List ℕ
 kind_word Ammo = codes "ammo"
 kind_word Heal = codes "heal"
 kind_word Gold = codes "gold"
 
+-- the word of an act
 abbrev pub act_word : Act → List ℕ
 act_word Go = codes "go"
 act_word Left = codes "left"
 act_word Right = codes "right"
 act_word Shoot = codes "shoot"
 
--- the lines of walls, pickups, players and commands
+-- a wall's line, as its words
 abbrev pub wall_line : Cell → List (List ℕ)
 wall_line cell = wall_word ∷ decimal cell.x ∷ decimal cell.y ∷ []
 
+-- a pickup's line
 abbrev pub pickup_line : PickupSpot → List (List ℕ)
 pickup_line p = pickup_word ∷ decimal p.x ∷ decimal p.y ∷ kind_word p.kind ∷ []
 
+-- a player's line
 abbrev pub player_line : List ℕ → Spot → List (List ℕ)
 player_line name home = player_word ∷ name ∷ decimal home.x ∷ decimal home.y ∷ face_word home.face ∷ []
 
+-- a command's line
 abbrev pub command_line : Command → List (List ℕ)
 command_line x = command_word ∷ decimal x.time ∷ decimal x.from ∷ decimal x.number ∷ decimal x.player ∷ act_word x.act ∷ []
 
 -- a line of the script
 abbrev pub script_line : ScriptLine → List (List ℕ)
-script_line (Tick mirror) = codes "tick" ∷ decimal mirror ∷ []
-script_line (Turn mirror) = codes "turn" ∷ decimal mirror ∷ []
-script_line (Arrive mirror from number) = codes "arrive" ∷ decimal mirror ∷ decimal from ∷ decimal number ∷ []
-script_line (Step mirror copy) = codes "step" ∷ decimal mirror ∷ decimal copy ∷ []
-script_line (World mirror copy) = codes "world" ∷ decimal mirror ∷ decimal copy ∷ []
-script_line (Run mirror copy) = codes "run" ∷ decimal mirror ∷ decimal copy ∷ []
+script_line (Tick mirror) = tick_word ∷ decimal mirror ∷ []
+script_line (Turn mirror) = turn_word ∷ decimal mirror ∷ []
+script_line (Arrive mirror from number) = arrive_word ∷ decimal mirror ∷ decimal from ∷ decimal number ∷ []
+script_line (Step mirror copy) = step_word ∷ decimal mirror ∷ decimal copy ∷ []
+script_line (World mirror copy) = world_word ∷ decimal mirror ∷ decimal copy ∷ []
+script_line (Run mirror copy) = run_word ∷ decimal mirror ∷ decimal copy ∷ []
 
 -- the numbers below n, in order
 unfoldable pub below : ℕ → List ℕ

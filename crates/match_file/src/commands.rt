@@ -2,7 +2,8 @@
 
 ghost use Rattle.std.specs.Prelude.{◌≡◌, ◌≤◌, ◌<◌, [], length, IfOk, IfSome, option_map};
 ghost use Rattle.match_file.specs.Lines.{lines_of};
-ghost use Rattle.match_file.specs.Reading.{Answers, Gives, act_of, command_words, command_seen, command_at, added, is_end, commands_step, commands_at};
+ghost use Rattle.match_file.specs.Names.{has_command};
+ghost use Rattle.match_file.specs.Reading.{Answers, Gives, act_of, command_words, command_seen, command_at, added, is_closing, commands_step, commands_at};
 
 use crate::fault::{Refused, TextFault};
 use crate::words::{self, SHAPE};
@@ -16,7 +17,7 @@ use tss_io::Seq;
 const MOST_COMMANDS: usize = 16384;
 
 /// The greatest number of a command.
-const GREATEST_NUMBER: u32 = 999999;
+pub const GREATEST_NUMBER: u32 = 999999;
 
 /// The words of a command's line behind the first; the last is an act.
 #[derive(Clone, Copy)]
@@ -84,7 +85,7 @@ fn command(ticks: u32, line: &[u8]) -> Result<Command, Refused>
 
 /// Commands in the order in which they were put, with their names, so that a name is found at once.
 #[derive(Drop)]
-struct Commands {
+pub struct Commands {
     list: Vec<Command>,
     names: HashSet<(MirrorId, Number)>,
 }
@@ -129,7 +130,14 @@ impl Commands {
         Ok(())
     }
 
-    fn into_seq(self) -> Seq<Command>
+    /// Whether one of the commands has this mirror and number.
+    pub fn has(&self, from: MirrorId, number: Number) -> bool
+        ensures { result ≡ has_command from number self.now }
+    {
+        self.names.contains(&(from, number))
+    }
+
+    pub fn into_seq(self) -> Seq<Command>
         ensures { result ≡ self }
     {
         let Commands { list, names } = self;
@@ -138,26 +146,28 @@ impl Commands {
     }
 }
 
-// Whether no byte is left.
-fn at_end(text: &[u8]) -> bool
-    ensures { result ≡ is_end (lines_of text.now) }
+// Whether the line closes the commands.
+#[tactic(auto, unfolding(crate::specs::Text::end_word, crate::specs::Text::script_word))]
+fn is_closing(line: &[u8]) -> bool
+    ensures { result ≡ is_closing line.now }
 {
-    text.is_empty()
+    line == b"end".as_slice() || line == b"script".as_slice()
 }
 
-// Puts the command of the next line to the others and answers the text behind it, or answers none where the line is the
-// last.
-#[tactic(auto, unfolding(crate::specs::Reading::commands_step, crate::specs::Text::end_word))]
-fn read_command<'a>(ticks: u32, commands: &mut Commands, text: &'a [u8]) -> Result<Option<&'a [u8]>, TextFault>
+// Puts the command of the next line to the others and answers the text behind it, or answers none where the line closes
+// them.
+#[tactic(auto, unfolding(crate::specs::Reading::commands_step))]
+fn read_command<'a>(
+    ticks: u32,
+    commands: &mut Commands,
+    text: &'a [u8],
+) -> Result<Option<&'a [u8]>, TextFault>
     requires { 1 ≤ ticks }
     ensures read { Gives (λ o. (commands.new, option_map (λ rest. lines_of rest.now) o)) result (commands_step ticks commands.old (lines_of text.now)) }
     ensures shorter { IfOk result (λ o. IfSome o (λ rest. length rest.now < length text.now)) }
 {
     let (line, rest) = words::next_line(text)?;
-    if line == b"end".as_slice() {
-        if !at_end(rest) {
-            return Err(TextFault::Refused(SHAPE));
-        }
+    if is_closing(line) {
         return Ok(None);
     }
     let command = command(ticks, line)?;
@@ -165,15 +175,15 @@ fn read_command<'a>(ticks: u32, commands: &mut Commands, text: &'a [u8]) -> Resu
     Ok(Some(rest))
 }
 
-// The commands of the lines up to the last, which ends the text.
-pub fn read_commands(alloc: Global, ticks: u32, text: &[u8]) -> Result<Seq<Command>, TextFault>
+/// The commands of the lines up to the one that closes them, and the text from that one on.
+pub fn read_commands(alloc: Global, ticks: u32, text: &[u8]) -> Result<(Commands, &[u8]), TextFault>
     requires { 1 ≤ ticks }
-    ensures { Gives (λ x. x) result (commands_at ticks [] (lines_of text.now)) }
+    ensures { Gives (λ x. (x.0, lines_of x.1.now)) result (commands_at ticks [] (lines_of text.now)) }
 {
     let mut commands = Commands::new(alloc);
     let mut rest = text;
     while let Some(after) = read_command(ticks, &mut commands, rest)? {
         rest = after;
     }
-    Ok(commands.into_seq())
+    Ok((commands, rest))
 }

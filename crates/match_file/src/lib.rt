@@ -8,6 +8,7 @@ mod game_match;
 mod opening;
 mod player;
 mod reading;
+mod script;
 mod script_line;
 mod words;
 
@@ -16,3 +17,6 @@ pub use fault::{Refused, TextFault};
 pub use game_match::Match;
 pub use reading::read_match;
 pub use script_line::ScriptLine;
+
+#[cfg(test)]
+mod tests;

@@ -19,10 +19,15 @@ pub struct Sides {
 /// What the lines up to the pace say.
 #[derive(Clone, Copy)]
 pub struct Opening {
+    /// How many ticks the match has, from 1 to 8,192.
     pub length: u32,
+    /// The sides of its grid, in cells.
     pub sides: Sides,
+    /// How many mirrors play it, now 1.
     pub mirrors: u8,
+    /// How many ticks the one copy lags, at most 1,024.
     pub delay: u32,
+    /// How many ticks a mirror may be ahead of another, at most the delay.
     pub pace: u32,
 }
 
@@ -40,7 +45,12 @@ fn read_head(text: &[u8]) -> Result<&[u8], Refused>
 
 // The number of a line that is the keyword and one number, from least to most, and the text behind the line.
 #[tactic(auto, unfolding(crate::specs::Reading::number_at))]
-fn read_number<'a>(keyword: &[u8], least: u32, most: u32, text: &'a [u8]) -> Result<(u32, &'a [u8]), Refused>
+fn read_number<'a>(
+    keyword: &[u8],
+    least: u32,
+    most: u32,
+    text: &'a [u8],
+) -> Result<(u32, &'a [u8]), Refused>
     ensures read { Answers (λ x. (x.0, lines_of x.1.now)) result (number_at keyword.now least most (lines_of text.now)) }
     ensures range { IfOk result (λ x. (least ≤ x.0) × (x.0 ≤ most)) }
 {
@@ -67,7 +77,7 @@ fn read_grid(text: &[u8]) -> Result<(Sides, &[u8]), Refused>
     Ok((Sides { width, height }, rest))
 }
 
-// What the lines up to the pace say, and the text behind them.
+/// What the lines up to the pace say, and the text behind them.
 #[tactic(auto, unfolding(crate::specs::Reading::opening_at, crate::specs::Text::length_word, crate::specs::Text::mirrors_word, crate::specs::Text::delays_word, crate::specs::Text::pace_word))]
 pub fn read_opening(text: &[u8]) -> Result<(Opening, &[u8]), Refused>
     ensures read { Answers (λ x. (x.0, lines_of x.1.now)) result (opening_at (lines_of text.now)) }

@@ -23,7 +23,9 @@ struct PlayerWords<'a> {
 /// A player's name and home.
 #[derive(Clone, Copy)]
 pub struct Player<'a> {
+    /// 1 to 12 letters from a to z and digits, a letter first.
     pub name: &'a [u8],
+    /// The cell in which the player begins, and where it looks.
     pub home: Spot,
 }
 
@@ -83,13 +85,11 @@ fn is_name(word: &[u8]) -> bool
 {
     match word {
         [] => false,
-        [first, rest @ ..] => {
-            is_letter(*first) && rest.len() <= 11 && are_name_bytes(rest)
-        }
+        [first, rest @ ..] => { is_letter(*first) && rest.len() <= 11 && are_name_bytes(rest) }
     }
 }
 
-// A player's name and home in the grid, and the text behind the line.
+/// A player's name and home in the grid, and the text behind the line.
 #[tactic(auto, unfolding(crate::specs::Reading::player_at))]
 pub fn read_player(sides: Sides, text: &[u8]) -> Result<(Player<'_>, &[u8]), Refused>
     ensures { Answers (λ x. (player_seen x.0, lines_of x.1.now)) result (player_at sides (lines_of text.now)) }

@@ -9,10 +9,10 @@ use crate::fault::TextFault;
 use crate::game_match::Match;
 use crate::opening::read_opening;
 use crate::player::read_player;
+use crate::script::read_script;
 use arena_rules::{Ground, Roster, Setup};
 use arrayvec::ArrayVec;
 use std::alloc::Global;
-use tss_io::Seq;
 
 // The match that the text says.
 #[tactic(auto, unfolding(crate::specs::Reading::read_text, crate::specs::Reading::match_at))]
@@ -21,7 +21,8 @@ fn match_of(alloc: Global, text: &[u8]) -> Result<Match, TextFault>
 {
     let (opening, rest) = read_opening(text)?;
     let (player, rest) = read_player(opening.sides, rest)?;
-    let commands = read_commands(alloc, opening.length, rest)?;
+    let (commands, rest) = read_commands(alloc, opening.length, rest)?;
+    let script = read_script(alloc, &commands, rest)?;
     let mut delays = ArrayVec::new();
     delays.push(opening.delay);
     let mut players = ArrayVec::new();
@@ -39,14 +40,14 @@ fn match_of(alloc: Global, text: &[u8]) -> Result<Match, TextFault>
             players,
         },
         roster,
-        commands,
-        script: Seq::new(alloc),
+        commands: commands.into_seq(),
+        script,
     })
 }
 
-/// Reads a match text (this project's own form). Now it reads the plain form: one mirror, one delay, one player, no walls,
-/// pickups and script, and the acts `go`, `left` and `right`. Every other text is refused as a whole, as line 0 with the
-/// cause `Shape`. `NoMemory` says nothing of the text.
+/// Reads a match text (this project's own form). Now it reads the plain form: one mirror, one delay, one player, no walls
+/// and pickups, the acts `go`, `left` and `right`, and a script of `tick`, `turn`, `arrive` and `step` lines or none. Every
+/// other text is refused as a whole, as line 0 with the cause `Shape`. `NoMemory` says nothing of the text.
 pub fn read_match(alloc: Global, text: &[u8]) -> Result<Match, TextFault>
     // What is read is a match of the plain form, and the text is its text.
     ensures found { IfOk result (λ m. IsPlain m × (text.now ≡ match_text m)) }

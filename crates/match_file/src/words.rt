@@ -11,7 +11,7 @@ use tss_io::decimal;
 /// The most bytes of a line, its newline not counted.
 const LINE_LENGTH: usize = 120;
 
-// The refusal of a text that isn't of the plain form.
+/// The refusal of a text that isn't of the plain form.
 pub const SHAPE: Refused = Refused {
     line: 0,
     cause: Cause::Shape,
@@ -39,7 +39,7 @@ fn cut(bytes: &[u8], byte: u8) -> Option<(&[u8], &[u8])>
     }
 }
 
-// The first line of the text, and the text behind its newline.
+/// The first line of the text, and the text behind its newline.
 pub fn next_line(text: &[u8]) -> Result<(&[u8], &[u8]), Refused>
     ensures read { Answers (λ x. (x.0.now, lines_of x.1.now)) result (line_at (lines_of text.now)) }
     ensures shorter { IfOk result (λ x. length x.1.now < length text.now) }
@@ -55,7 +55,7 @@ pub fn next_line(text: &[u8]) -> Result<(&[u8], &[u8]), Refused>
     }
 }
 
-// The first of the words, where others follow, and these.
+/// The first of the words, where others follow, and these.
 pub fn front(words: &[u8]) -> Result<(&[u8], &[u8]), Refused>
     ensures { Answers (λ x. (x.0.now, words_of x.1.now)) result (front_at (words_of words.now)) }
 {
@@ -65,7 +65,7 @@ pub fn front(words: &[u8]) -> Result<(&[u8], &[u8]), Refused>
     }
 }
 
-// The word, where it is the only one.
+/// The word, where it is the only one.
 pub fn last(words: &[u8]) -> Result<&[u8], Refused>
     ensures { Answers (λ x. x.now) result (last_at (words_of words.now)) }
 {
@@ -75,7 +75,7 @@ pub fn last(words: &[u8]) -> Result<&[u8], Refused>
     }
 }
 
-// The words behind the first, where that one is the keyword.
+/// The words behind the first, where that one is the keyword.
 #[tactic(auto, unfolding(crate::specs::Reading::behind))]
 pub fn words_behind<'a>(keyword: &[u8], line: &'a [u8]) -> Result<&'a [u8], Refused>
     ensures { Answers (λ x. words_of x.now) result (behind keyword.now line.now) }
@@ -87,7 +87,7 @@ pub fn words_behind<'a>(keyword: &[u8], line: &'a [u8]) -> Result<&'a [u8], Refu
     Ok(words)
 }
 
-// The number that the word writes, from least to most.
+/// The number that the word writes, from least to most.
 #[tactic(auto, unfolding(crate::specs::Reading::number_in))]
 pub fn number(least: u32, most: u32, word: &[u8]) -> Result<u32, Refused>
     ensures read { Answers (λ n. n) result (number_in least most word.now) }

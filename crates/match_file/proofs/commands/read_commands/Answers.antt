@@ -16,4 +16,4 @@ loop-commands-preserved c =
 
 pub returns : goal.returns
 returns c =
-    rw c.into_seq.ensures (steps_end c.args.ticks c.loop-commands.commands c.read_command.new.commands (lines_of c.loop-commands.rest.now) (commands_at c.args.ticks [] (lines_of c.args.text.now)) (rw c.in_default.is at c.in_ok-after.ensures.read) c.loop-commands.invariant)
+    steps_end c.args.ticks c.loop-commands.commands c.read_command.new.commands (lines_of c.loop-commands.rest.now) (commands_at c.args.ticks [] (lines_of c.args.text.now)) (rw c.in_default.is at c.in_ok-after.ensures.read) c.loop-commands.invariant

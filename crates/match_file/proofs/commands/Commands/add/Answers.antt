@@ -1,5 +1,5 @@
-use Rattle.std.proofs.Common.{◌≡◌, ◌<◌, ◌≤◌, Bool, true, false, not, cond, length, refl, sym, ap, ◌∙◌, arith}
-use Rattle.match_file.specs.Names.{same_numbers, has_command}
+use Rattle.std.proofs.Common.{◌≡◌, Bool, true, false, not, refl, sym, ap, ◌∙◌, arith}
+use Rattle.match_file.specs.Names.{has_command}
 use Rattle.match_file.proofs.CommandLaws.{added-full, added-known, added-new, has_command-push}
 use Rattle.match_file.proofs.commands.Commands.add.Goals as goal
 
@@ -17,7 +17,7 @@ pub returns-then-not-branch : goal.returns-then-not-branch
 returns-then-not-branch c =
     let x = c.args.command in
     let known : has_command x.from x.number c.self.inside.list.items ≡ true =
-        sym (c.self.invariant x.from x.number) ∙ not_not _ _ c.in_ok-insert.ensures.added ∙ ap not c.if-not-branch.true
+    sym (c.self.invariant x.from x.number) ∙ not_not _ _ c.in_ok-insert.ensures.added ∙ ap not c.if-not-branch.true
     in
     rw (← c.self.view_is) (added-known c.self.inside.list.items x known)
 
@@ -30,6 +30,6 @@ pub returns : goal.returns
 returns c =
     let x = c.args.command in
     let new : has_command x.from x.number c.self.inside.list.items ≡ false =
-        sym (c.self.invariant x.from x.number) ∙ not_not _ _ c.in_ok-insert.ensures.added ∙ ap not c.if-not-branch.false
+    sym (c.self.invariant x.from x.number) ∙ not_not _ _ c.in_ok-insert.ensures.added ∙ ap not c.if-not-branch.false
     in
     rw (c.push_reserved.ensures.items, c.reserve.ensures.items, ← c.self.view_is) (added-new c.self.inside.list.items x (omega (arith, c.self.inside.list.ok.0)) new)
