@@ -1,0 +1,6 @@
+//! The model of a mirror over whole lists, its laws, and a plain mirror that computes it; stands on `game_trait` alone.
+#![tactic(auto)]
+
+mod turned;
+
+pub use turned::Turned;
