@@ -1,0 +1,5 @@
+pub mod Runs
+pub mod Items
+pub mod Counts
+pub mod KeyOrder
+pub mod OrderedParts
