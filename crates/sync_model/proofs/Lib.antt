@@ -1,1 +1,3 @@
+pub mod Settle
+pub mod Proposals
 mod Worked
