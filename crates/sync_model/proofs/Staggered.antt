@@ -57,7 +57,7 @@ step-beats accepted [] c = refl
 step-beats accepted (run ∷ behind) zero = rw (beats-with_tick accepted run) refl
 step-beats accepted (run ∷ behind) (suc c) = ap (λ (ns : List ℕ). beats run ∷ ns) (step-beats accepted behind c)
 
-set-falls :
+pub set-falls :
     (runs : List (List Item)) (c : ℕ) → NeverRises (map beats runs) → IsBehindAhead runs c
     → NeverRises (set (map beats runs) c (beats (get_or runs c []) + 1))
 unfolding IsBehindAhead
