@@ -1,1 +1,7 @@
+pub mod Settle
+pub mod Proposals
+pub mod Lists
+pub mod Staggered
+pub mod Cases
+pub mod Clocks
 mod Worked
