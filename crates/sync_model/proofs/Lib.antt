@@ -4,4 +4,6 @@ pub mod Lists
 pub mod Staggered
 pub mod Cases
 pub mod Clocks
+pub mod Along
+pub mod Drain
 mod Worked

@@ -13,8 +13,8 @@ use Rattle.game_trait.specs.Ordered.{ticks}
 use Rattle.sync_model.specs.State.{MirrorState, last_of, step_limit}
 use Rattle.sync_model.specs.Settle.{settle, settle_one, which_repaired, is_repaired}
 use Rattle.sync_model.specs.Change.{next, said, after, answers, with_late, with_tick}
-use Rattle.sync_model.specs.Turns.{steps_from, drain_within, drain}
-use Rattle.sync_model.specs.Worked.{one_copy, three_copies, turns_of, go_at}
+use Rattle.sync_model.specs.Turns.{steps_from, turns_of, drain_within, drain}
+use Rattle.sync_model.specs.Worked.{one_copy, three_copies, go_at}
 
 repaired_twice : {W : Type 0} (o : W) → (after (three_copies o) (turns_of 3 5 ++ Arrive (go_at 1) ∷ turns_of 3 1)).runs ≡
     (Beat ∷ Cmd (go_at 1) ∷ Beat ∷ Beat ∷ Beat ∷ Beat ∷ Beat ∷ []) ∷ (Beat ∷ Cmd (go_at 1) ∷ Beat ∷ Beat ∷ Beat ∷ []) ∷ (Beat ∷ Cmd (go_at 1) ∷ Beat ∷ []) ∷ []

@@ -1,5 +1,5 @@
 -- Turns, and draining.
-use Rattle.std.specs.Prelude.{◌≡◌, ℕ, zero, suc, ◌+◌, ◌-◌, Bool, ◌==◌, if◌then◌else◌, List, [], ◌∷◌, length}
+use Rattle.std.specs.Prelude.{◌≡◌, ℕ, zero, suc, ◌+◌, ◌-◌, Bool, ◌==◌, if◌then◌else◌, List, [], ◌∷◌, ◌++◌, length}
 use Rattle.std.specs.List.{AllByRecursion, list_all}
 use Rattle.game_trait.specs.declared.event.Event.{Event}
 use Rattle.game_trait.specs.declared.event.Event.TheVariants.{Tick, Step}
@@ -15,6 +15,11 @@ steps_from c (suc n) = Step c ∷ steps_from (c + 1) n
 -- a turn: a tick, and then a step of each copy from copy 0 on
 abbrev pub turn_events : ℕ → List Event
 turn_events copies = Tick ∷ steps_from 0 copies
+
+-- the events of so many turns
+unfoldable pub turns_of : ℕ → ℕ → List Event
+turns_of copies zero = []
+turns_of copies (suc n) = turn_events copies ++ turns_of copies n
 
 -- the state after a turn
 abbrev pub turn : {W : Type 0} → MirrorState W → MirrorState W

@@ -7,7 +7,6 @@ use Rattle.game_trait.specs.declared.event.Event.{Event}
 use Rattle.game_trait.specs.declared.event.Reply.{Reply}
 use Rattle.sync_model.specs.State.{MirrorState, opening_state}
 use Rattle.sync_model.specs.Change.{after, answers}
-use Rattle.sync_model.specs.Turns.{turn_events}
 
 -- a command to go, of player and mirror 0
 abbrev pub go_at : ℕ → Command
@@ -20,8 +19,3 @@ one_copy opening = opening_state opening 4 (0 ∷ []) 8
 -- a match of eight ticks with three copies, each two ticks behind the one ahead
 abbrev pub three_copies : {W : Type 0} → W → MirrorState W
 three_copies opening = opening_state opening 8 (0 ∷ 2 ∷ 4 ∷ []) 8
-
--- the events of so many turns
-unfoldable pub turns_of : ℕ → ℕ → List Event
-turns_of copies zero = []
-turns_of copies (suc n) = turn_events copies ++ turns_of copies n
