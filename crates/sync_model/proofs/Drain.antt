@@ -13,14 +13,16 @@ use Rattle.game_trait.specs.Ordered.{ordered}
 use Rattle.game_trait.specs.Count.{times}
 use Rattle.game_trait.proofs.Runs.{beats-append, commands_of-append}
 use Rattle.game_trait.proofs.Counts.{times-append}
+use Rattle.game_trait.proofs.KeyOrder.{all-weaker}
+use Rattle.std.specs.Prelude.{◌==◌}
 use Rattle.sync_model.specs.State.{MirrorState, last_of, longest_delay, copy_clock, step_limit}
 use Rattle.sync_model.specs.Change.{next, is_idle, after}
 use Rattle.sync_model.specs.Staggered.{IsAhead, IsChained, IsComplete, IsBehindClock, IsStaggered, DelaysRise, IsWellFormed}
-use Rattle.sync_model.specs.Turns.{steps_from, turn, IsDrained, is_drained, drain_within, drain_bound, drain}
+use Rattle.sync_model.specs.Turns.{steps_from, turn_events, turn, IsDrained, is_drained, drain_within, drain_bound, drain}
 use Rattle.sync_model.proofs.Staggered.{staggered-tick, staggered-step}
-use Rattle.sync_model.proofs.Cases.{moved, ran, step-cases, next-fixed, copies_of}
+use Rattle.sync_model.proofs.Cases.{moved, ran, tick-cases, step-cases, next-fixed, after-fixed, copies_of}
 use Rattle.sync_model.proofs.Clocks.{ran-moves, ran-others, clocks-never_fall, clock-tick, clock-step, runs-tick}
-use Rattle.sync_model.proofs.Along.{turn-keeps}
+use Rattle.sync_model.proofs.Along.{steps-keep, turn-keeps}
 
 -- a run without a beat and without a command is empty
 nothing-left : (rest : List Item) → beats rest ≡ 0 → times (λ _. true) (commands_of rest) ≡ 0 → rest ≡ []
@@ -173,3 +175,146 @@ record IsNear {W : Type 0} (l : ℕ) (ds : List ℕ) (n m j : ℕ) (s : MirrorSt
   pub clock : l + last_of 0 ds ≤ s.clock + m
   pub staggered : IsStaggered s
   pub near : (i : ℕ) → i < n → l ≤ copy_clock s i + j
+
+pub staggered-turn : {W : Type 0} (s : MirrorState W) → IsStaggered s → IsStaggered (turn s)
+staggered-turn s here = turn-keeps IsStaggered (λ t h. staggered-tick t h) (λ t c h. staggered-step t c h) s here
+
+turn-clock : {W : Type 0} (s : MirrorState W) → (turn s).clock ≡ (next s Tick).clock
+unfolding after
+turn-clock s = steps-keep (λ t. t.clock ≡ (next s Tick).clock) (λ t c h. clock-step t c ∙ h) (length s.runs) 0 (next s Tick) refl
+
+-- a turn before the clock's end brings the end one tick nearer
+turn-ticks : {W : Type 0} (l : ℕ) (ds : List ℕ) (n m j : ℕ) (s : MirrorState W) → IsNear l ds n (suc m) j s → IsNear l ds n m j (turn s)
+turn-ticks l ds n m j s h =
+    let same = after-fixed (turn_events (length s.runs)) s in
+    let tick = clock-tick s h.staggered.clocks.mirror in
+    record {
+      length_is = same.length ∙ h.length_is;
+      delays_are = same.delays ∙ h.delays_are;
+      copies_are = same.copies ∙ h.copies_are;
+      clock = (let a = turn-clock s in let b = h.clock in let e = h.length_is in let f = ap (last_of 0) h.delays_are in omega arith);
+      staggered = staggered-turn s h.staggered;
+      near = λ i there. (let a = h.near i there in let b = turn-never_falls s i h.staggered in omega arith);
+    }
+
+nearer :
+    {W : Type 0} (l : ℕ) (ds : List ℕ) (n j : ℕ) (s : MirrorState W) → DelaysRise ds → IsNear l ds n 0 (suc j) s
+    → (i : ℕ) → i < n → l ≤ copy_clock (turn s) i + j
+unfolding after
+nearer l ds n j s rise h =
+    let same = next-fixed s Tick in
+    let tick = clock-tick s h.staggered.clocks.mirror in
+    steps-nearer l ds n j (length s.runs) 0 (next s Tick)
+    (record {
+      length_is = same.length ∙ h.length_is;
+      delays_are = same.delays ∙ h.delays_are;
+      copies_are = same.copies ∙ h.copies_are;
+      clock = (let b = h.clock in let e = h.length_is in let f = ap (last_of 0) h.delays_are in omega arith);
+      staggered = staggered-tick s h.staggered;
+    })
+    rise (let e = h.copies_are in omega arith) (λ i below. absurd (omega arith))
+    (λ i below. (let a = h.near i below in let b = clocks-never_fall s Tick i h.staggered in omega arith))
+
+-- a turn at the clock's end brings each copy one tick nearer
+turn-steps : {W : Type 0} (l : ℕ) (ds : List ℕ) (n j : ℕ) (s : MirrorState W) → DelaysRise ds → IsNear l ds n 0 (suc j) s → IsNear l ds n 0 j (turn s)
+turn-steps l ds n j s rise h =
+    let same = after-fixed (turn_events (length s.runs)) s in
+    let tick = clock-tick s h.staggered.clocks.mirror in
+    let e = h.length_is in
+    let f = ap (last_of 0) h.delays_are in
+    record {
+      length_is = same.length ∙ h.length_is;
+      delays_are = same.delays ∙ h.delays_are;
+      copies_are = same.copies ∙ h.copies_are;
+      clock = (let a = turn-clock s in let b = h.clock in omega arith);
+      staggered = staggered-turn s h.staggered;
+      near = nearer l ds n j s rise h;
+    }
+
+-- the test of a drained mirror
+all-at_end : (n : ℕ) (runs : List (List Item)) → list_all (λ run. beats run == n) runs ≡ true → AllByRecursion (λ run. beats run ≡ n) runs
+all-at_end n [] e = tt
+all-at_end n (run ∷ runs) e =
+    let parts = and_parts (beats run == n) (list_all (λ r. beats r == n) runs) e in
+    (eqb-true (beats run) n parts.0, all-at_end n runs parts.1)
+
+pub is_drained-true : {W : Type 0} (s : MirrorState W) → is_drained s ≡ true → IsDrained s
+is_drained-true s e = all-at_end s.length s.runs e
+
+all-from_index : {X : Type 0} (P : X → Type 0) (d : X) (xs : List X) → ((i : ℕ) → i < length xs → P (get_or xs i d)) → AllByRecursion P xs
+all-from_index P d [] h = tt
+all-from_index P d (x ∷ xs) h = (h zero (omega arith), all-from_index P d xs (λ i below. h (suc i) (omega arith)))
+
+-- clocks that are in range and not below the match's length are at it
+all-met :
+    {W : Type 0} (s : MirrorState W) (l : ℕ) (runs : List (List Item)) (delays : List ℕ)
+    → AllZip (IsBehindClock s) runs delays → s.length ≡ l → AllByRecursion (λ run. l ≤ beats run) runs → AllByRecursion (λ run. beats run ≡ s.length) runs
+all-met s l [] delays range e h = tt
+all-met s l (run ∷ runs) [] range e h = absurd range
+all-met s l (run ∷ runs) (d ∷ ds) range e h = (omega arith, all-met s l runs ds range.1 e h.1)
+
+near-drained : {W : Type 0} (l : ℕ) (ds : List ℕ) (n : ℕ) (s : MirrorState W) → IsNear l ds n 0 0 s → IsDrained s
+near-drained l ds n s h =
+    all-met s l s.runs s.delays h.staggered.clocks.copies h.length_is
+    (all-from_index (λ run. l ≤ beats run) [] s.runs (λ i below. (let a = h.near i (let e = h.copies_are in omega arith) in omega arith)))
+
+-- draining ends
+drain_within-ends :
+    {W : Type 0} (l : ℕ) (ds : List ℕ) (n : ℕ) → DelaysRise ds
+    → (k m j : ℕ) (s : MirrorState W) → k ≡ m + j → IsNear l ds n m j s → IsDrained (drain_within k s)
+unfolding drain_within
+drain_within-ends l ds n rise zero m j s sum h = near-drained l ds n s (record { length_is = h.length_is; delays_are = h.delays_are; copies_are = h.copies_are; clock = (let c = h.clock in omega arith); staggered = h.staggered; near = λ i there. (let a = h.near i there in omega arith) })
+drain_within-ends l ds n rise (suc k) zero zero s sum h = absurd (omega arith)
+drain_within-ends l ds n rise (suc k) zero (suc j) s sum h =
+    elim (is_drained s) as (λ v. is_drained s ≡ v → IsDrained (cond v s (drain_within k (turn s))))
+    [ true ↦ λ e. is_drained-true s e | false ↦ λ e. drain_within-ends l ds n rise k zero j (turn s) (omega arith) (turn-steps l ds n j s rise h) ]
+    refl
+drain_within-ends l ds n rise (suc k) (suc m) j s sum h =
+    elim (is_drained s) as (λ v. is_drained s ≡ v → IsDrained (cond v s (drain_within k (turn s))))
+    [ true ↦ λ e. is_drained-true s e | false ↦ λ e. drain_within-ends l ds n rise k m j (turn s) (omega arith) (turn-ticks l ds n m j s h) ]
+    refl
+
+pub drain-ends : {W : Type 0} (s : MirrorState W) → DelaysRise s.delays → IsStaggered s → IsDrained (drain s)
+drain-ends s rise here =
+    drain_within-ends s.length s.delays (copies_of s) rise (drain_bound s) (s.length + longest_delay s - s.clock) s.length s refl
+    (record { length_is = refl; delays_are = refl; copies_are = refl; clock = omega arith; staggered = here; near = λ i there. omega arith })
+
+-- what ticks and steps keep, draining keeps
+drain_within-keeps :
+    {W : Type 0} (Q : MirrorState W → Type 0) → ((s : MirrorState W) → Q s → Q (next s Tick))
+    → ((s : MirrorState W) (c : ℕ) → Q s → Q (next s (Step c)))
+    → (k : ℕ) (s : MirrorState W) → Q s → Q (drain_within k s)
+unfolding drain_within
+drain_within-keeps Q tick step zero s here = here
+drain_within-keeps Q tick step (suc k) s here =
+    elim (is_drained s) as (λ v. Q (cond v s (drain_within k (turn s))))
+    [ true ↦ here | false ↦ drain_within-keeps Q tick step k (turn s) (turn-keeps Q tick step s here) ]
+
+pub staggered-drain : {W : Type 0} (s : MirrorState W) → IsStaggered s → IsStaggered (drain s)
+staggered-drain s here = drain_within-keeps IsStaggered (λ t h. staggered-tick t h) (λ t c h. staggered-step t c h) (drain_bound s) s here
+
+-- draining accepts and turns away nothing, and spends no room
+pub record SameArrivals {W : Type 0} (s t : MirrorState W) : Type 0 where
+  pub accepted : t.accepted ≡ s.accepted
+  pub turned : t.turned ≡ s.turned
+  pub spare : t.spare ≡ s.spare
+  pub opening : t.opening ≡ s.opening
+  pub length : t.length ≡ s.length
+  pub delays : t.delays ≡ s.delays
+
+pub drain-arrivals : {W : Type 0} (s : MirrorState W) → SameArrivals s (drain s)
+drain-arrivals s =
+    drain_within-keeps (SameArrivals s)
+    (λ t h. tick-cases t (λ u r. SameArrivals s u) (λ e. h) (λ e. record { accepted = h.accepted; turned = h.turned; spare = h.spare; opening = h.opening; length = h.length; delays = h.delays }))
+    (λ t c h. step-cases t c (λ u r. SameArrivals s u) (λ e. h) (λ e. record { accepted = h.accepted; turned = h.turned; spare = h.spare; opening = h.opening; length = h.length; delays = h.delays }))
+    (drain_bound s) s (record { accepted = refl; turned = refl; spare = refl; opening = refl; length = refl; delays = refl })
+
+-- after draining each run is the ordered part of what was accepted
+pub drain-ordered :
+    {W : Type 0} (s : MirrorState W) → DelaysRise s.delays → IsStaggered s
+    → AllByRecursion (λ run. run ≡ ordered s.accepted 0 s.length) (drain s).runs
+drain-ordered s rise here =
+    let same = drain-arrivals s in
+    let each = drained-ordered (drain s) (staggered-drain s here) (drain-ends s rise here) in
+    all-weaker (λ run. run ≡ ordered (drain s).accepted 0 (drain s).length) (λ run. run ≡ ordered s.accepted 0 s.length) (drain s).runs
+    (λ run e. e ∙ ap (λ (a : List Command). ordered a 0 (drain s).length) same.accepted ∙ ap (ordered s.accepted 0) same.length) each
