@@ -6,4 +6,5 @@ pub mod Cases
 pub mod Clocks
 pub mod Along
 pub mod Drain
+pub mod History
 mod Worked
