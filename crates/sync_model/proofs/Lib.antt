@@ -7,4 +7,5 @@ pub mod Clocks
 pub mod Along
 pub mod Drain
 pub mod History
+pub mod Repairs
 mod Worked
