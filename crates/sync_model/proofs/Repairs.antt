@@ -16,13 +16,13 @@ use Rattle.game_trait.proofs.Runs.{beats-append, commands_of-append}
 use Rattle.game_trait.proofs.Counts.{times-append}
 use Rattle.sync_model.specs.State.{MirrorState, last_of}
 use Rattle.sync_model.specs.Settle.{begins_with, rebuilt, settle_one, settle, is_repaired, which_repaired, repaired}
-use Rattle.sync_model.specs.Change.{with_late, with_tick}
-use Rattle.sync_model.specs.Staggered.{IsAhead, IsChained, IsComplete}
+use Rattle.sync_model.specs.Change.{is_repeat, is_late, is_idle, with_late, with_tick, proposed_by_arrival, proposed_by_step}
+use Rattle.sync_model.specs.Staggered.{IsAhead, IsChained, IsComplete, IsStaggered}
 use Rattle.sync_model.specs.Repairs.{AreFirst, repaired_by_step, is_late_at, last_late_clock, repaired_by_arrival}
 use Rattle.sync_model.proofs.Settle.{begins_with-Decides, IsFirstAtMost, NeverRises, beats-rebuilt, settle-beats, settle-each}
 use Rattle.sync_model.proofs.Proposals.{complete-rebuilt, complete-late, complete-tick, with_late-past, with_late-due, beats-with_late, beats-command}
 use Rattle.sync_model.proofs.Lists.{all-map, all-set}
-use Rattle.sync_model.proofs.Staggered.{beats-front, chained-falls, late-beats, IsBehindAhead, step-beats, set-falls}
+use Rattle.sync_model.proofs.Staggered.{beats-front, chained-falls, late-beats, IsBehindAhead, step-beats, set-falls, below_limit}
 use Rattle.sync_model.proofs.Drain.{equal_clocks}
 
 -- of two fronts of one list, one is a front of the other
@@ -162,3 +162,61 @@ step-marks accepted (a ∷ r ∷ rs) (suc c) chained complete room there apart =
     let head : is_repaired r (settle accepted (set rs c q)) ≡ true = cc in
     let here = repaired-goes_on accepted r a (settle accepted (set rs c q)) (only-front accepted r a complete.1.0 chained.0) each first head in
     rw here (ap (λ (marks : List Bool). true ∷ marks) more)
+
+-- marks that stand first
+all-marks : (n : ℕ) → times (λ b. b) (replicate n true) ≡ n
+unfolding times
+all-marks zero = refl
+all-marks (suc n) = omega (arith, all-marks n)
+
+none-marked : {X : Type 0} (xs : List X) → map (λ _. false) xs ≡ replicate (length xs) false
+none-marked [] = refl
+none-marked (x ∷ xs) = ap (λ (marks : List Bool). false ∷ marks) (none-marked xs)
+
+no-mark : (m : ℕ) → times (λ b. b) (replicate m false) ≡ 0
+unfolding times
+no-mark zero = refl
+no-mark (suc m) = omega (arith, no-mark m)
+
+count-first : (n m : ℕ) → times (λ b. b) (replicate n true ++ replicate m false) ≡ n
+count-first n m = omega (arith, times-append (λ (b : Bool). b) (replicate n true) (replicate m false), all-marks n, no-mark m)
+
+length-replicate : (m : ℕ) → length (replicate m false) ≡ m
+length-replicate zero = refl
+length-replicate (suc m) = ap suc (length-replicate m)
+
+length-first : (n m : ℕ) → length (replicate n true ++ replicate m false) ≡ n + m
+length-first zero m = omega (arith, length-replicate m)
+length-first (suc n) m = omega (arith, length-first n m)
+
+pub marks-first : (marks : List Bool) (n m : ℕ) → marks ≡ replicate n true ++ replicate m false → AreFirst marks
+marks-first marks n m e =
+    let count : times (λ b. b) marks ≡ n = ap (times (λ (b : Bool). b)) e ∙ count-first n m in
+    let most : length marks ≡ n + m = ap (λ (l : List Bool). length l) e ∙ length-first n m in
+    let rest : length marks - times (λ b. b) marks ≡ m = omega arith in
+    e ∙ ap (λ (k : ℕ). replicate k true ++ replicate m false) (sym count) ∙ ap (λ (k : ℕ). replicate (times (λ b. b) marks) true ++ replicate k false) (sym rest)
+
+-- what a step repairs
+pub step-repairs :
+    {W : Type 0} (s : MirrorState W) (c : ℕ) → IsStaggered s → is_idle s c ≡ false → c < length s.runs
+    → (repaired s.accepted (proposed_by_step s c) ≡ repaired_by_step s c) × AreFirst (which_repaired s.accepted (proposed_by_step s c))
+unfolding repaired_by_step
+step-repairs s zero here e there =
+    let chained = first-chained (with_tick s.accepted (get_or s.runs zero [])) s.runs here.chained (ticked-front s.accepted (get_or s.runs zero [])) in
+    let marks = chained-unrepaired s.accepted (proposed_by_step s zero) chained ∙ none-marked (proposed_by_step s zero) in
+    (ap (times (λ (b : Bool). b)) marks ∙ count-first 0 (length (proposed_by_step s zero)), marks-first (which_repaired s.accepted (proposed_by_step s zero)) 0 (length (proposed_by_step s zero)) marks)
+step-repairs s (suc c) here e there =
+    let q = with_tick s.accepted (get_or s.runs (suc c) []) in
+    let which = which_repaired s.accepted (proposed_by_step s (suc c)) in
+    elim (begins_with (get_or s.runs c []) (with_tick s.accepted (get_or s.runs (suc c) []))) as (λ v. begins_with (get_or s.runs c []) (with_tick s.accepted (get_or s.runs (suc c) [])) ≡ v → (repaired s.accepted (proposed_by_step s (suc c)) ≡ cond v 0 (suc c)) × AreFirst (which_repaired s.accepted (proposed_by_step s (suc c)))) [
+      | true ↦ λ front.
+          let chained = set-chained q s.runs c here.chained (ticked-front s.accepted (get_or s.runs (suc c) [])) ((begins_with-Decides (get_or s.runs c []) q).0 front) in
+          let marks = chained-unrepaired s.accepted (proposed_by_step s (suc c)) chained ∙ none-marked (proposed_by_step s (suc c)) in
+          (ap (times (λ (b : Bool). b)) marks ∙ count-first 0 (length (proposed_by_step s (suc c))), marks-first which 0 (length (proposed_by_step s (suc c))) marks)
+      | false ↦ λ apart.
+          let marks =
+            step-marks s.accepted s.runs c here.chained here.complete (below_limit s (suc c) e).0 there apart
+            ∙ ap (λ (l : List Bool). replicate (suc c) true ++ l) (none-marked (drop (suc c) s.runs)) in
+          (ap (times (λ (b : Bool). b)) marks ∙ count-first (suc c) (length (drop (suc c) s.runs)), marks-first which (suc c) (length (drop (suc c) s.runs)) marks)
+    ]
+    refl
