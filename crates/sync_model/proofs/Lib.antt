@@ -8,4 +8,5 @@ pub mod Along
 pub mod Drain
 pub mod History
 pub mod Repairs
+pub mod Arrivals
 mod Worked

@@ -54,7 +54,7 @@ front-snoc {X} (y ∷ s) (z ∷ w) x p =
     (front-snoc s w x (p.0, behind))
 
 -- chained proposals stay as they are, and none is repaired
-settle_one-same : (accepted : List Command) (q : List Item) (qs : List (List Item)) → IsAhead q qs → settle_one accepted q qs ≡ q ∷ qs
+pub settle_one-same : (accepted : List Command) (q : List Item) (qs : List (List Item)) → IsAhead q qs → settle_one accepted q qs ≡ q ∷ qs
 unfolding settle_one IsAhead
 settle_one-same accepted q [] h = refl
 settle_one-same accepted q (s ∷ rest) h = rw ((begins_with-Decides q s).1 h) refl
@@ -64,7 +64,7 @@ unfolding settle IsChained
 chained-settled accepted [] h = refl
 chained-settled accepted (q ∷ qs) h = ap (settle_one accepted q) (chained-settled accepted qs h.1) ∙ settle_one-same accepted q qs h.0
 
-ahead-unrepaired : (q : List Item) (qs : List (List Item)) → IsAhead q qs → is_repaired q qs ≡ false
+pub ahead-unrepaired : (q : List Item) (qs : List (List Item)) → IsAhead q qs → is_repaired q qs ≡ false
 unfolding is_repaired IsAhead
 ahead-unrepaired q [] h = refl
 ahead-unrepaired q (s ∷ rest) h = rw ((begins_with-Decides q s).1 h) refl
@@ -81,7 +81,7 @@ no-marks [] = refl
 no-marks (x ∷ xs) = omega (arith, no-marks xs)
 
 -- where a copy is repaired, so is the copy ahead, if no other front of its run could be the copy's
-repaired-goes_on :
+pub repaired-goes_on :
     (accepted : List Command) (r a : List Item) (ss : List (List Item))
     → ((s : List Item) → IsComplete accepted s → beats s ≡ beats r → IsPrefix s a → s ≡ r)
     → AllByRecursion (IsComplete accepted) ss → IsFirstAtMost (beats r) (map beats ss)
@@ -99,7 +99,7 @@ repaired-goes_on accepted r a (s ∷ rest) only complete falls h =
         cc) in
     rw (apart, not_front) refl
 
-unrepaired-same : (accepted : List Command) (q : List Item) (ss : List (List Item)) → is_repaired q ss ≡ false → settle_one accepted q ss ≡ q ∷ ss
+pub unrepaired-same : (accepted : List Command) (q : List Item) (ss : List (List Item)) → is_repaired q ss ≡ false → settle_one accepted q ss ≡ q ∷ ss
 unfolding is_repaired settle_one
 unrepaired-same accepted q [] h = refl
 unrepaired-same accepted q (s ∷ rest) h =
@@ -116,7 +116,7 @@ only-front accepted r a complete front s other clock prefix =
     (fronts-compare s r a prefix front)
 
 -- a step whose new run is a front of the run ahead leaves the proposals chained
-ahead-front : (q r : List Item) (rs : List (List Item)) → IsPrefix r q → IsAhead r rs → IsAhead q rs
+pub ahead-front : (q r : List Item) (rs : List (List Item)) → IsPrefix r q → IsAhead r rs → IsAhead q rs
 unfolding IsAhead
 ahead-front q r [] front h = tt
 ahead-front q r (s ∷ rest) front h = (h.0 ++ front.0, front.1 ∙ ap (λ (l : List Item). l ++ front.0) h.1 ∙ append_assoc s h.0 front.0)
@@ -169,7 +169,7 @@ unfolding times
 all-marks zero = refl
 all-marks (suc n) = omega (arith, all-marks n)
 
-none-marked : {X : Type 0} (xs : List X) → map (λ _. false) xs ≡ replicate (length xs) false
+pub none-marked : {X : Type 0} (xs : List X) → map (λ _. false) xs ≡ replicate (length xs) false
 none-marked [] = refl
 none-marked (x ∷ xs) = ap (λ (marks : List Bool). false ∷ marks) (none-marked xs)
 
