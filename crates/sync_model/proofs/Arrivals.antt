@@ -263,3 +263,42 @@ arrival-marks accepted x (a ∷ rest) new chained complete late =
       | false ↦ λ none. alone accepted x a rest chained here none
     ]
     refl
+
+count-marks : {X : Type 0} (p : X → Bool) (xs : List X) → times (λ b. b) (map p xs) ≡ times p xs
+unfolding times
+count-marks p [] = refl
+count-marks p (x ∷ xs) = omega (arith, count-marks p xs)
+
+-- the copies of chained runs that are further than a clock are the first
+further-first :
+    (n : ℕ) (runs : List (List Item)) → IsChained runs
+    → (k m : ℕ) × (map (λ run. ltb n (beats run)) runs ≡ replicate k true ++ replicate m false)
+unfolding IsChained
+further-first n [] h = (0, 0, refl)
+further-first n (run ∷ behind) h =
+    ⊎_elim
+    (λ (past : n < beats run).
+      let more = further-first n behind h.1 in
+      (suc more.0, more.1, rw (lt-ltb n (beats run) past) (ap (λ (marks : List Bool). true ∷ marks) more.2)))
+    (λ (most : beats run ≤ n).
+      (0, length (run ∷ behind), none-further n (run ∷ behind) (most, all-weaker (λ r. beats r ≤ beats run) (λ r. beats r ≤ n) behind (λ r l. omega arith) (falls-all run behind h)) ∙ none-marked (run ∷ behind)))
+    (cases_lt n (beats run))
+
+-- what an arrival repairs
+pub arrival-repairs :
+    {W : Type 0} (s : MirrorState W) (x : Command) → IsStaggered s → is_repeat s x ≡ false
+    → (repaired (s.accepted ++ x ∷ []) (proposed_by_arrival s x) ≡ repaired_by_arrival s x) × AreFirst (which_repaired (s.accepted ++ x ∷ []) (proposed_by_arrival s x))
+arrival-repairs s x here new =
+    let all = s.accepted ++ x ∷ [] in
+    let which = which_repaired (s.accepted ++ x ∷ []) (proposed_by_arrival s x) in
+    elim (list_any (is_late_at x) s.runs) as (λ v. list_any (is_late_at x) s.runs ≡ v → (repaired (s.accepted ++ x ∷ []) (proposed_by_arrival s x) ≡ cond v (times (λ run. ltb (last_late_clock x s.runs) (beats run)) s.runs) 0) × AreFirst (which_repaired (s.accepted ++ x ∷ []) (proposed_by_arrival s x))) [
+      | true ↦ λ late.
+          let marks = arrival-marks s.accepted x s.runs new here.chained here.complete late in
+          let first = further-first (last_late_clock x s.runs) s.runs here.chained in
+          (ap (times (λ (b : Bool). b)) marks ∙ count-marks (λ run. ltb (last_late_clock x s.runs) (beats run)) s.runs, marks-first which first.0 first.1 (marks ∙ first.2))
+      | false ↦ λ none.
+          let same = none-late x s.runs none in
+          let marks = ap (which_repaired all) same ∙ chained-unrepaired all s.runs here.chained in
+          (ap (times (λ (b : Bool). b)) marks ∙ no-marks s.runs, marks-first which 0 (length s.runs) (marks ∙ none-marked s.runs))
+    ]
+    refl
