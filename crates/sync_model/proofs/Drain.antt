@@ -8,8 +8,9 @@ use Rattle.game_trait.specs.declared.command.Item.{Item}
 use Rattle.game_trait.specs.declared.command.Item.TheVariants.{Cmd, Beat}
 use Rattle.game_trait.specs.declared.event.Event.{Event}
 use Rattle.game_trait.specs.declared.event.Event.TheVariants.{Tick, Arrive, Step}
-use Rattle.game_trait.specs.Run.{beats, commands_of, IsPrefix}
-use Rattle.game_trait.specs.Ordered.{ordered}
+use Rattle.game_trait.specs.Run.{beats, commands_of, world_of, IsPrefix}
+use Rattle.game_trait.specs.Ordered.{ordered, time_ordered}
+use Rattle.game_trait.specs.Game.{Rules}
 use Rattle.game_trait.specs.Count.{times}
 use Rattle.game_trait.proofs.Runs.{beats-append, commands_of-append}
 use Rattle.game_trait.proofs.Counts.{times-append}
@@ -18,7 +19,7 @@ use Rattle.std.specs.Prelude.{◌==◌}
 use Rattle.sync_model.specs.State.{MirrorState, last_of, longest_delay, copy_clock, step_limit}
 use Rattle.sync_model.specs.Change.{next, is_idle, after}
 use Rattle.sync_model.specs.Staggered.{IsAhead, IsChained, IsComplete, IsBehindClock, IsStaggered, DelaysRise, IsWellFormed}
-use Rattle.sync_model.specs.Turns.{steps_from, turn_events, turn, IsDrained, is_drained, drain_within, drain_bound, drain}
+use Rattle.sync_model.specs.Turns.{steps_from, turn_events, turns_of, turn, IsDrained, is_drained, drain_within, drain_bound, drain}
 use Rattle.sync_model.proofs.Staggered.{staggered-tick, staggered-step}
 use Rattle.sync_model.proofs.Cases.{moved, ran, tick-cases, step-cases, next-fixed, after-fixed, copies_of}
 use Rattle.sync_model.proofs.Clocks.{ran-moves, ran-others, clocks-never_fall, clock-tick, clock-step, runs-tick}
@@ -318,3 +319,33 @@ drain-ordered s rise here =
     let each = drained-ordered (drain s) (staggered-drain s here) (drain-ends s rise here) in
     all-weaker (λ run. run ≡ ordered (drain s).accepted 0 (drain s).length) (λ run. run ≡ ordered s.accepted 0 s.length) (drain s).runs
     (λ run e. e ∙ ap (λ (a : List Command). ordered a 0 (drain s).length) same.accepted ∙ ap (ordered s.accepted 0) same.length) each
+
+-- draining is some turns, no more than its bound
+after-joined : {W : Type 0} (es fs : List Event) (s : MirrorState W) → after s (es ++ fs) ≡ after (after s es) fs
+unfolding after
+after-joined [] fs s = refl
+after-joined (e ∷ es) fs s = after-joined es fs (next s e)
+
+drain_within-turns :
+    {W : Type 0} (k : ℕ) (s : MirrorState W) → (n : ℕ) × (n ≤ k) × (drain_within k s ≡ after s (turns_of (length s.runs) n))
+unfolding drain_within after turns_of
+drain_within-turns zero s = (0, omega arith, refl)
+drain_within-turns {W} (suc k) s =
+    elim (is_drained s) as (λ v. (n : ℕ) × (n ≤ suc k) × (cond v s (drain_within k (turn s)) ≡ after s (turns_of (length s.runs) n))) [
+      | true ↦ (0, omega arith, refl)
+      | false ↦
+          let more = drain_within-turns k (turn s) in
+          let same = (after-fixed (turn_events (length s.runs)) s).copies in
+          (suc more.0, (let most = more.1 in omega arith), more.2 ∙ ap (λ (c : ℕ). after (turn s) (turns_of c more.0)) same ∙ sym (after-joined (turn_events (length s.runs)) (turns_of (length s.runs) more.0) s))
+    ]
+
+pub drain-turns : {W : Type 0} (s : MirrorState W) → (n : ℕ) × (n ≤ drain_bound s) × (drain s ≡ after s (turns_of (length s.runs) n))
+drain-turns s = drain_within-turns (drain_bound s) s
+
+-- the world of each copy of a drained mirror is the time-ordered execution
+pub drained-worlds :
+    {W : Type 0} (rules : Rules W) (s : MirrorState W) → IsStaggered s → IsDrained s
+    → AllByRecursion (λ run. world_of rules s.opening run ≡ time_ordered rules s.opening s.accepted s.length) s.runs
+drained-worlds rules s here drained =
+    all-weaker (λ run. run ≡ ordered s.accepted 0 s.length) (λ run. world_of rules s.opening run ≡ time_ordered rules s.opening s.accepted s.length) s.runs
+    (λ run e. ap (world_of rules s.opening) e) (drained-ordered s here drained)

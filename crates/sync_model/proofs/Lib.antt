@@ -9,4 +9,5 @@ pub mod Drain
 pub mod History
 pub mod Repairs
 pub mod Arrivals
+pub mod Answers
 mod Worked
