@@ -10,4 +10,4 @@ pub mod History
 pub mod Repairs
 pub mod Arrivals
 pub mod Answers
-mod Worked
+pub mod Computing

@@ -3,5 +3,6 @@
 
 pub mod laws;
 mod turned;
+pub mod worked;
 
 pub use turned::Turned;
