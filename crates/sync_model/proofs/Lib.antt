@@ -6,6 +6,7 @@ pub mod Cases
 pub mod Clocks
 pub mod Along
 pub mod Drain
+pub mod Played
 pub mod History
 pub mod Repairs
 pub mod Arrivals

@@ -4,6 +4,7 @@ use Rattle.std.specs.List.{AllByRecursion, list_all}
 use Rattle.game_trait.specs.declared.event.Event.{Event}
 use Rattle.game_trait.specs.declared.event.Event.TheVariants.{Tick, Step}
 use Rattle.game_trait.specs.Run.{beats}
+use Rattle.game_trait.specs.Ordered.{ordered}
 use Rattle.sync_model.specs.State.{MirrorState, longest_delay}
 use Rattle.sync_model.specs.Change.{after}
 
@@ -45,3 +46,9 @@ drain_bound s = (s.length + longest_delay s - s.clock) + s.length
 -- a mirror after draining
 abbrev pub drain : {W : Type 0} → MirrorState W → MirrorState W
 drain s = drain_within (drain_bound s) s
+
+-- what draining comes to: every copy has run the whole match, and its run is the ordered part of what was accepted before
+pub record EndsInOrder {W : Type 0} (s : MirrorState W) : Type 0 where
+  pub drained : IsDrained (drain s)
+  pub accepted : (drain s).accepted ≡ s.accepted
+  pub in_order : AllByRecursion (λ run. run ≡ ordered s.accepted 0 s.length) (drain s).runs

@@ -8,7 +8,7 @@ ghost use Rattle.game_trait.specs.Ordered.{ordered, time_ordered};
 ghost use Rattle.sync_model.specs.State.{MirrorState, opening_state};
 ghost use Rattle.sync_model.specs.Change.{after, Fits};
 ghost use Rattle.sync_model.specs.Staggered.{DelaysRise, IsStaggered};
-ghost use Rattle.sync_model.specs.Turns.{turns_of, IsDrained, drain_bound, drain};
+ghost use Rattle.sync_model.specs.Turns.{turns_of, IsDrained, drain_bound, drain, EndsInOrder};
 
 use game_trait::Game;
 
@@ -49,6 +49,17 @@ pub fn drained_worlds<G: Game>()
     ensures {
       (s : MirrorState G) → IsStaggered s → IsDrained s
       → AllByRecursion (λ run. world_of G.rules s.opening run ≡ time_ordered G.rules s.opening s.accepted s.length) s.runs
+    }
+{
+}
+
+/// A mirror that makes any list of events that fit, from its opening state, is staggered, and draining leaves each of its runs
+/// equal to the ordered part of what was accepted.
+pub fn played_in_order<G: Game>()
+    ensures {
+      (opening : G) (length : ℕ) (delays : List ℕ) (spare : ℕ) (es : List Event)
+      → let start = opening_state opening length delays spare in
+        DelaysRise delays → AllByRecursion (Fits start) es → IsStaggered (after start es) × EndsInOrder (after start es)
     }
 {
 }
