@@ -4,4 +4,11 @@ pub mod Lists
 pub mod Staggered
 pub mod Cases
 pub mod Clocks
-mod Worked
+pub mod Along
+pub mod Drain
+pub mod Played
+pub mod History
+pub mod Repairs
+pub mod Arrivals
+pub mod Answers
+pub mod Computing

@@ -1,5 +1,5 @@
 -- What a mirror's history tells of its state.
-use Rattle.std.specs.Prelude.{◌≡◌, ℕ, ◌+◌, ◌<◌, Bool, true, false, List, [], ◌∷◌}
+use Rattle.std.specs.Prelude.{◌≡◌, ℕ, ◌+◌, ◌<◌, Bool, true, false, if◌then◌else◌, List, [], ◌∷◌, ◌++◌, ⊤}
 use Rattle.game_trait.specs.declared.event.Event.{Event}
 use Rattle.game_trait.specs.declared.event.Event.TheVariants.{Tick, Arrive, Step}
 use Rattle.game_trait.specs.declared.event.Reply.{Reply}
@@ -9,7 +9,31 @@ use Rattle.game_trait.specs.declared.event.Arrived.TheVariants.{Taken, Repeat, L
 use Rattle.game_trait.specs.declared.event.Stepped.TheVariants.{Ran, Idle}
 use Rattle.game_trait.specs.Count.{times}
 use Rattle.sync_model.specs.State.{MirrorState, opening_state}
-use Rattle.sync_model.specs.Change.{next, after, answers}
+use Rattle.sync_model.specs.Change.{next, changes, after, answers}
+
+-- an answer is to an event of its kind
+abbrev pub IsOfKind : Event → Reply → Type 0
+IsOfKind Tick (ToTick ticked) = ⊤
+IsOfKind (Arrive x) (ToArrive arrived) = ⊤
+IsOfKind (Step c) (ToStep stepped) = ⊤
+IsOfKind e r = ⊥
+
+-- an answer says that the clock went on
+abbrev pub is_moved : Reply → Bool
+is_moved (ToTick Moved) = true
+is_moved (ToTick Over) = false
+is_moved (ToArrive arrived) = false
+is_moved (ToStep stepped) = false
+
+-- those of the events that change the state in which they stand
+unfoldable pub changing : {W : Type 0} → MirrorState W → List Event → List Event
+changing s [] = []
+changing s (e ∷ es) = (if changes s e then e ∷ [] else []) ++ changing (next s e) es
+
+-- each of the events changes the state in which it stands
+unfoldable pub EachChanges : {W : Type 0} → MirrorState W → List Event → Type 0
+EachChanges s [] = Unit {0}
+EachChanges s (e ∷ es) = (changes s e ≡ true) × EachChanges (next s e) es
 
 -- an event is an arrival
 abbrev pub is_arrival : Event → Bool

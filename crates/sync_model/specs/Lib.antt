@@ -4,4 +4,5 @@ pub mod Change
 pub mod Staggered
 pub mod Turns
 pub mod History
+pub mod Repairs
 pub mod Worked
