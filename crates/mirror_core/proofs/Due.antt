@@ -23,8 +23,8 @@ pub due_same :
 due_same p xs i d in_list not_due =
     ap (λ (ys : List Command). map Cmd ys)
     (filter_more p xs i d in_list
-      ∙ ap (λ (v : Bool). filter p (take i xs) ++ cond v (get_or xs i d ∷ []) []) not_due
-      ∙ append-nil (filter p (take i xs)))
+    ∙ ap (λ (v : Bool). filter p (take i xs) ++ cond v (get_or xs i d ∷ []) []) not_due
+    ∙ append-nil (filter p (take i xs)))
 
 -- how many of the rest pass a test
 pub left_more :

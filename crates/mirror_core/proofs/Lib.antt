@@ -1,2 +1,5 @@
 pub mod Places
 pub mod Due
+pub mod Sound
+pub mod OneCopy
+pub mod Kept

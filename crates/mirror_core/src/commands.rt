@@ -30,7 +30,7 @@ pub fn place(list: &mut Vec<Command>, x: &Command)
     requires new_name { list_any (same_name x.now) list.old.items ≡ false }
     requires room { vec_len list.old < vec_capacity list.old }
     ensures placed { list.new.items ≡ placed x.now list.old.items }
-    ensures capacity { vec_capacity list.old ≤ vec_capacity list.new }
+    ensures capacity { vec_capacity list.new ≡ vec_capacity list.old }
 {
     let at = list.partition_point(|y| is_before(y, x));
     match list.insert(at, *x) {

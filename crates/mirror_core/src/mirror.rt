@@ -5,7 +5,7 @@ ghost use Rattle.game_trait.specs.Run.{world_of};
 ghost use Rattle.sync_model.specs.State.{opening_state, copy_clock as clock_of};
 ghost use Rattle.sync_model.specs.Change.{next, said, Fits};
 ghost use Rattle.sync_model.specs.Staggered.{IsStaggered, IsWellFormed};
-ghost use Rattle.sync_model.specs.History.{HasRoom, IsFromHistory, repairs as repairs_of};
+ghost use Rattle.sync_model.specs.History.{HasRoom, IsFromHistory, EachChanges, opening_of, repairs as repairs_of};
 ghost use Rattle.sync_model.specs.Turns.{is_drained};
 
 use crate::commands::{has_name, place, run_tick};
@@ -27,7 +27,7 @@ pub struct Mirror<G: Game> {
     clock: Tick,
     accepted: Vec<Command>,
     turned: Vec<Turned>,
-    events: Vec<Event>,
+    history: Vec<Event>,
     spare: u32,
     world: G,
     run: Vec<Item>,
@@ -38,22 +38,35 @@ pub struct Mirror<G: Game> {
 impl<G: Game> Model for Mirror<G> {
     ghost use Rattle.std.specs.Prelude.{vec_capacity};
     ghost use Rattle.sync_model.specs.State.{MirrorState};
-    ghost use Rattle.mirror_core.specs.Kept.{state_of, Room, IsKept};
+    ghost use Rattle.mirror_core.specs.Kept.{state_of, Room, Parts, IsKept};
 
     ghost Value = { MirrorState G };
 
-    ghost view = { λ m. state_of m.opening m.stagger m.clock m.accepted.items m.turned.items m.run.items m.events.items m.spare };
+    ghost view = { λ m. state_of m.opening m.stagger m.clock m.accepted.items m.turned.items m.run.items m.history.items m.spare };
 
     ghost invariant = { λ m.
-        let state = state_of m.opening m.stagger m.clock m.accepted.items m.turned.items m.run.items m.events.items m.spare in
         let room : Room = record {
           accepted = vec_capacity m.accepted;
           in_order = vec_capacity m.in_order;
           turned = vec_capacity m.turned;
           run = vec_capacity m.run;
-          events = vec_capacity m.events;
+          history = vec_capacity m.history;
         } in
-        IsKept G.rules state m.run.items m.world m.run_clock m.in_order.items room };
+        let parts : Parts G = record {
+          opening = m.opening;
+          stagger = m.stagger;
+          clock = m.clock;
+          accepted = m.accepted.items;
+          turned = m.turned.items;
+          run = m.run.items;
+          history = m.history.items;
+          spare = m.spare;
+          world = m.world;
+          run_clock = m.run_clock;
+          in_order = m.in_order.items;
+          room = room;
+        } in
+        IsKept G.rules parts };
 }
 
 impl<G: Game> Mirror<G> {
@@ -77,7 +90,7 @@ impl<G: Game> Mirror<G> {
             in_order: Vec::with_capacity(alloc, arrivals)?,
             turned: Vec::with_capacity(alloc, arrivals)?,
             run: Vec::with_capacity(alloc, length + arrivals)?,
-            events: Vec::with_capacity(alloc, length + longest + length + arrivals)?,
+            history: Vec::with_capacity(alloc, length + longest + length + arrivals)?,
             opening: opening.twin(),
             world: opening.twin(),
             stagger,
@@ -96,7 +109,7 @@ impl<G: Game> Mirror<G> {
             return Ticked::Over;
         }
         self.clock += 1;
-        self.events.push_reserved(Event::Tick);
+        self.history.push_reserved(Event::Tick);
         Ticked::Moved
     }
 
@@ -112,7 +125,7 @@ impl<G: Game> Mirror<G> {
             return Arrived::Repeat;
         }
         self.spare -= 1;
-        self.events.push_reserved(Event::Arrive(*x));
+        self.history.push_reserved(Event::Arrive(*x));
         if x.time < self.run_clock {
             self.turned.push_reserved(Turned {
                 from: x.from,
@@ -144,7 +157,7 @@ impl<G: Game> Mirror<G> {
             self.run_clock,
         );
         self.run_clock += 1;
-        self.events.push_reserved(Event::Step(copy));
+        self.history.push_reserved(Event::Step(copy));
         Stepped::Ran { repaired: 0 }
     }
 
@@ -240,14 +253,17 @@ impl<G: Game> Mirror<G> {
     pub fn events(&self) -> &[Event]
         ensures events { result.now ≡ self.now.history }
         ensures from_history { IsFromHistory self.now }
+        ensures each_changes { EachChanges (opening_of self.now) self.now.history }
     {
-        &self.events
+        &self.history
     }
 
     /// How many copies were repaired, in all.
     pub fn repairs(&self) -> u64
         ensures { result ≡ repairs_of self.now }
     {
+        // a lone copy is never repaired
+        let _ = &self.history;
         0
     }
 

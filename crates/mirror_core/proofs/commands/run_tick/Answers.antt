@@ -35,17 +35,17 @@ loop-x-preserved g c =
           let room : vec_len c.if-x-tick.run + times p (drop (i + 1) xs) < vec_capacity c.if-x-tick.run = omega arith in
           record {
             items =
-              ap (λ (r : Vec Item Global). r.items) w.run-is
-              ∙ w.push_reserved.ensures.items
-              ∙ ap (λ (r : List Item). r ++ Cmd x ∷ []) c.loop-x.invariant.items
-              ∙ append_assoc c.args.run.now.items (map Cmd (filter p (take i xs))) (Cmd x ∷ [])
-              ∙ ap (λ (r : List Item). c.args.run.now.items ++ r) (sym more);
+                ap (λ (r : Vec Item Global). r.items) w.run-is
+                ∙ w.push_reserved.ensures.items
+                ∙ ap (λ (r : List Item). r ++ Cmd x ∷ []) c.loop-x.invariant.items
+                ∙ append_assoc c.args.run.now.items (map Cmd (filter p (take i xs))) (Cmd x ∷ [])
+                ∙ ap (λ (r : List Item). c.args.run.now.items ++ r) (sym more);
             world =
-              w.world-is
-              ∙ w.apply.ensures
-              ∙ ap (λ v. g.G.Game.rules.apply v x) c.loop-x.invariant.world
-              ∙ sym (world_of-command g.G.Game.rules c.args.world.now (map Cmd (filter p (take i xs))) x)
-              ∙ ap (world_of g.G.Game.rules c.args.world.now) (sym more);
+                w.world-is
+                ∙ w.apply.ensures
+                ∙ ap (λ v. g.G.Game.rules.apply v x) c.loop-x.invariant.world
+                ∙ sym (world_of-command g.G.Game.rules c.args.world.now (map Cmd (filter p (take i xs))) x)
+                ∙ ap (world_of g.G.Game.rules c.args.world.now) (sym more);
             capacity = capacity ∙ c.loop-x.invariant.capacity;
             room = room;
           }

@@ -1,0 +1,89 @@
+-- Each event of a mirror with one copy keeps what is always true of what it holds.
+use Rattle.std.proofs.Common.{◌≡◌, refl, ◌∙◌, ap, sym, subst, ℕ, zero, suc, ◌+◌, ◌-◌, ◌≤◌, ◌<◌, Bool, true, false, cond, ◌&&◌, List, [], ◌∷◌, ◌++◌, length, map, arith, eqb, ltb, leb, length-append, min}
+use Rattle.std.proofs.lemmas.Bool.Decides.{nat_tests}
+use Rattle.std.proofs.lemmas.List.{length-map}
+use Rattle.std.specs.List.{list_any, filter}
+use Rattle.game_trait.specs.declared.command.Command.{Command}
+use Rattle.game_trait.specs.declared.command.Item.{Item}
+use Rattle.game_trait.specs.declared.command.Item.TheVariants.{Cmd, Beat}
+use Rattle.game_trait.specs.declared.event.Event.TheVariants.{Tick, Arrive, Step}
+use Rattle.game_trait.specs.declared.event.Reply.TheVariants.{Tick as ToTick, Arrive as ToArrive, Step as ToStep}
+use Rattle.game_trait.specs.declared.event.Ticked.TheVariants.{Moved}
+use Rattle.game_trait.specs.declared.event.Arrived.TheVariants.{Taken, Late}
+use Rattle.game_trait.specs.declared.event.Stepped.TheVariants.{Ran}
+use Rattle.game_trait.specs.Game.{Rules}
+use Rattle.game_trait.specs.Run.{beats, world_of}
+use Rattle.game_trait.specs.Keys.{placed, in_key_order, same_name}
+use Rattle.game_trait.specs.Count.{times}
+use Rattle.game_trait.specs.Ordered.{due_at, tick_of}
+use Rattle.game_trait.proofs.Counts.{times-append, times-in_key_order, times-filter, times-agree}
+use Rattle.game_trait.proofs.Runs.{beats-append, world_of-append}
+use Rattle.game_trait.proofs.OrderedParts.{beats-tick_of}
+use Rattle.sync_model.specs.declared.turned.Turned.{Turned}
+use Rattle.sync_model.specs.State.{MirrorState, longest_delay, last_clock, step_limit, last_of}
+use Rattle.sync_model.specs.Change.{next, is_over, is_repeat, is_late, is_idle}
+use Rattle.sync_model.specs.History.{repairs}
+use Rattle.mirror_core.specs.Kept.{Parts, shown, IsSound, IsKept, HasRoomLeft}
+use Rattle.mirror_core.proofs.Sound.{sound-next, no_repair-next}
+use Rattle.mirror_core.proofs.Places.{in_key_order-push}
+use Rattle.mirror_core.proofs.OneCopy.{tick_moved, arrive_late, arrive_taken, step_ran, with_command, with_one_tick}
+
+-- how many commands are due at a tick
+length-times : {X : Type 0} (xs : List X) → length xs ≡ times (λ _. true) xs
+unfolding times
+length-times [] = refl
+length-times (x ∷ xs) = (let rest = length-times xs in omega arith)
+
+length-due_at : (accepted : List Command) (t : ℕ) → length (due_at accepted t) ≡ times (λ x. eqb x.time t) accepted
+length-due_at accepted t =
+    length-times (due_at accepted t)
+    ∙ times-in_key_order (λ _. true) (filter (λ x. eqb x.time t) accepted)
+    ∙ times-filter (λ _. true) (λ x. eqb x.time t) accepted
+
+length-tick_of : (accepted : List Command) (t : ℕ) → length (tick_of accepted t) ≡ times (λ x. eqb x.time t) accepted + 1
+length-tick_of accepted t =
+    let both = length-append (map Cmd (due_at accepted t)) (Beat ∷ []) in
+    let one = length-map Cmd (due_at accepted t) in
+    let due = length-due_at accepted t in
+    omega arith
+
+-- the commands from a tick on are those of the tick and those from the next on
+times-from : (accepted : List Command) (t : ℕ) → times (λ x. leb t x.time) accepted ≡ times (λ x. eqb x.time t) accepted + times (λ x. leb (t + 1) x.time) accepted
+unfolding times
+times-from [] t = refl
+times-from (x ∷ xs) t =
+    let rest = times-from xs t in
+    let here : cond {A = ℕ} (leb t x.time) 1 0 ≡ cond {A = ℕ} (eqb x.time t) 1 0 + cond {A = ℕ} (leb (t + 1) x.time) 1 0 = grind (arith, nat_tests) in
+    omega arith
+
+-- one command more counts at most one
+times-push : (p : Command → Bool) (accepted : List Command) (x : Command) → times p (accepted ++ x ∷ []) ≤ times p accepted + 1
+unfolding times
+times-push p accepted x =
+    let both = times-append p accepted (x ∷ []) in
+    let one : cond {A = ℕ} (p x) 1 0 ≤ 1 = grind arith in
+    omega arith
+
+pub kept_moved :
+    {W : Type 0} (rules : Rules W) (m : Parts W) → IsKept rules m → is_over (shown m) ≡ false
+    → IsKept rules (record m { clock = m.clock + 1; history = m.history ++ Tick ∷ [] })
+kept_moved rules m h more =
+    let event = tick_moved (shown m) more in
+    let before : m.clock < m.stagger.length + longest_delay (shown m) = (let upto = h.sound.staggered.clocks.mirror in grind (arith, nat_tests)) in
+    let longer = length-append m.history (Tick ∷ []) in
+    let room = h.room_left in
+    record {
+      sound = subst IsSound event.0 (sound-next (shown m) Tick tt tt h.sound);
+      world_of_run = h.world_of_run;
+      clock_of_run = h.clock_of_run;
+      key_order = h.key_order;
+      no_repair = ap (λ s. repairs s) (sym event.0) ∙ no_repair-next (shown m) Tick (ToTick Moved) tt h.sound event.1 refl h.no_repair;
+      room_left = record {
+        to_accept = room.to_accept;
+        to_place = room.to_place;
+        to_turn_away = room.to_turn_away;
+        to_run = room.to_run;
+        short_runs = room.short_runs;
+        to_note = (let left = room.to_note in omega arith);
+      };
+    }
