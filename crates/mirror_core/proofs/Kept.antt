@@ -26,7 +26,7 @@ use Rattle.sync_model.specs.History.{repairs}
 use Rattle.mirror_core.specs.Kept.{Parts, shown, IsSound, IsKept, HasRoomLeft}
 use Rattle.mirror_core.proofs.Sound.{sound-next, no_repair-next}
 use Rattle.mirror_core.proofs.Places.{in_key_order-push}
-use Rattle.mirror_core.proofs.OneCopy.{tick_moved, arrive_late, arrive_taken, step_ran, with_command, with_one_tick}
+use Rattle.mirror_core.proofs.OneCopy.{tick_moved, arrive_late, last_clock-one, arrive_taken, step_ran, with_command, with_one_tick}
 
 -- how many commands are due at a tick
 length-times : {X : Type 0} (xs : List X) → length xs ≡ times (λ _. true) xs
@@ -43,7 +43,7 @@ length-due_at accepted t =
 length-tick_of : (accepted : List Command) (t : ℕ) → length (tick_of accepted t) ≡ times (λ x. eqb x.time t) accepted + 1
 length-tick_of accepted t =
     let both = length-append (map Cmd (due_at accepted t)) (Beat ∷ []) in
-    let one = length-map Cmd (due_at accepted t) in
+    let one = length-map {A = Command} {B = Item} (due_at accepted t) (λ x. Cmd x) in
     let due = length-due_at accepted t in
     omega arith
 
@@ -85,5 +85,96 @@ kept_moved rules m h more =
         to_run = room.to_run;
         short_runs = room.short_runs;
         to_note = (let left = room.to_note in omega arith);
+      };
+    }
+
+-- what a mirror keeps of a command that it turns away
+abbrev pub refused : {W : Type 0} → Parts W → Command → Turned
+refused m x = record { from = x.from; number = x.number; bound = m.run_clock }
+
+pub kept_away :
+    {W : Type 0} (rules : Rules W) (m : Parts W) (x : Command) → IsKept rules m → x.time < m.stagger.length → 0 < m.spare
+    → is_repeat (shown m) x ≡ false → is_late (shown m) x ≡ true
+    → IsKept rules (record m { turned = m.turned ++ refused m x ∷ []; history = m.history ++ Arrive x ∷ []; spare = m.spare - 1 })
+kept_away {W} rules m x h fits spare new late =
+    let bound : m.run_clock ≡ last_clock (shown m) = h.clock_of_run ∙ sym (last_clock-one m) in
+    let event = arrive_late (shown m) x new late in
+    let state = event.0 ∙ ap (λ (n : ℕ). shown (record m { turned = m.turned ++ record { from = x.from; number = x.number; bound = n } ∷ []; history = m.history ++ Arrive x ∷ []; spare = m.spare - 1 })) (sym bound) in
+    let longer = length-append m.history (Arrive x ∷ []) in
+    let more = length-append m.turned (refused m x ∷ []) in
+    let room = h.room_left in
+    record {
+      sound = subst IsSound state (sound-next (shown m) (Arrive x) fits spare h.sound);
+      world_of_run = h.world_of_run;
+      clock_of_run = h.clock_of_run;
+      key_order = h.key_order;
+      no_repair = ap (λ s. repairs s) (sym state) ∙ no_repair-next (shown m) (Arrive x) (ToArrive (Late (last_clock (shown m)))) spare h.sound event.1 refl h.no_repair;
+      room_left = record {
+        to_accept = (let left = room.to_accept in omega arith);
+        to_place = (let left = room.to_place in omega arith);
+        to_turn_away = (let left = room.to_turn_away in omega arith);
+        to_run = (let left = room.to_run in omega arith);
+        short_runs = room.short_runs;
+        to_note = (let left = room.to_note in omega arith);
+      };
+    }
+
+pub kept_taken :
+    {W : Type 0} (rules : Rules W) (m : Parts W) (x : Command) → IsKept rules m → x.time < m.stagger.length → 0 < m.spare
+    → is_repeat (shown m) x ≡ false → is_late (shown m) x ≡ false
+    → IsKept rules (record (with_command m x) { in_order = placed x m.in_order })
+kept_taken {W} rules m x h fits spare new due =
+    let event = arrive_taken m x new due in
+    let longer = length-append m.history (Arrive x ∷ []) in
+    let more = length-append m.accepted (x ∷ []) in
+    let one = times-push (λ y. leb (beats m.run) y.time) m.accepted x in
+    let room = h.room_left in
+    record {
+      sound = subst IsSound event.0 (sound-next (shown m) (Arrive x) fits spare h.sound);
+      world_of_run = h.world_of_run;
+      clock_of_run = h.clock_of_run;
+      key_order = ap (placed x) h.key_order ∙ sym (in_key_order-push m.accepted x h.sound.staggered.commands.names new);
+      no_repair = ap (λ s. repairs s) (sym event.0) ∙ no_repair-next (shown m) (Arrive x) (ToArrive (Taken 0)) spare h.sound event.1 refl h.no_repair;
+      room_left = record {
+        to_accept = (let left = room.to_accept in omega arith);
+        to_place = (let left = room.to_place in omega arith);
+        to_turn_away = (let left = room.to_turn_away in omega arith);
+        to_run = (let left = room.to_run in omega arith);
+        short_runs = room.short_runs;
+        to_note = (let left = room.to_note in omega arith);
+      };
+    }
+
+-- a copy that isn't at its limit isn't at the match's end
+pub before_end : {W : Type 0} (m : Parts W) → is_idle (shown m) 0 ≡ false → beats m.run < m.stagger.length
+unfolding step_limit
+before_end m more = grind (arith, nat_tests)
+
+pub kept_ran :
+    {W : Type 0} (rules : Rules W) (m : Parts W) → IsKept rules m → is_idle (shown m) 0 ≡ false
+    → IsKept rules (record (with_one_tick m) { world = world_of rules m.world (tick_of m.accepted (beats m.run)); run_clock = m.run_clock + 1 })
+kept_ran {W} rules m h more =
+    let event = step_ran m more in
+    let tick : List Item = tick_of m.accepted (beats m.run) in
+    let below = before_end m more in
+    let longer = length-append m.history (Step 0 ∷ []) in
+    let run_longer = length-append m.run tick in
+    let items = length-tick_of m.accepted (beats m.run) in
+    let from_now = times-from m.accepted (beats m.run) in
+    let clock : beats (m.run ++ tick) ≡ beats m.run + 1 = beats-append m.run tick ∙ ap (λ (n : ℕ). beats m.run + n) (beats-tick_of m.accepted (beats m.run)) in
+    let room = h.room_left in
+    record {
+      sound = subst IsSound event.0 (sound-next (shown m) (Step 0) (omega arith) tt h.sound);
+      world_of_run = ap (λ v. world_of rules v tick) h.world_of_run ∙ sym (world_of-append rules m.opening m.run tick);
+      clock_of_run = ap (λ (n : ℕ). n + 1) h.clock_of_run ∙ sym clock;
+      key_order = h.key_order;
+      no_repair = ap (λ s. repairs s) (sym event.0) ∙ no_repair-next (shown m) (Step 0) (ToStep (Ran 0)) tt h.sound event.1 refl h.no_repair;
+      room_left = record {
+        to_accept = room.to_accept;
+        to_place = room.to_place;
+        to_turn_away = room.to_turn_away;
+        to_run = rw clock (let left = room.to_run in omega arith);
+        short_runs = room.short_runs;
+        to_note = rw clock (let left = room.to_note in omega arith);
       };
     }
