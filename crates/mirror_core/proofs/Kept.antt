@@ -48,7 +48,7 @@ length-tick_of accepted t =
     omega arith
 
 -- the commands from a tick on are those of the tick and those from the next on
-times-from : (accepted : List Command) (t : ℕ) → times (λ x. leb t x.time) accepted ≡ times (λ x. eqb x.time t) accepted + times (λ x. leb (t + 1) x.time) accepted
+pub times-from : (accepted : List Command) (t : ℕ) → times (λ x. leb t x.time) accepted ≡ times (λ x. eqb x.time t) accepted + times (λ x. leb (t + 1) x.time) accepted
 unfolding times
 times-from [] t = refl
 times-from (x ∷ xs) t =

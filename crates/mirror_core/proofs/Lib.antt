@@ -3,3 +3,4 @@ pub mod Due
 pub mod Sound
 pub mod OneCopy
 pub mod Kept
+pub mod Calls

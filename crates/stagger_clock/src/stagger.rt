@@ -79,7 +79,8 @@ impl Stagger {
 
     /// The match's length, in ticks.
     pub fn length(&self) -> Tick
-        ensures { result ≡ self.now.length }
+        ensures length { result ≡ self.now.length }
+        ensures schedule { IsSchedule self.now }
     {
         self.ticks
     }
