@@ -20,11 +20,12 @@ use Rattle.game_trait.proofs.Counts.{times-append, times-in_key_order, times-fil
 use Rattle.game_trait.proofs.Runs.{beats-append, world_of-append}
 use Rattle.game_trait.proofs.OrderedParts.{beats-tick_of}
 use Rattle.sync_model.specs.declared.turned.Turned.{Turned}
-use Rattle.sync_model.specs.State.{MirrorState, longest_delay, last_clock, step_limit, last_of}
+use Rattle.sync_model.specs.State.{MirrorState, opening_state, longest_delay, last_clock, step_limit, last_of}
 use Rattle.sync_model.specs.Change.{next, is_over, is_repeat, is_late, is_idle}
 use Rattle.sync_model.specs.History.{repairs}
+use Rattle.stagger_clock.specs.Schedule.{Schedule, IsSchedule}
 use Rattle.mirror_core.specs.Kept.{Parts, shown, IsSound, IsKept, HasRoomLeft}
-use Rattle.mirror_core.proofs.Sound.{sound-next, no_repair-next}
+use Rattle.mirror_core.proofs.Sound.{sound-next, no_repair-next, sound-opening, no_repair-opening}
 use Rattle.mirror_core.proofs.Places.{in_key_order-push}
 use Rattle.mirror_core.proofs.OneCopy.{tick_moved, arrive_late, last_clock-one, arrive_taken, step_ran, with_command, with_one_tick}
 
@@ -33,6 +34,9 @@ length-times : {X : Type 0} (xs : List X) → length xs ≡ times (λ _. true) x
 unfolding times
 length-times [] = refl
 length-times (x ∷ xs) = (let rest = length-times xs in omega arith)
+
+pub length-in_key_order : (xs : List Command) → length (in_key_order xs) ≡ length xs
+length-in_key_order xs = length-times (in_key_order xs) ∙ times-in_key_order (λ _. true) xs ∙ sym (length-times xs)
 
 length-due_at : (accepted : List Command) (t : ℕ) → length (due_at accepted t) ≡ times (λ x. eqb x.time t) accepted
 length-due_at accepted t =
@@ -176,5 +180,63 @@ kept_ran {W} rules m h more =
         to_run = rw clock (let left = room.to_run in omega arith);
         short_runs = room.short_runs;
         to_note = rw clock (let left = room.to_note in omega arith);
+      };
+    }
+
+-- a mirror of one copy as it opens
+abbrev pub opened : {W : Type 0} → W → Schedule → ℕ → Parts W
+opened opening stagger arrivals =
+    record {
+      opening = opening;
+      stagger = stagger;
+      clock = 0;
+      accepted = [];
+      turned = [];
+      run = [];
+      history = [];
+      spare = arrivals;
+      world = opening;
+      run_clock = 0;
+      in_order = [];
+      room = record {
+        accepted = arrivals;
+        in_order = arrivals;
+        turned = arrivals;
+        run = stagger.length + arrivals;
+        history = stagger.length + last_of 0 stagger.delays + stagger.length + arrivals;
+      };
+    }
+
+one_run : (delays : List ℕ) → length delays ≡ 1 → map {B = List Item} (λ delay. []) delays ≡ [] ∷ []
+one_run [] one = absurd (omega arith)
+one_run (d ∷ []) one = refl
+one_run (d ∷ e ∷ ds) one = absurd (omega arith)
+
+pub opened_state :
+    {W : Type 0} (opening : W) (stagger : Schedule) (arrivals : ℕ) → length stagger.delays ≡ 1
+    → opening_state opening stagger.length stagger.delays arrivals ≡ shown (opened opening stagger arrivals)
+opened_state opening stagger arrivals one =
+    ap (λ (rs : List (List Item)). record (opening_state opening stagger.length stagger.delays arrivals) { runs = rs }) (one_run stagger.delays one)
+
+pub kept_opened :
+    {W : Type 0} (rules : Rules W) (opening : W) (stagger : Schedule) (arrivals : ℕ)
+    → IsSchedule stagger → length stagger.delays ≡ 1 → arrivals ≤ 1048576 → IsKept rules (opened opening stagger arrivals)
+unfolding world_of beats in_key_order times
+kept_opened rules opening stagger arrivals is one few =
+    let state = opened_state opening stagger arrivals one in
+    let short = is.few_ticks in
+    record {
+      sound = subst IsSound state (sound-opening opening stagger arrivals is);
+      world_of_run = refl;
+      clock_of_run = refl;
+      key_order = refl;
+      no_repair = ap (λ s. repairs s) (sym state) ∙ no_repair-opening opening stagger arrivals;
+      room_left = record {
+        to_accept = omega arith;
+        to_place = omega arith;
+        to_turn_away = omega arith;
+        to_run = omega arith;
+        short_runs = omega arith;
+        to_note = omega arith;
       };
     }
