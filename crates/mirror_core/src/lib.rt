@@ -3,6 +3,8 @@
 
 mod commands;
 mod mirror;
+#[cfg(test)]
+mod tests;
 
 pub use mirror::{MOST_ROOM, Mirror};
 pub use sync_model::Turned;
