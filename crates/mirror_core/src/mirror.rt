@@ -19,7 +19,8 @@ use tss_io::NoMemory;
 /// How many arrivals a mirror may have room for.
 pub const MOST_ROOM: u32 = 1_048_576;
 
-/// A mirror of a match. Contracts see it as a state of the model, from its opening on. Only `new` takes memory.
+/// A mirror of a match. Contracts see it as a state of the model, which says what each event changes and what is
+/// answered. Only `new` takes memory. A mirror has one copy of the world, which its run tells.
 #[derive(Drop)]
 pub struct Mirror<G: Game> {
     opening: G,
@@ -31,7 +32,9 @@ pub struct Mirror<G: Game> {
     spare: u32,
     world: G,
     run: Vec<Item>,
+    // the beats of the run
     run_clock: Tick,
+    // the accepted commands in key order
     in_order: Vec<Command>,
 }
 
@@ -70,8 +73,9 @@ impl<G: Game> Model for Mirror<G> {
 }
 
 impl<G: Game> Mirror<G> {
-    /// A mirror before any event, with room for so many arrivals that are taken or turned away. It takes all the memory
-    /// that the mirror ever needs, and keeps a twin of the opening.
+    /// A mirror before any event, with room for so many arrivals that are taken or turned away, at most 1,048,576, and
+    /// with a stagger of one copy. It takes all the memory that the mirror ever needs, and keeps a twin of the opening.
+    /// Want of memory makes nothing.
     pub fn new(
         alloc: Global,
         opening: &G,
@@ -100,7 +104,8 @@ impl<G: Game> Mirror<G> {
         })
     }
 
-    /// The clock goes on by one tick, up to the match's length plus the longest delay.
+    /// The clock goes on by one tick, answered Moved. Where it stands at its end, the match's length plus the longest
+    /// delay, nothing changes, and the answer is Over.
     pub fn tick(&mut self) -> Ticked
         ensures state { self.new ≡ next self.old Event.Tick }
         ensures answer { said self.old Event.Tick ≡ Reply.Tick result }
@@ -113,8 +118,9 @@ impl<G: Game> Mirror<G> {
         Ticked::Moved
     }
 
-    /// A command arrives: it is accepted, known already, or turned away where it is older than the last copy's clock.
-    /// Taken and Late lower the spare room by one.
+    /// A command that is due within the match arrives. Where one with the same mirror and number was accepted before,
+    /// nothing changes, and the answer is Repeat. Where it is older than the last copy's clock it is turned away, answered
+    /// Late with that clock. Else it is accepted, answered Taken. Taken and Late each use up room for one arrival.
     pub fn arrive(&mut self, x: &Command) -> Arrived
         requires within_match { x.now.time < self.old.length }
         requires room { 0 < self.old.spare }
@@ -126,22 +132,22 @@ impl<G: Game> Mirror<G> {
         }
         self.spare -= 1;
         self.history.push_reserved(Event::Arrive(*x));
-        if x.time < self.run_clock {
+        let bound = self.run_clock;
+        if x.time < bound {
             self.turned.push_reserved(Turned {
                 from: x.from,
                 number: x.number,
-                bound: self.run_clock,
+                bound,
             });
-            return Arrived::Late {
-                bound: self.run_clock,
-            };
+            return Arrived::Late { bound };
         }
         self.accepted.push_reserved(*x);
         place(&mut self.in_order, x);
         Arrived::Taken { repaired: 0 }
     }
 
-    /// The copy runs one tick, where it may.
+    /// The copy, which is there, runs one tick: the commands due then in key order, and one beat. The answer is Ran. Where
+    /// the copy stands at its limit nothing changes, and the answer is Idle.
     pub fn step(&mut self, copy: u8) -> Stepped
         requires { copy < length self.old.runs }
         ensures state { self.new ≡ next self.old (Event.Step copy) }
@@ -161,7 +167,7 @@ impl<G: Game> Mirror<G> {
         Stepped::Ran { repaired: 0 }
     }
 
-    /// Makes the event, whichever it is.
+    /// Makes the event, whichever it is, as `tick`, `arrive` and `step` do.
     pub fn make(&mut self, e: &Event) -> Reply
         requires fits { Fits self.old e.now }
         requires room { HasRoom self.old e.now }

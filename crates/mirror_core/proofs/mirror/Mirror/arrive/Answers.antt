@@ -21,19 +21,19 @@ invariant_of-self g c =
     let new : list_any (same_name c.args.x.now) c.self.inside.accepted.items ≡ false = rw c.deref.ensures.value at (sym c.if-has_name.ensures) in
     let within = rw (← c.self.view_is) at c.requires.within_match in
     let spare = rw (← c.self.view_is) at c.requires.room in
-    rw (c.push_reserved-then-x-self.ensures.items, c.push_reserved.ensures.items, c.push_reserved-then-x-self.ensures.capacity, c.push_reserved.ensures.capacity)
-    (kept_away _ _ c.args.x.now c.self.invariant within spare new (late_at c.self.invariant c.args.x.now c.if-x-self.true))
+    rw (c.push_reserved-then-x-bound.ensures.items, c.push_reserved.ensures.items, c.push_reserved-then-x-bound.ensures.capacity, c.push_reserved.ensures.capacity)
+    (kept_away _ _ c.args.x.now c.self.invariant within spare new (late_at c.self.invariant c.args.x.now c.if-x-bound.true))
 
-pub returns-then-x-self-clause-state : goal.returns-then-x-self-clause-state
-returns-then-x-self-clause-state g c =
+pub returns-then-x-bound-clause-state : goal.returns-then-x-bound-clause-state
+returns-then-x-bound-clause-state g c =
     let new : list_any (same_name c.args.x.now) c.self.inside.accepted.items ≡ false = rw c.deref.ensures.value at (sym c.if-has_name.ensures) in
-    rw (← c.self.view_is, c.push_reserved-then-x-self.ensures.items, c.push_reserved.ensures.items)
-    (late_state c.self.invariant c.args.x.now new c.if-x-self.true)
+    rw (← c.self.view_is, c.push_reserved-then-x-bound.ensures.items, c.push_reserved.ensures.items)
+    (late_state c.self.invariant c.args.x.now new c.if-x-bound.true)
 
-pub returns-then-x-self-clause-answer : goal.returns-then-x-self-clause-answer
-returns-then-x-self-clause-answer g c =
+pub returns-then-x-bound-clause-answer : goal.returns-then-x-bound-clause-answer
+returns-then-x-bound-clause-answer g c =
     let new : list_any (same_name c.args.x.now) c.self.inside.accepted.items ≡ false = rw c.deref.ensures.value at (sym c.if-has_name.ensures) in
-    rw (← c.self.view_is) (late_answer c.self.invariant c.args.x.now new c.if-x-self.true)
+    rw (← c.self.view_is) (late_answer c.self.invariant c.args.x.now new c.if-x-bound.true)
 
 pub place-requires-clause-rising : goal.place-requires-clause-rising
 place-requires-clause-rising g c = in_order_rises c.self.invariant
@@ -56,15 +56,15 @@ invariant_of-self-2 g c =
     let within = rw (← c.self.view_is) at c.requires.within_match in
     let spare = rw (← c.self.view_is) at c.requires.room in
     rw (c.place.ensures.placed, c.push_reserved-2.ensures.items, c.push_reserved.ensures.items, c.place.ensures.capacity, c.push_reserved-2.ensures.capacity, c.push_reserved.ensures.capacity)
-    (kept_taken _ _ c.args.x.now c.self.invariant within spare new (on_time c.self.invariant c.args.x.now c.if-x-self.false))
+    (kept_taken _ _ c.args.x.now c.self.invariant within spare new (on_time c.self.invariant c.args.x.now c.if-x-bound.false))
 
 pub returns-clause-state : goal.returns-clause-state
 returns-clause-state g c =
     let new : list_any (same_name c.args.x.now) c.self.inside.accepted.items ≡ false = rw c.deref.ensures.value at (sym c.if-has_name.ensures) in
     rw (← c.self.view_is, c.push_reserved-2.ensures.items, c.push_reserved.ensures.items)
-    (taken_state c.self.invariant c.args.x.now new c.if-x-self.false)
+    (taken_state c.self.invariant c.args.x.now new c.if-x-bound.false)
 
 pub returns-clause-answer : goal.returns-clause-answer
 returns-clause-answer g c =
     let new : list_any (same_name c.args.x.now) c.self.inside.accepted.items ≡ false = rw c.deref.ensures.value at (sym c.if-has_name.ensures) in
-    rw (← c.self.view_is) (taken_answer c.self.invariant c.args.x.now new c.if-x-self.false)
+    rw (← c.self.view_is) (taken_answer c.self.invariant c.args.x.now new c.if-x-bound.false)
