@@ -1,0 +1,3 @@
+//! A plain mirror: slow, over whole lists.
+
+mod runs;
