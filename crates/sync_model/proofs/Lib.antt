@@ -13,3 +13,4 @@ pub mod Arrivals
 pub mod Answers
 pub mod Computing
 pub mod Same
+pub mod Loops
