@@ -1,3 +1,4 @@
 //! A plain mirror: slow, over whole lists.
 
 mod runs;
+mod settle;
