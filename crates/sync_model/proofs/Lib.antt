@@ -14,3 +14,4 @@ pub mod Answers
 pub mod Computing
 pub mod Same
 pub mod Loops
+pub mod Kept

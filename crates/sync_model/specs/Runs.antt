@@ -16,3 +16,19 @@ runs_of runs = map (λ run. run.items) runs
 pub record IsSound {W : Type 0} (s : MirrorState W) : Type 0 where
   pub staggered : IsStaggered s
   pub well_formed : IsWellFormed s
+
+-- the state that a plain mirror's fields hold
+abbrev pub plain_state :
+    {W : Type 0} → W → ℕ → List ℕ → ℕ → List Command → List Turned → List (Vec Item Global) → List Event → ℕ → MirrorState W
+plain_state opening length delays clock accepted turned runs history spare =
+    record {
+      opening = opening;
+      length = length;
+      delays = delays;
+      clock = clock;
+      accepted = accepted;
+      turned = turned;
+      runs = runs_of runs;
+      history = history;
+      spare = spare
+    }

@@ -6,4 +6,5 @@ mod plain;
 mod turned;
 pub mod worked;
 
+pub use plain::PlainMirror;
 pub use turned::Turned;

@@ -1,0 +1,145 @@
+-- How a plain mirror's fields after an event make up the next state, and that it stays sound.
+use Rattle.std.proofs.Common.{◌≡◌, ℕ, zero, suc, ◌+◌, ◌-◌, ◌≤◌, ◌<◌, Bool, true, false, cond, List, [], ◌∷◌, ◌++◌, length, get_or, refl, ap, sym, ◌∙◌, subst, arith}
+use Rattle.std.specs.List.{AllByRecursion, AllZip}
+use Rattle.game_trait.specs.declared.command.Command.{Command}
+use Rattle.game_trait.specs.declared.command.Item.{Item}
+use Rattle.game_trait.specs.declared.event.Event.{Event}
+use Rattle.game_trait.specs.declared.event.Event.TheVariants.{Tick, Arrive, Step}
+use Rattle.game_trait.specs.declared.event.Reply.TheVariants.{Tick as ToTick, Arrive as ToArrive, Step as ToStep}
+use Rattle.game_trait.specs.declared.event.Ticked.TheVariants.{Moved, Over}
+use Rattle.game_trait.specs.declared.event.Arrived.TheVariants.{Taken, Repeat, Late}
+use Rattle.game_trait.specs.declared.event.Stepped.TheVariants.{Ran, Idle}
+use Rattle.game_trait.specs.Run.{beats}
+use Rattle.sync_model.specs.declared.turned.Turned.{Turned}
+use Rattle.sync_model.specs.State.{MirrorState, last_of, longest_delay, last_clock, copy_clock, step_limit}
+use Rattle.sync_model.specs.Change.{next, said, is_over, is_repeat, is_late, is_idle, Fits}
+use Rattle.sync_model.specs.Staggered.{IsStaggered, IsWellFormed, IsBehindClock}
+use Rattle.sync_model.specs.Runs.{IsSound}
+use Rattle.sync_model.proofs.Staggered.{staggered-next}
+use Rattle.sync_model.proofs.Along.{well_formed-next}
+use Rattle.sync_model.proofs.Cases.{moved, away, taken, ran, said_taken, said_ran}
+
+-- the last element, read at its place
+pub last_at : {X : Type 0} (xs : List X) (d x : X) → 0 < length xs → x ≡ get_or xs (length xs - 1) x → x ≡ last_of d xs
+unfolding last_of
+last_at [] d x some here = absurd (omega arith)
+last_at (y ∷ []) d x some here = here
+last_at (y ∷ z ∷ zs) d x some here =
+    (let e : length (y ∷ z ∷ zs) - 1 ≡ suc (length (z ∷ zs) - 1) = omega arith in
+    last_at (z ∷ zs) y x (omega arith) (here ∙ ap (λ (i : ℕ). get_or (y ∷ z ∷ zs) i x) e))
+
+last-all : {X : Type 0} (P : X → Type 0) (d : X) (xs : List X) → P d → AllByRecursion P xs → P (last_of d xs)
+unfolding last_of
+last-all P d [] here h = here
+last-all P d (x ∷ xs) here h = last-all P x xs h.0 h.1
+
+pub longest_small : {W : Type 0} (s : MirrorState W) → IsWellFormed s → longest_delay s ≤ 1024
+longest_small s h = last-all (λ delay. delay ≤ 1024) 0 s.delays (omega arith) h.short_delays
+
+-- the cases of the next state and its answer
+pub next_over : {W : Type 0} (s : MirrorState W) → is_over s ≡ true → next s Tick ≡ s
+unfolding next
+next_over s e = rw e refl
+
+pub next_moved : {W : Type 0} (s : MirrorState W) → is_over s ≡ false → next s Tick ≡ moved s
+unfolding next
+next_moved s e = rw e refl
+
+pub said_over : {W : Type 0} (s : MirrorState W) → is_over s ≡ true → said s Tick ≡ ToTick Over
+unfolding said
+said_over s e = rw e refl
+
+pub said_moved : {W : Type 0} (s : MirrorState W) → is_over s ≡ false → said s Tick ≡ ToTick Moved
+unfolding said
+said_moved s e = rw e refl
+
+pub next_repeat : {W : Type 0} (s : MirrorState W) (x : Command) → is_repeat s x ≡ true → next s (Arrive x) ≡ s
+unfolding next
+next_repeat s x e = rw e refl
+
+pub said_repeat : {W : Type 0} (s : MirrorState W) (x : Command) → is_repeat s x ≡ true → said s (Arrive x) ≡ ToArrive Repeat
+unfolding said
+said_repeat s x e = rw e refl
+
+pub next_late : {W : Type 0} (s : MirrorState W) (x : Command) → is_repeat s x ≡ false → is_late s x ≡ true → next s (Arrive x) ≡ away s x
+unfolding next
+next_late s x e l = rw (e, l) refl
+
+pub said_late : {W : Type 0} (s : MirrorState W) (x : Command) → is_repeat s x ≡ false → is_late s x ≡ true → said s (Arrive x) ≡ ToArrive (Late (last_clock s))
+unfolding said
+said_late s x e l = rw (e, l) refl
+
+pub next_taken : {W : Type 0} (s : MirrorState W) (x : Command) → is_repeat s x ≡ false → is_late s x ≡ false → next s (Arrive x) ≡ taken s x
+unfolding next
+next_taken s x e l = rw (e, l) refl
+
+pub said_taken_at : {W : Type 0} (s : MirrorState W) (x : Command) → is_repeat s x ≡ false → is_late s x ≡ false → said s (Arrive x) ≡ said_taken s x
+unfolding said
+said_taken_at s x e l = rw (e, l) refl
+
+pub next_idle : {W : Type 0} (s : MirrorState W) (c : ℕ) → is_idle s c ≡ true → next s (Step c) ≡ s
+unfolding next
+next_idle s c e = rw e refl
+
+pub said_idle : {W : Type 0} (s : MirrorState W) (c : ℕ) → is_idle s c ≡ true → said s (Step c) ≡ ToStep Idle
+unfolding said
+said_idle s c e = rw e refl
+
+pub next_ran : {W : Type 0} (s : MirrorState W) (c : ℕ) → is_idle s c ≡ false → next s (Step c) ≡ ran s c
+unfolding next
+next_ran s c e = rw e refl
+
+pub said_ran_at : {W : Type 0} (s : MirrorState W) (c : ℕ) → is_idle s c ≡ false → said s (Step c) ≡ said_ran s c
+unfolding said
+said_ran_at s c e = rw e refl
+
+-- a sound mirror stays sound
+pub sound_next : {W : Type 0} (s t : MirrorState W) (e : Event) → Fits s e → IsSound s → t ≡ next s e → IsSound t
+sound_next s t e fits here same =
+    subst IsSound (sym same) (record { staggered = staggered-next s e fits here.staggered; well_formed = well_formed-next s e here.well_formed })
+
+-- states with the same fields
+pub same_state :
+    {W : Type 0} (s t : MirrorState W) → t.opening ≡ s.opening → t.length ≡ s.length → t.delays ≡ s.delays → t.clock ≡ s.clock
+    → t.accepted ≡ s.accepted → t.turned ≡ s.turned → t.runs ≡ s.runs → t.history ≡ s.history → t.spare ≡ s.spare → t ≡ s
+same_state s t o l d c a u r h n =
+    λ i. record { opening = o i; length = l i; delays = d i; clock = c i; accepted = a i; turned = u i; runs = r i; history = h i; spare = n i }
+
+-- the last copy's clock is at most the match's length
+last-behind : {W : Type 0} (s : MirrorState W) (d : List Item) (runs : List (List Item)) (delays : List ℕ) → beats d ≤ s.length → AllZip (IsBehindClock s) runs delays → beats (last_of d runs) ≤ s.length
+unfolding last_of
+last-behind s d [] delays here h = here
+last-behind s d (r ∷ rs) [] here h = absurd h
+last-behind s d (r ∷ rs) (e ∷ es) here h = last-behind s r rs es h.0.0 h.1
+
+pub last_clock_small : {W : Type 0} (s : MirrorState W) → IsSound s → last_clock s ≤ 8192
+unfolding beats
+last_clock_small s here =
+    let most = last-behind s [] s.runs s.delays (omega arith) here.staggered.clocks.copies in
+    omega (arith, here.well_formed.few_ticks)
+
+-- the same of what a plain mirror's fields hold, s, that contracts see as v
+pub sound_view : {W : Type 0} (s v t : MirrorState W) (e : Event) → s ≡ v → Fits v e → IsSound s → t ≡ next v e → IsSound t
+sound_view s v t e view fits here same = sound_next v t e fits (subst IsSound view here) same
+
+pub moved_view :
+    {W : Type 0} (s v : MirrorState W) (history : List Event) → s ≡ v → false ≡ is_over v → history ≡ s.history ++ Tick ∷ []
+    → record s { clock = s.clock + 1; history = history } ≡ next v Tick
+moved_view {W} s v history view e h =
+    same_state (moved s) (record s { clock = s.clock + 1; history = history }) refl refl refl refl refl refl refl h refl
+    ∙ ap (λ (t : MirrorState W). moved t) view ∙ sym (next_moved v (sym e))
+
+pub clock_small : {W : Type 0} (s : MirrorState W) → IsSound s → s.clock ≤ 9216
+clock_small s here = omega (arith, here.staggered.clocks.mirror, here.well_formed.few_ticks, longest_small s here.well_formed)
+
+pub over_state : {W : Type 0} (v : MirrorState W) → true ≡ is_over v → v ≡ next v Tick
+over_state v e = sym (next_over v (sym e))
+
+pub over_answer : {W : Type 0} (v : MirrorState W) → true ≡ is_over v → ToTick Over ≡ said v Tick
+over_answer v e = sym (said_over v (sym e))
+
+pub moved_answer : {W : Type 0} (v : MirrorState W) → false ≡ is_over v → ToTick Moved ≡ said v Tick
+moved_answer v e = sym (said_moved v (sym e))
+
+pub last_from : {X : Type 0} (xs : List X) (d x : X) (n : ℕ) → n ≡ length xs → 0 < length xs → x ≡ get_or xs (n - 1) x → x ≡ last_of d xs
+last_from xs d x n e some here = last_at xs d x some (here ∙ ap (λ (k : ℕ). get_or xs (k - 1) x) e)
