@@ -1,5 +1,5 @@
 -- How a plain mirror's fields after an event make up the next state, and that it stays sound.
-use Rattle.std.proofs.Common.{◌≡◌, ℕ, zero, suc, ◌+◌, ◌-◌, ◌≤◌, ◌<◌, Bool, true, false, cond, List, [], ◌∷◌, ◌++◌, length, get_or, refl, ap, sym, ◌∙◌, subst, arith}
+use Rattle.std.proofs.Common.{◌≡◌, ℕ, zero, suc, ◌+◌, ◌-◌, ◌≤◌, ◌<◌, Bool, true, false, cond, min, List, [], ◌∷◌, ◌++◌, map, length, get_or, set, refl, ap, sym, ◌∙◌, subst, arith}
 use Rattle.std.specs.List.{AllByRecursion, AllZip}
 use Rattle.game_trait.specs.declared.command.Command.{Command}
 use Rattle.game_trait.specs.declared.command.Item.{Item}
@@ -12,9 +12,13 @@ use Rattle.game_trait.specs.declared.event.Stepped.TheVariants.{Ran, Idle}
 use Rattle.game_trait.specs.Run.{beats}
 use Rattle.sync_model.specs.declared.turned.Turned.{Turned}
 use Rattle.sync_model.specs.State.{MirrorState, last_of, longest_delay, last_clock, copy_clock, step_limit}
-use Rattle.sync_model.specs.Change.{next, said, is_over, is_repeat, is_late, is_idle, Fits}
+use Rattle.sync_model.specs.Change.{next, said, is_over, is_repeat, is_late, is_idle, with_late, with_tick, proposed_by_arrival, proposed_by_step, Fits}
+use Rattle.sync_model.specs.Settle.{settle, repaired}
 use Rattle.sync_model.specs.Staggered.{IsStaggered, IsWellFormed, IsBehindClock}
-use Rattle.sync_model.specs.Runs.{IsSound}
+use Rattle.std.specs.Prelude.{Vec}
+use Rattle.std.specs.declared.alloc.Global.{Global}
+use Rattle.sync_model.specs.Runs.{IsSound, runs_of}
+use Rattle.sync_model.proofs.Loops.{run_at, runs_length}
 use Rattle.sync_model.proofs.Staggered.{staggered-next}
 use Rattle.sync_model.proofs.Along.{well_formed-next}
 use Rattle.sync_model.proofs.Cases.{moved, away, taken, ran, said_taken, said_ran}
@@ -143,3 +147,88 @@ moved_answer v e = sym (said_moved v (sym e))
 
 pub last_from : {X : Type 0} (xs : List X) (d x : X) (n : ℕ) → n ≡ length xs → 0 < length xs → x ≡ get_or xs (n - 1) x → x ≡ last_of d xs
 last_from xs d x n e some here = last_at xs d x some (here ∙ ap (λ (k : ℕ). get_or xs (k - 1) x) e)
+
+pub away_view :
+    {W : Type 0} (s v : MirrorState W) (x : Command) (turned : List Turned) (history : List Event) (spare : ℕ)
+    → s ≡ v → is_repeat v x ≡ false → is_late v x ≡ true
+    → turned ≡ s.turned ++ record { from = x.from; number = x.number; bound = last_clock v } ∷ []
+    → history ≡ s.history ++ Arrive x ∷ [] → spare ≡ s.spare - 1
+    → record s { turned = turned; history = history; spare = spare } ≡ next v (Arrive x)
+away_view {W} s v x turned history spare view e l t h n =
+    same_state (away s x) (record s { turned = turned; history = history; spare = spare }) refl refl refl refl refl (t ∙ ap (λ (u : MirrorState W). s.turned ++ record { from = x.from; number = x.number; bound = last_clock u } ∷ []) (sym view)) refl h n
+    ∙ ap (λ (u : MirrorState W). away u x) view ∙ sym (next_late v x e l)
+
+pub taken_view :
+    {W : Type 0} (s v : MirrorState W) (x : Command) (accepted : List Command) (proposed runs : List (List Item)) (history : List Event) (spare : ℕ)
+    → s ≡ v → is_repeat v x ≡ false → is_late v x ≡ false
+    → accepted ≡ s.accepted ++ x ∷ [] → proposed ≡ map (with_late x) s.runs → runs ≡ settle accepted proposed
+    → history ≡ s.history ++ Arrive x ∷ [] → spare ≡ s.spare - 1
+    → record s { accepted = accepted; runs = runs; history = history; spare = spare } ≡ next v (Arrive x)
+taken_view {W} s v x accepted proposed runs history spare view e l a p r h n =
+    same_state (taken s x) (record s { accepted = accepted; runs = runs; history = history; spare = spare }) refl refl refl refl a refl
+    (r ∙ ap (settle accepted) p ∙ ap (λ (all : List Command). settle all (map (with_late x) s.runs)) a) h n
+    ∙ ap (λ (u : MirrorState W). taken u x) view ∙ sym (next_taken v x e l)
+
+pub taken_count :
+    {W : Type 0} (s v : MirrorState W) (x : Command) (accepted : List Command) (proposed : List (List Item)) (n : ℕ)
+    → s ≡ v → accepted ≡ s.accepted ++ x ∷ [] → proposed ≡ map (with_late x) s.runs → n ≡ repaired accepted proposed
+    → n ≡ repaired (v.accepted ++ x ∷ []) (proposed_by_arrival v x)
+taken_count {W} s v x accepted proposed n view a p k =
+    k ∙ ap (λ (all : List Command). repaired all proposed) a ∙ ap (repaired (s.accepted ++ x ∷ [])) p ∙ ap (λ (u : MirrorState W). repaired (u.accepted ++ x ∷ []) (proposed_by_arrival u x)) view
+
+pub ran_view :
+    {W : Type 0} (s v : MirrorState W) (c : ℕ) (proposed runs : List (List Item)) (history : List Event)
+    → s ≡ v → is_idle v c ≡ false
+    → proposed ≡ set s.runs c (with_tick s.accepted (get_or s.runs c [])) → runs ≡ settle s.accepted proposed → history ≡ s.history ++ Step c ∷ []
+    → record s { runs = runs; history = history } ≡ next v (Step c)
+ran_view {W} s v c proposed runs history view e p r h =
+    same_state (ran s c) (record s { runs = runs; history = history }) refl refl refl refl refl refl (r ∙ ap (settle s.accepted) p) h refl
+    ∙ ap (λ (u : MirrorState W). ran u c) view ∙ sym (next_ran v c e)
+
+pub ran_count :
+    {W : Type 0} (s v : MirrorState W) (c : ℕ) (proposed : List (List Item)) (n : ℕ)
+    → s ≡ v → proposed ≡ set s.runs c (with_tick s.accepted (get_or s.runs c [])) → n ≡ repaired s.accepted proposed
+    → n ≡ repaired v.accepted (proposed_by_step v c)
+ran_count {W} s v c proposed n view p k =
+    k ∙ ap (repaired s.accepted) p ∙ ap (λ (u : MirrorState W). repaired u.accepted (proposed_by_step u c)) view
+
+pub limit_first : {W : Type 0} (s : MirrorState W) (c n : ℕ) → c ≡ 0 → n ≡ min s.length (s.clock - get_or s.delays c 0) → n ≡ step_limit s c
+unfolding step_limit
+limit_first s zero n z e = e
+limit_first s (suc c) n z e = absurd (omega arith)
+
+pub limit_behind : {W : Type 0} (s : MirrorState W) (c n : ℕ) → 0 < c → n ≡ min (min s.length (s.clock - get_or s.delays c 0)) (beats (get_or s.runs (c - 1) [])) → n ≡ step_limit s c
+unfolding step_limit
+limit_behind s zero n some e = absurd (omega arith)
+limit_behind s (suc c) n some e = (let k : suc c - 1 ≡ c = omega arith in e ∙ ap (λ (i : ℕ). min (min s.length (s.clock - get_or s.delays (suc c) 0)) (beats (get_or s.runs i []))) k)
+
+pub repeat_state : {W : Type 0} (v : MirrorState W) (x : Command) → true ≡ is_repeat v x → v ≡ next v (Arrive x)
+repeat_state v x e = sym (next_repeat v x (sym e))
+
+pub repeat_answer : {W : Type 0} (v : MirrorState W) (x : Command) → true ≡ is_repeat v x → ToArrive Repeat ≡ said v (Arrive x)
+repeat_answer v x e = sym (said_repeat v x (sym e))
+
+pub idle_state : {W : Type 0} (v : MirrorState W) (c : ℕ) → true ≡ is_idle v c → v ≡ next v (Step c)
+idle_state v c e = sym (next_idle v c (sym e))
+
+pub idle_answer : {W : Type 0} (v : MirrorState W) (c : ℕ) → true ≡ is_idle v c → ToStep Idle ≡ said v (Step c)
+idle_answer v c e = sym (said_idle v c (sym e))
+
+pub last_run_at : (xs : List (Vec Item Global)) (q : Vec Item Global) (n : ℕ) → n ≡ length xs → 0 < length xs → q ≡ get_or xs (n - 1) q → q.items ≡ last_of [] (runs_of xs)
+last_run_at xs q n e some here =
+    last_from (runs_of xs) [] q.items n (e ∙ sym (runs_length xs)) (omega (arith, runs_length xs))
+    (run_at xs (n - 1) q (omega arith) here ∙ get_or-any (runs_of xs) (n - 1) [] q.items (omega (arith, runs_length xs)))
+  where
+    get_or-any : (xs : List (List Item)) (i : ℕ) (d e : List Item) → i < length xs → get_or xs i d ≡ get_or xs i e
+    get_or-any [] i d e below = absurd (omega arith)
+    get_or-any (x ∷ xs) zero d e below = refl
+    get_or-any (x ∷ xs) (suc i) d e below = get_or-any xs i d e (omega arith)
+
+pub late_answer : {W : Type 0} (v : MirrorState W) (x : Command) (bound : ℕ) → is_repeat v x ≡ false → is_late v x ≡ true → bound ≡ last_clock v → ToArrive (Late bound) ≡ said v (Arrive x)
+late_answer v x bound e l b = ap (λ (n : ℕ). ToArrive (Late n)) b ∙ sym (said_late v x e l)
+
+pub taken_answer : {W : Type 0} (v : MirrorState W) (x : Command) (n : ℕ) → is_repeat v x ≡ false → is_late v x ≡ false → n ≡ repaired (v.accepted ++ x ∷ []) (proposed_by_arrival v x) → ToArrive (Taken n) ≡ said v (Arrive x)
+taken_answer v x n e l k = ap (λ (m : ℕ). ToArrive (Taken m)) k ∙ sym (said_taken_at v x e l)
+
+pub ran_answer : {W : Type 0} (v : MirrorState W) (c n : ℕ) → is_idle v c ≡ false → n ≡ repaired v.accepted (proposed_by_step v c) → ToStep (Ran n) ≡ said v (Step c)
+ran_answer v c n e k = ap (λ (m : ℕ). ToStep (Ran m)) k ∙ sym (said_ran_at v c e)
