@@ -11,7 +11,7 @@ use Rattle.game_trait.specs.declared.event.Arrived.TheVariants.{Taken, Repeat, L
 use Rattle.game_trait.specs.declared.event.Stepped.TheVariants.{Ran, Idle}
 use Rattle.game_trait.specs.Run.{beats}
 use Rattle.sync_model.specs.declared.turned.Turned.{Turned}
-use Rattle.sync_model.specs.State.{MirrorState, last_of, longest_delay, last_clock, copy_clock, step_limit}
+use Rattle.sync_model.specs.State.{MirrorState, opening_state, last_of, longest_delay, last_clock, copy_clock, step_limit}
 use Rattle.sync_model.specs.Change.{next, said, is_over, is_repeat, is_late, is_idle, with_late, with_tick, proposed_by_arrival, proposed_by_step, Fits}
 use Rattle.sync_model.specs.Settle.{settle, repaired}
 use Rattle.sync_model.specs.Staggered.{IsStaggered, IsWellFormed, IsBehindClock}
@@ -19,7 +19,7 @@ use Rattle.std.specs.Prelude.{Vec}
 use Rattle.std.specs.declared.alloc.Global.{Global}
 use Rattle.sync_model.specs.Runs.{IsSound, runs_of}
 use Rattle.sync_model.proofs.Loops.{run_at, runs_length}
-use Rattle.sync_model.proofs.Staggered.{staggered-next}
+use Rattle.sync_model.proofs.Staggered.{staggered-next, staggered-opening}
 use Rattle.sync_model.proofs.Along.{well_formed-next}
 use Rattle.sync_model.proofs.Cases.{moved, away, taken, ran, said_taken, said_ran}
 
@@ -232,3 +232,15 @@ taken_answer v x n e l k = ap (λ (m : ℕ). ToArrive (Taken m)) k ∙ sym (said
 
 pub ran_answer : {W : Type 0} (v : MirrorState W) (c n : ℕ) → is_idle v c ≡ false → n ≡ repaired v.accepted (proposed_by_step v c) → ToStep (Ran n) ≡ said v (Step c)
 ran_answer v c n e k = ap (λ (m : ℕ). ToStep (Ran m)) k ∙ sym (said_ran_at v c e)
+
+-- an opening state is sound, and so are fields that make it up
+pub opening_view :
+    {W : Type 0} (opening o : W) (length : ℕ) (ds delays : List ℕ) (runs : List (List Item)) (spare : ℕ) (accepted : List Command) (turned : List Turned) (history : List Event)
+    → o ≡ opening → ds ≡ delays → runs ≡ map (λ delay. []) delays → accepted ≡ [] → turned ≡ [] → history ≡ []
+    → record { opening = o; length = length; delays = ds; clock = 0; accepted = accepted; turned = turned; runs = runs; history = history; spare = spare } ≡ opening_state opening length delays spare
+opening_view opening o length ds delays runs spare accepted turned history eo ed er ea et eh =
+    λ i. record { opening = eo i; length = length; delays = ed i; clock = 0; accepted = ea i; turned = et i; runs = er i; history = eh i; spare = spare }
+
+pub sound_opening : {W : Type 0} (t : MirrorState W) (opening : W) (length : ℕ) (delays : List ℕ) (spare : ℕ) → IsWellFormed (opening_state opening length delays spare) → t ≡ opening_state opening length delays spare → IsSound t
+sound_opening t opening length delays spare well same =
+    subst IsSound (sym same) (record { staggered = staggered-opening opening length delays spare; well_formed = well })

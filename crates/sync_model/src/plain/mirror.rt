@@ -1,6 +1,6 @@
 //! The plain mirror.
 
-ghost use Rattle.std.specs.Prelude.{◌≡◌, ◌-◌, min, true, false, ◌<◌, ◌≤◌, length, slice_index_or, [], ◌∷◌, ◌++◌, OnOk, OnErr, IfOk};
+ghost use Rattle.std.specs.Prelude.{◌≡◌, ◌-◌, min, true, false, ◌<◌, ◌≤◌, length, slice_index_or, [], ◌∷◌, ◌++◌, map, OnOk, OnErr, IfOk};
 ghost use Rattle.game_trait.specs.declared.event.Event.TheVariants.{Tick as TickEvent, Arrive, Step};
 ghost use Rattle.game_trait.specs.declared.event.Reply.TheVariants.{Tick as ToTick, Arrive as ToArrive, Step as ToStep};
 ghost use Rattle.game_trait.specs.Run.{world_of};
@@ -8,6 +8,7 @@ ghost use Rattle.sync_model.specs.State.{opening_state, longest_delay, last_cloc
 ghost use Rattle.sync_model.specs.Change.{next, said, is_over, is_repeat, is_late, is_idle, proposed_by_arrival, proposed_by_step, Fits};
 ghost use Rattle.sync_model.specs.Settle.{repaired};
 ghost use Rattle.sync_model.specs.Staggered.{IsWellFormed};
+ghost use Rattle.sync_model.specs.Runs.{runs_of};
 
 use crate::plain::propose::{by_arrival, by_step};
 use crate::plain::runs::{beats_of, is_named};
@@ -49,6 +50,27 @@ impl<G: Game> Model for PlainMirror<G> {
 }
 
 impl<G: Game> PlainMirror<G> {
+    /// A mirror before any event, with a copy for each delay. `room` is how many arrivals may be taken or turned away. Where memory is
+    /// short, no mirror is made.
+    pub fn new(alloc: Global, opening: &G, length: Tick, delays: &[Tick], room: u32) -> Result<PlainMirror<G>, AllocError>
+        requires { IsWellFormed (opening_state opening.now length delays.now room) }
+        ensures ok { IfOk result (λ m. m ≡ opening_state opening.now length delays.now room) }
+    {
+        let runs = empty_runs(alloc, delays)?;
+        let own_delays = Vec::from_slice(alloc, delays)?;
+        Ok(PlainMirror {
+            opening: opening.twin(),
+            length,
+            delays: own_delays,
+            clock: 0,
+            accepted: Vec::new(alloc),
+            turned: Vec::new(alloc),
+            runs,
+            history: Vec::new(alloc),
+            spare: room,
+        })
+    }
+
     /// How many copies there are.
     pub fn copies(&self) -> usize
         ensures { result ≡ length self.now.runs }
@@ -314,6 +336,17 @@ fn replayed<G: Game>(opening: &G, run: &[Item]) -> G
         execute(&mut world, item);
     }
     world
+}
+
+/// An empty run for each delay.
+fn empty_runs(alloc: Global, delays: &[Tick]) -> Result<Vec<Vec<Item>>, AllocError>
+    ensures ok { IfOk result (λ v. runs_of v.items ≡ map (λ delay. []) delays.now) }
+{
+    let mut runs = Vec::new(alloc);
+    for _delay in delays {
+        runs.push(Vec::new(alloc))?;
+    }
+    Ok(runs)
 }
 
 /// The items, and one more.
