@@ -1,6 +1,6 @@
 //! The plain mirror.
 
-ghost use Rattle.std.specs.Prelude.{◌≡◌, ◌-◌, min, true, false, ◌<◌, ◌≤◌, length, slice_index_or, [], ◌∷◌, ◌++◌, map, OnOk, OnErr, IfOk};
+ghost use Rattle.std.specs.Prelude.{◌≡◌, ◌↔◌, IsTrue, ◌-◌, min, true, false, ◌<◌, ◌≤◌, length, slice_index_or, [], ◌∷◌, ◌++◌, map, OnOk, OnErr, IfOk};
 ghost use Rattle.game_trait.specs.declared.event.Event.TheVariants.{Tick as TickEvent, Arrive, Step};
 ghost use Rattle.game_trait.specs.declared.event.Reply.TheVariants.{Tick as ToTick, Arrive as ToArrive, Step as ToStep};
 ghost use Rattle.game_trait.specs.Run.{world_of};
@@ -264,6 +264,17 @@ impl<G: Game> PlainMirror<G> {
         }
     }
 
+    /// Whether an event fits: a command is due within the match, a copy is there.
+    pub fn does_fit(&self, e: &Event) -> bool
+        ensures { IsTrue result ↔ Fits self.now e.now }
+    {
+        match e {
+            Event::Tick => true,
+            Event::Arrive(x) => x.time < self.length,
+            Event::Step(copy) => (*copy as usize) < self.runs.len(),
+        }
+    }
+
     /// The mirror's clock, in ticks.
     pub fn clock(&self) -> Tick
         ensures { result ≡ self.now.clock }
@@ -356,4 +367,111 @@ fn with_last<T: Copy>(alloc: Global, items: &[T], last: T) -> Result<Vec<T>, All
     let mut more = Vec::from_slice(alloc, items)?;
     more.push(last)?;
     Ok(more)
+}
+
+#[cfg(test)]
+mod tests {
+    use super::*;
+    use game_trait::Act;
+    use std::test::Fail;
+
+    /// A game whose world is the number of the last command and the beats since.
+    #[derive(Clone, Copy, Debug, PartialEq, Eq)]
+    struct Last {
+        number: u32,
+        beats: u32,
+    }
+
+    impl Game for Last {
+        ghost use Rattle.std.specs.Prelude.{◌+◌, ◌%◌, ◌^◌};
+
+        ghost rules = {
+            record { apply = λ w x. record { number = x.number; beats = 0 }; beat = λ w. record w { beats = (w.beats + 1) % 2 ^ 32 } }
+        };
+
+        fn apply(&mut self, x: &Command) {
+            self.number = x.number;
+            self.beats = 0;
+        }
+
+        fn beat(&mut self) {
+            self.beats = self.beats.wrapping_add(1);
+        }
+
+        fn set_from(&mut self, other: &Last) {
+            *self = *other;
+        }
+
+        fn twin(&self) -> Last {
+            *self
+        }
+    }
+
+    fn go(time: Tick, number: u32) -> Event {
+        Event::Arrive(Command {
+            time,
+            from: 0,
+            number,
+            player: 0,
+            act: Act::Go,
+        })
+    }
+
+    const OPENING: Last = Last { number: 0, beats: 0 };
+
+    /// Makes the events that fit, and answers the last reply.
+    fn make_all(alloc: Global, mirror: &mut PlainMirror<Last>, events: &[Event]) -> Result<Option<Reply>, AllocError> {
+        let mut reply = None;
+        for e in events {
+            if mirror.does_fit(e) {
+                reply = Some(mirror.make(alloc, e)?);
+            }
+        }
+        Ok(reply)
+    }
+
+    #[test]
+    #[tactic(auto, unfolding(crate::specs::Staggered::DelaysRise))]
+    fn repaired_twice(rt: HostRuntime) -> Result<(), Fail> {
+        let alloc = rt.alloc();
+        let mut mirror = PlainMirror::new(alloc, &OPENING, 8, &[0, 2, 4], 2)?;
+        let turn = [Event::Tick, Event::Step(0), Event::Step(1), Event::Step(2)];
+        for _ in 0..5 {
+            make_all(alloc, &mut mirror, &turn)?;
+        }
+        let taken = make_all(alloc, &mut mirror, &[go(1, 7)])?;
+        assert!(rt; taken == Some(Reply::Arrive(Arrived::Taken { repaired: 1 })));
+        let ran = make_all(alloc, &mut mirror, &turn)?;
+        assert!(rt; ran == Some(Reply::Step(Stepped::Ran { repaired: 2 })));
+        assert!(rt; mirror.copies() == 3);
+        assert!(rt; mirror.run_of(2).len() == 3);
+        assert!(rt; mirror.run_of(0).starts_with(mirror.run_of(1)));
+        assert!(rt; mirror.world(0) == Last { number: 7, beats: 5 });
+        assert!(rt; mirror.clock() == 6);
+        assert!(rt; mirror.accepted().len() == 1);
+        Ok(())
+    }
+
+    #[test]
+    #[tactic(auto, unfolding(crate::specs::Staggered::DelaysRise))]
+    fn repeat_and_late(rt: HostRuntime) -> Result<(), Fail> {
+        let alloc = rt.alloc();
+        let mut mirror = PlainMirror::new(alloc, &OPENING, 4, &[0], 2)?;
+        make_all(alloc, &mut mirror, &[go(2, 7)])?;
+        let again = make_all(alloc, &mut mirror, &[go(2, 7)])?;
+        assert!(rt; again == Some(Reply::Arrive(Arrived::Repeat)));
+        for _ in 0..3 {
+            make_all(alloc, &mut mirror, &[Event::Tick, Event::Step(0)])?;
+        }
+        let late = make_all(alloc, &mut mirror, &[go(2, 8)])?;
+        assert!(rt; late == Some(Reply::Arrive(Arrived::Late { bound: 3 })));
+        let idle = make_all(alloc, &mut mirror, &[Event::Step(0)])?;
+        assert!(rt; idle == Some(Reply::Step(Stepped::Idle)));
+        let over = make_all(alloc, &mut mirror, &[Event::Tick, Event::Tick])?;
+        assert!(rt; over == Some(Reply::Tick(Ticked::Over)));
+        assert!(rt; mirror.turned() == [Turned { from: 0, number: 8, bound: 3 }].as_slice());
+        assert!(rt; mirror.spare() == 0);
+        assert!(rt; mirror.events().len() == 9);
+        Ok(())
+    }
 }
