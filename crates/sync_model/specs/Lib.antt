@@ -5,4 +5,5 @@ pub mod Staggered
 pub mod Turns
 pub mod History
 pub mod Repairs
+pub mod Runs
 pub mod Worked

@@ -2,7 +2,9 @@
 #![tactic(auto)]
 
 pub mod laws;
+mod plain;
 mod turned;
 pub mod worked;
 
+pub use plain::PlainMirror;
 pub use turned::Turned;
