@@ -10,6 +10,7 @@ mod no_memory;
 mod put;
 mod read;
 mod read_fault;
+mod retries;
 mod seq;
 mod sink;
 mod source;
@@ -29,3 +30,6 @@ pub use sink::Sink;
 pub use source::Source;
 pub use std_sink::StdSink;
 pub use std_source::StdSource;
+
+#[cfg(test)]
+mod tests;

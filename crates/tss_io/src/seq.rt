@@ -43,18 +43,21 @@ impl<T> Seq<T> {
         items
     }
 
+    /// The items in order.
     pub fn as_slice(&self) -> &[T]
         ensures { result.now ≡ self.now }
     {
         self.items.as_slice()
     }
 
+    /// How many items there are.
     pub fn len(&self) -> usize
         ensures { result ≡ length self.now }
     {
         self.items.len()
     }
 
+    /// There is no item.
     pub fn is_empty(&self) -> bool
         ensures { IsTrue result ↔ (self.now ≡ []) }
     {
@@ -72,6 +75,7 @@ impl<T> Seq<T> {
         Ok(())
     }
 
+    /// Goes over the items in order.
     pub fn iter(&self) -> Iter<'_, T>
         ensures { iter_rest result ≡ self.now }
     {

@@ -1,11 +1,13 @@
 ghost use Rattle.std.specs.Prelude.{◌≡◌, ◌≤◌, None, length, IfOk};
 
 use crate::failed::Failed;
+use crate::retries::RETRIES;
 use crate::sink::Sink;
 use std::io::{ErrorKind, Write};
 use std::marker::Model;
 
-/// A sink that writes by std's `Write`, and flushes after each write. It tells no bytes.
+/// A sink that writes by std's `Write`, and flushes after each write. It tells no bytes. A write that takes nothing fails.
+/// An interrupted call is tried again, at most 16 times in a row, and then fails.
 #[derive(Drop)]
 pub struct StdSink<W> {
     writer: W,
@@ -62,12 +64,12 @@ fn write_and_flush<W: Write>(writer: &mut W, piece: &[u8]) -> Result<usize, Fail
     Ok(count)
 }
 
-// Writes once. An interrupted call is tried again, at most 16 times in a row. A write that takes nothing is a fault.
+// Writes once, and again where it was interrupted.
 fn write_retrying<W: Write>(writer: &mut W, piece: &[u8]) -> Result<usize, Failed>
     ensures progress { IfOk result (λ n. 1 ≤ n) }
     ensures within { IfOk result (λ n. n ≤ length piece.now) }
 {
-    for _ in 0..17 {
+    for _ in 0..=RETRIES {
         match writer.write(piece) {
             Ok(0) => return Err(Failed),
             Ok(count) => return Ok(count),
@@ -81,9 +83,9 @@ fn write_retrying<W: Write>(writer: &mut W, piece: &[u8]) -> Result<usize, Faile
     Err(Failed)
 }
 
-// Flushes once. An interrupted call is tried again, at most 16 times in a row.
+// Flushes once, and again where it was interrupted.
 fn flush_retrying<W: Write>(writer: &mut W) -> Result<(), Failed> {
-    for _ in 0..17 {
+    for _ in 0..=RETRIES {
         match writer.flush() {
             Ok(()) => return Ok(()),
             Err(e) => {

@@ -1,11 +1,13 @@
 ghost use Rattle.std.specs.Prelude.{◌≡◌, ◌≤◌, None, length, IfOk};
 
 use crate::failed::Failed;
+use crate::retries::RETRIES;
 use crate::source::Source;
 use std::io::{ErrorKind, Read};
 use std::marker::Model;
 
-/// A source that reads by std's `Read`. It tells no bytes.
+/// A source that reads by std's `Read`. It tells no bytes. An interrupted call is tried again, at most 16 times in a row,
+/// and then fails.
 #[derive(Drop)]
 pub struct StdSource<R> {
     reader: R,
@@ -53,11 +55,11 @@ impl<R: Read> Source for StdSource<R> {
     }
 }
 
-// Reads once. An interrupted call is tried again, at most 16 times in a row.
+// Reads once, and again where it was interrupted.
 fn read_retrying<R: Read>(reader: &mut R, out: &mut [u8]) -> Result<usize, Failed>
     ensures { IfOk result (λ n. n ≤ length out.new) }
 {
-    for _ in 0..17 {
+    for _ in 0..=RETRIES {
         match reader.read(out) {
             Ok(count) => return Ok(count),
             Err(e) => {

@@ -24,7 +24,7 @@ returns-in_default-clause-exact c =
 pub returns-then-number-most-clause-some : goal.returns-then-number-most-clause-some
 returns-then-number-most-clause-some c =
     let found = c.in-Some.ensures.some in
-    (rw found.1 (decimal-digits c.args.word.now found.0 (λ padded. false≢true (c.if-has_leading_zero.ensures.1 padded)) (omega (arith, found.1))), c.if-number-most.true)
+    (rw found.1 (decimal-digits c.args.word.now found.0 (λ padded. false≢true (c.if-has_leading_zero.ensures.1 padded)) (omega (arith, found.1))), omega arith)
 
 pub returns-then-number-most-clause-exact : goal.returns-then-number-most-clause-exact
 returns-then-number-most-clause-exact c =
