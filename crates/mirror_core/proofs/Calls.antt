@@ -1,9 +1,8 @@
 -- The state and the answer of each call, in terms of what a mirror of one copy holds.
-use Rattle.std.proofs.Common.{◌≡◌, refl, ◌∙◌, ap, sym, subst, ℕ, zero, suc, ◌+◌, ◌-◌, ◌^◌, ◌≤◌, ◌<◌, Bool, true, false, cond, List, [], ◌∷◌, ◌++◌, length, map, arith, eqb, ltb, leb, min}
+use Rattle.std.proofs.Common.{◌≡◌, ◌∙◌, ap, sym, subst, ℕ, zero, suc, ◌+◌, ◌-◌, ◌≤◌, ◌<◌, true, false, List, [], ◌∷◌, ◌++◌, length, map, arith, eqb}
 use Rattle.std.proofs.lemmas.Bool.Decides.{nat_tests}
-use Rattle.std.specs.List.{list_any, filter, AllByRecursion}
+use Rattle.std.specs.List.{list_any, filter}
 use Rattle.game_trait.specs.declared.command.Command.{Command}
-use Rattle.game_trait.specs.declared.command.Item.{Item}
 use Rattle.game_trait.specs.declared.command.Item.TheVariants.{Cmd, Beat}
 use Rattle.game_trait.specs.declared.event.Event.TheVariants.{Tick, Arrive, Step}
 use Rattle.game_trait.specs.declared.event.Reply.TheVariants.{Tick as ToTick, Arrive as ToArrive, Step as ToStep}
@@ -12,16 +11,16 @@ use Rattle.game_trait.specs.declared.event.Arrived.TheVariants.{Taken, Repeat, L
 use Rattle.game_trait.specs.declared.event.Stepped.TheVariants.{Ran, Idle}
 use Rattle.game_trait.specs.Game.{Rules}
 use Rattle.game_trait.specs.Run.{beats, world_of}
-use Rattle.game_trait.specs.Keys.{KeysRise, same_name, in_key_order, placed}
+use Rattle.game_trait.specs.Keys.{KeysRise, same_name, in_key_order}
 use Rattle.game_trait.specs.Count.{times}
 use Rattle.game_trait.specs.Ordered.{tick_of}
 use Rattle.game_trait.proofs.Counts.{times-in_key_order}
 use Rattle.game_trait.proofs.KeyOrder.{KeysRise-in_key_order, all-in_key_order}
-use Rattle.sync_model.specs.State.{step_limit, longest_delay, last_clock}
+use Rattle.sync_model.specs.State.{step_limit, last_clock}
 use Rattle.sync_model.specs.Change.{next, said, is_late, is_idle}
-use Rattle.stagger_clock.specs.Schedule.{Schedule, limit_at, is_end}
+use Rattle.stagger_clock.specs.Schedule.{limit_at, is_end}
 use Rattle.stagger_clock.proofs.Limits.{last_of-all}
-use Rattle.mirror_core.specs.Kept.{Parts, shown, IsKept, IsSound}
+use Rattle.mirror_core.specs.Kept.{Parts, shown, IsKept}
 use Rattle.mirror_core.proofs.Places.{due_at-filter, new_name, no_name}
 use Rattle.mirror_core.proofs.Kept.{refused, before_end, times-from, length-in_key_order, kept_ran}
 use Rattle.mirror_core.proofs.OneCopy.{tick_over, tick_moved, arrive_repeat, arrive_late, arrive_taken, step_idle, step_ran, last_clock-one, with_command, with_one_tick}

@@ -1,8 +1,8 @@
 -- Each event of a mirror with one copy keeps what is always true of what it holds.
-use Rattle.std.proofs.Common.{◌≡◌, refl, ◌∙◌, ap, sym, subst, ℕ, zero, suc, ◌+◌, ◌-◌, ◌≤◌, ◌<◌, Bool, true, false, cond, ◌&&◌, List, [], ◌∷◌, ◌++◌, length, map, arith, eqb, ltb, leb, length-append, min}
+use Rattle.std.proofs.Common.{◌≡◌, refl, ◌∙◌, ap, sym, subst, ℕ, ◌+◌, ◌-◌, ◌≤◌, ◌<◌, Bool, true, false, cond, List, [], ◌∷◌, ◌++◌, length, map, arith, eqb, leb, length-append}
 use Rattle.std.proofs.lemmas.Bool.Decides.{nat_tests}
 use Rattle.std.proofs.lemmas.List.{length-map}
-use Rattle.std.specs.List.{list_any, filter}
+use Rattle.std.specs.List.{filter}
 use Rattle.game_trait.specs.declared.command.Command.{Command}
 use Rattle.game_trait.specs.declared.command.Item.{Item}
 use Rattle.game_trait.specs.declared.command.Item.TheVariants.{Cmd, Beat}
@@ -13,18 +13,18 @@ use Rattle.game_trait.specs.declared.event.Arrived.TheVariants.{Taken, Late}
 use Rattle.game_trait.specs.declared.event.Stepped.TheVariants.{Ran}
 use Rattle.game_trait.specs.Game.{Rules}
 use Rattle.game_trait.specs.Run.{beats, world_of}
-use Rattle.game_trait.specs.Keys.{placed, in_key_order, same_name}
+use Rattle.game_trait.specs.Keys.{placed, in_key_order}
 use Rattle.game_trait.specs.Count.{times}
 use Rattle.game_trait.specs.Ordered.{due_at, tick_of}
-use Rattle.game_trait.proofs.Counts.{times-append, times-in_key_order, times-filter, times-agree}
+use Rattle.game_trait.proofs.Counts.{times-append, times-in_key_order, times-filter}
 use Rattle.game_trait.proofs.Runs.{beats-append, world_of-append}
 use Rattle.game_trait.proofs.OrderedParts.{beats-tick_of}
 use Rattle.sync_model.specs.declared.turned.Turned.{Turned}
-use Rattle.sync_model.specs.State.{MirrorState, opening_state, longest_delay, last_clock, step_limit, last_of}
-use Rattle.sync_model.specs.Change.{next, is_over, is_repeat, is_late, is_idle}
+use Rattle.sync_model.specs.State.{opening_state, longest_delay, last_clock, step_limit, last_of}
+use Rattle.sync_model.specs.Change.{is_over, is_repeat, is_late, is_idle}
 use Rattle.sync_model.specs.History.{repairs}
 use Rattle.stagger_clock.specs.Schedule.{Schedule, IsSchedule}
-use Rattle.mirror_core.specs.Kept.{Parts, shown, IsSound, IsKept, HasRoomLeft}
+use Rattle.mirror_core.specs.Kept.{Parts, shown, IsSound, IsKept}
 use Rattle.mirror_core.proofs.Sound.{sound-next, no_repair-next, sound-opening, no_repair-opening}
 use Rattle.mirror_core.proofs.Places.{in_key_order-push}
 use Rattle.mirror_core.proofs.OneCopy.{tick_moved, arrive_late, last_clock-one, arrive_taken, step_ran, with_command, with_one_tick}

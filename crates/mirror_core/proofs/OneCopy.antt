@@ -1,8 +1,7 @@
 -- The events of a mirror with one copy: the state and the answer of each case. Nothing is ever repaired.
-use Rattle.std.proofs.Common.{◌≡◌, refl, ◌∙◌, ap, sym, ℕ, zero, suc, ◌+◌, ◌-◌, ◌≤◌, ◌<◌, Bool, true, false, cond, List, [], ◌∷◌, ◌++◌, length, map, arith, ltb, leb}
+use Rattle.std.proofs.Common.{◌≡◌, refl, ℕ, ◌-◌, true, false, [], ◌∷◌, ◌++◌, arith}
 use Rattle.std.proofs.lemmas.Bool.Decides.{nat_tests}
 use Rattle.game_trait.specs.declared.command.Command.{Command}
-use Rattle.game_trait.specs.declared.command.Item.{Item}
 use Rattle.game_trait.specs.declared.event.Event.TheVariants.{Tick, Arrive, Step}
 use Rattle.game_trait.specs.declared.event.Reply.TheVariants.{Tick as ToTick, Arrive as ToArrive, Step as ToStep}
 use Rattle.game_trait.specs.declared.event.Ticked.TheVariants.{Moved, Over}
@@ -12,7 +11,7 @@ use Rattle.game_trait.specs.Run.{beats}
 use Rattle.game_trait.specs.Count.{times}
 use Rattle.game_trait.specs.Ordered.{tick_of}
 use Rattle.sync_model.specs.State.{MirrorState, last_of, last_clock}
-use Rattle.sync_model.specs.Settle.{settle, settle_one, which_repaired, is_repaired, repaired}
+use Rattle.sync_model.specs.Settle.{settle, settle_one, which_repaired, is_repaired}
 use Rattle.sync_model.specs.Change.{next, said, is_over, is_repeat, is_late, is_idle, with_late, with_tick}
 use Rattle.sync_model.proofs.Cases.{moved, away}
 use Rattle.sync_model.proofs.Proposals.{with_late-due}

@@ -1,5 +1,5 @@
 -- What is always true of a mirror's state: it holds of the opening state, and every event keeps it.
-use Rattle.std.proofs.Common.{◌≡◌, refl, ◌∙◌, ap, sym, subst, ℕ, suc, ◌+◌, List, [], ◌∷◌, length, map, arith}
+use Rattle.std.proofs.Common.{◌≡◌, refl, ◌∙◌, ap, ℕ, suc, List, [], ◌∷◌, length, map, arith}
 use Rattle.game_trait.specs.declared.command.Item.{Item}
 use Rattle.game_trait.specs.declared.event.Event.{Event}
 use Rattle.game_trait.specs.declared.event.Reply.{Reply}

@@ -1,5 +1,5 @@
 -- The last of a list, the longest delay, and the limit of a copy by cases.
-use Rattle.std.proofs.Common.{◌≡◌, refl, ◌∙◌, ap, ℕ, zero, suc, ◌+◌, ◌-◌, ◌≤◌, ◌<◌, min, List, [], ◌∷◌, length, get_or, arith, add-one}
+use Rattle.std.proofs.Common.{◌≡◌, refl, ℕ, zero, suc, ◌-◌, ◌≤◌, ◌<◌, min, List, [], ◌∷◌, length, get_or, arith}
 use Rattle.std.specs.List.{AllByRecursion}
 use Rattle.sync_model.specs.State.{MirrorState, last_of, step_limit, copy_clock}
 use Rattle.stagger_clock.specs.Schedule.{Schedule, IsSchedule, longest_delay, limit_at}

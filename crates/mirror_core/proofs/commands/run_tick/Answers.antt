@@ -3,7 +3,7 @@ use Rattle.std.proofs.lemmas.Bool.Decides.{nat_tests}
 use Rattle.game_trait.specs.declared.command.Act.TheVariants.{Go}
 use Rattle.game_trait.specs.declared.command.Command.{Command}
 use Rattle.game_trait.specs.declared.command.Item.{Item}
-use Rattle.game_trait.specs.declared.command.Item.TheVariants.{Cmd, Beat}
+use Rattle.game_trait.specs.declared.command.Item.TheVariants.{Cmd}
 use Rattle.game_trait.specs.Count.{times}
 use Rattle.game_trait.specs.Run.{world_of}
 use Rattle.game_trait.proofs.Runs.{world_of-command, world_of-beat}

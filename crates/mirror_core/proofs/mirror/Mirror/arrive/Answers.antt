@@ -1,6 +1,5 @@
-use Rattle.std.proofs.Common.{◌≡◌, ◌∙◌, sym, ap, ◌+◌, ◌<◌, Bool, true, false, List, length, vec_len, vec_capacity, arith}
+use Rattle.std.proofs.Common.{◌≡◌, sym, true, false, arith}
 use Rattle.std.specs.List.{list_any}
-use Rattle.game_trait.specs.declared.command.Command.{Command}
 use Rattle.game_trait.specs.Keys.{same_name}
 use Rattle.mirror_core.proofs.Calls.{repeat_state, repeat_answer, late_at, late_state, late_answer, on_time, taken_state, taken_answer, in_order_rises, new_in_order, place_fits}
 use Rattle.mirror_core.proofs.Kept.{kept_away, kept_taken}
