@@ -9,6 +9,7 @@ use stagger_clock::Stagger;
 use std::alloc::Global;
 use std::process::Abort;
 use std::test::Fail;
+use sync_model::PlainMirror;
 
 // A world that counts its commands and its ticks.
 #[derive(Clone, Copy)]
@@ -70,25 +71,40 @@ fn opened(alloc: Global) -> Result<Mirror<Tally>, Fail>
     Ok(Mirror::new(alloc, &opening, Stagger::new(&[0], 4), 8)?)
 }
 
-// Makes the events, and compares the answers, and the run at the end.
+// The plain mirror of the same match.
+#[tactic(auto, unfolding(sync_model::specs::Staggered::DelaysRise))]
+fn opened_plain(alloc: Global) -> Result<PlainMirror<Tally>, Fail> {
+    let opening = Tally {
+        commands: 0,
+        ticks: 0,
+    };
+    Ok(PlainMirror::new(alloc, &opening, 4, &[0], 8)?)
+}
+
+// Makes the events on a mirror and on a plain one, and compares their answers, and their runs at the end.
 fn plays(
     rt: &impl Abort,
     alloc: Global,
     events: &[(Event, Reply)],
     run: &[Item],
-) -> Result<Mirror<Tally>, Fail> {
+) -> Result<(), Fail> {
     let mut mirror = opened(alloc)?;
+    let mut plain = opened_plain(alloc)?;
     for (event, reply) in events {
         assert_eq!(rt; answer(rt, &mut mirror, event), *reply);
+        assert!(rt; plain.does_fit(event));
+        assert_eq!(rt; plain.make(alloc, event)?, *reply);
     }
-    assert_eq!(rt; mirror.copies(), 1);
+    assert_eq!(rt; (mirror.copies(), plain.copies()), (1, 1));
+    assert_eq!(rt; plain.run_of(0), run);
+    assert_eq!(rt; mirror.run_len(0) as usize, run.len());
     for place in 0..mirror.run_len(0) {
         assert_eq!(rt;
             run.get(place as usize).copied(),
             Some(mirror.run_item(0, place))
         );
     }
-    Ok(mirror)
+    Ok(())
 }
 
 fn go_at(time: u32) -> Command {
