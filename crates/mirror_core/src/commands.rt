@@ -1,6 +1,6 @@
 //! Lists of commands: whether one is there, its place in key order, and the execution of a tick.
 
-ghost use Rattle.std.specs.Prelude.{◌≡◌, ◌+◌, ◌<◌, ◌≤◌, ◌==◌, false, [], ◌∷◌, ◌++◌, map, filter, insert, vec_len, vec_capacity};
+ghost use Rattle.std.specs.Prelude.{◌≡◌, ◌+◌, ◌<◌, ◌==◌, false, [], ◌∷◌, ◌++◌, map, filter, vec_len, vec_capacity};
 ghost use Rattle.std.specs.List.{list_any};
 ghost use Rattle.game_trait.specs.declared.command.Item.TheVariants.{Cmd, Beat};
 ghost use Rattle.game_trait.specs.Count.{times};

@@ -1,7 +1,6 @@
 //! One mirror over a world that counts.
 
-ghost use Rattle.std.specs.Prelude.{◌≡◌, ℕ, ◌+◌, min, IfOk, [], ◌∷◌};
-ghost use Rattle.sync_model.specs.State.{opening_state};
+ghost use Rattle.std.specs.Prelude.{◌≡◌, ◌+◌, min, IfOk};
 
 use crate::mirror::Mirror;
 use game_trait::{Act, Arrived, Command, Event, Game, Item, Reply, Stepped, Ticked};
