@@ -1,7 +1,6 @@
 -- Along a list of events: what fits goes on fitting, and a staggered mirror stays staggered.
-use Rattle.std.proofs.Common.{◌≡◌, ℕ, zero, suc, ◌+◌, ◌-◌, ◌≤◌, ◌<◌, Bool, true, false, cond, List, [], ◌∷◌, ◌++◌, map, length, refl, ap, sym, ◌∙◌, subst, arith}
+use Rattle.std.proofs.Common.{ℕ, zero, suc, ◌+◌, List, [], ◌∷◌, length, ap, sym, ◌∙◌, arith}
 use Rattle.std.specs.List.{AllByRecursion}
-use Rattle.game_trait.specs.declared.command.Command.{Command}
 use Rattle.game_trait.specs.declared.event.Event.{Event}
 use Rattle.game_trait.specs.declared.event.Event.TheVariants.{Tick, Arrive, Step}
 use Rattle.game_trait.proofs.KeyOrder.{all-weaker}
@@ -9,8 +8,8 @@ use Rattle.sync_model.specs.State.{MirrorState}
 use Rattle.sync_model.specs.Change.{next, Fits, after}
 use Rattle.sync_model.specs.Staggered.{IsStaggered, IsWellFormed}
 use Rattle.sync_model.specs.Turns.{steps_from, turn}
-use Rattle.sync_model.proofs.Staggered.{staggered-next, staggered-tick, staggered-step}
-use Rattle.sync_model.proofs.Cases.{next-fixed, after-fixed, copies_of}
+use Rattle.sync_model.proofs.Staggered.{staggered-next}
+use Rattle.sync_model.proofs.Cases.{next-fixed}
 
 -- what fits still fits after any event
 pub fits-next : {W : Type 0} (s : MirrorState W) (e f : Event) → Fits s f → Fits (next s e) f

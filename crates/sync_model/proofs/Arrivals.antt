@@ -1,11 +1,11 @@
 -- What an arrival repairs: the copies that are further than the last copy at which it is late.
-use Rattle.std.proofs.Common.{◌≡◌, ℕ, zero, suc, ◌+◌, ◌-◌, ◌≤◌, ◌<◌, ◌⊎◌, Bool, true, false, not, cond, ◌&&◌, ◌||◌, ltb, leb, eqb, List, [], ◌∷◌, ◌++◌, map, filter, length, get_or, set, drop, replicate, refl, ap, sym, ◌∙◌, subst, inl, inr, ⊎_elim, append_assoc, arith}
+use Rattle.std.proofs.Common.{◌≡◌, ℕ, suc, ◌≤◌, ◌<◌, Bool, true, false, cond, ◌&&◌, ◌||◌, ltb, List, [], ◌∷◌, ◌++◌, map, filter, length, replicate, refl, ap, sym, ◌∙◌, subst, ⊎_elim, arith}
 use Rattle.std.specs.List.{AllByRecursion, list_any}
-use Rattle.std.proofs.lemmas.Bool.{not-true, false_from_ne_true, or_parts, lt-ltb, le-ltb, ltb-true, ltb-false, cases_lt, cases_Bool, and_from}
+use Rattle.std.proofs.lemmas.Bool.{false_from_ne_true, or_parts, lt-ltb, le-ltb, ltb-true, ltb-false, cases_lt, and_from}
 use Rattle.std.proofs.lemmas.Bool.Decides.{nat_tests}
 use Rattle.game_trait.specs.declared.command.Command.{Command}
 use Rattle.game_trait.specs.declared.command.Item.{Item}
-use Rattle.game_trait.specs.declared.command.Item.TheVariants.{Cmd, Beat}
+use Rattle.game_trait.specs.declared.command.Item.TheVariants.{Cmd}
 use Rattle.game_trait.specs.Keys.{same_name}
 use Rattle.game_trait.specs.Run.{beats, commands_of, IsPrefix, same_command}
 use Rattle.game_trait.specs.Count.{times}
@@ -15,15 +15,15 @@ use Rattle.game_trait.proofs.Counts.{times-append}
 use Rattle.game_trait.proofs.KeyOrder.{all-weaker}
 use Rattle.sync_model.specs.State.{MirrorState, last_of}
 use Rattle.sync_model.specs.Settle.{begins_with, settle_one, settle, is_repaired, which_repaired, repaired}
-use Rattle.sync_model.specs.Change.{is_repeat, is_late, with_late, proposed_by_arrival}
+use Rattle.sync_model.specs.Change.{is_repeat, with_late, proposed_by_arrival}
 use Rattle.sync_model.specs.Staggered.{IsAhead, IsChained, IsComplete, IsStaggered}
 use Rattle.sync_model.specs.Repairs.{AreFirst, is_late_at, last_late_clock, repaired_by_arrival}
 use Rattle.sync_model.proofs.Settle.{begins_with-Decides, IsFirstAtMost, NeverRises, settle-beats, settle-each}
-use Rattle.sync_model.proofs.Proposals.{complete-rebuilt, complete-late, with_late-past, with_late-due, beats-with_late, beats-command}
+use Rattle.sync_model.proofs.Proposals.{complete-rebuilt, complete-late, with_late-past, with_late-due, beats-command}
 use Rattle.sync_model.proofs.Lists.{all-map}
 use Rattle.sync_model.proofs.Staggered.{beats-front, chained-falls, late-beats}
 use Rattle.sync_model.proofs.Drain.{equal_clocks}
-use Rattle.sync_model.proofs.Repairs.{ahead-front, front-snoc, settle_one-same, chained-settled, ahead-unrepaired, chained-unrepaired, no-marks, repaired-goes_on, unrepaired-same, none-marked, marks-first}
+use Rattle.sync_model.proofs.Repairs.{ahead-front, front-snoc, chained-unrepaired, no-marks, repaired-goes_on, unrepaired-same, none-marked, marks-first}
 
 -- a command of a new name stands in no complete run
 names-apart : (x y : Command) → same_name x y ≡ false → same_command x y ≡ false
@@ -85,8 +85,8 @@ only-late accepted x r a new less more front late s complete clock prefix =
     ⊎_elim
     (λ (h : IsPrefix s a). absurd (front-without x s a (absent-run accepted x a new more) h (there-past accepted x s complete (omega arith))))
     (λ (h : s ≡ a ++ Cmd x ∷ []).
-      let same : a ≡ r = equal_clocks accepted r a less more front (sym k ∙ ap beats h ∙ beats-command x a) in
-      h ∙ ap (λ (l : List Item). l ++ Cmd x ∷ []) same)
+    let same : a ≡ r = equal_clocks accepted r a less more front (sym k ∙ ap beats h ∙ beats-command x a) in
+    h ∙ ap (λ (l : List Item). l ++ Cmd x ∷ []) same)
     (front-snoc s a (Cmd x) prefix)
 
 -- with the command at its end a run is no front of a longer one with the command at its end
@@ -96,10 +96,10 @@ not-front :
 not-front accepted x r a new complete longer =
     false_from_ne_true (begins_with (a ++ Cmd x ∷ []) (r ++ Cmd x ∷ []))
     (λ e.
-      ⊎_elim
-      (λ (h : IsPrefix (r ++ Cmd x ∷ []) a). front-without x (r ++ Cmd x ∷ []) a (absent-run accepted x a new complete) h (there-at_end x r))
-      (λ (h : r ++ Cmd x ∷ [] ≡ a ++ Cmd x ∷ []). (let k = sym (beats-command x r) ∙ ap beats h ∙ beats-command x a in absurd (omega arith)))
-      (front-snoc (r ++ Cmd x ∷ []) a (Cmd x) ((begins_with-Decides (a ++ Cmd x ∷ []) (r ++ Cmd x ∷ [])).0 e)))
+    ⊎_elim
+    (λ (h : IsPrefix (r ++ Cmd x ∷ []) a). front-without x (r ++ Cmd x ∷ []) a (absent-run accepted x a new complete) h (there-at_end x r))
+    (λ (h : r ++ Cmd x ∷ [] ≡ a ++ Cmd x ∷ []). (let k = sym (beats-command x r) ∙ ap beats h ∙ beats-command x a in absurd (omega arith)))
+    (front-snoc (r ++ Cmd x ∷ []) a (Cmd x) ((begins_with-Decides (a ++ Cmd x ∷ []) (r ++ Cmd x ∷ [])).0 e)))
 
 append-none : {X : Type 0} (l : List X) → l ++ [] ≡ l
 append-none [] = refl
@@ -184,9 +184,9 @@ level-mark accepted x a r ss n new more less front late level =
     ⊎_elim
     (λ (longer : beats r < beats a). rw (ahead, own, not-front accepted x r a new more longer, lt-ltb n (beats a) (omega arith)) refl)
     (λ (same : beats a ≤ beats r).
-      let one : a ≡ r = equal_clocks accepted r a less more front (omega arith) in
-      let fits : begins_with (with_late x a) (with_late x r) ≡ true = (begins_with-Decides (with_late x a) (with_late x r)).1 ([], ap (with_late x) one ∙ sym (append-none (with_late x r))) in
-      rw (fits, le-ltb n (beats a) (omega arith)) refl)
+    let one : a ≡ r = equal_clocks accepted r a less more front (omega arith) in
+    let fits : begins_with (with_late x a) (with_late x r) ≡ true = (begins_with-Decides (with_late x a) (with_late x r)).1 ([], ap (with_late x) one ∙ sym (append-none (with_late x r))) in
+    rw (fits, le-ltb n (beats a) (omega arith)) refl)
     (cases_lt (beats r) (beats a))
 
 -- late at copy 0 and behind it: the mark of copy 0
@@ -209,7 +209,7 @@ head-mark accepted x a r rs n new chained complete late most behind =
     elim (ltb n (beats r)) as (λ v. ltb n (beats r) ≡ v → is_repaired (with_late x a) (settle_one (accepted ++ x ∷ []) (with_late x r) (settle (accepted ++ x ∷ []) (map (with_late x) rs))) ≡ ltb n (beats a)) [
       | true ↦ λ further.
           let only : (s : List Item) → IsComplete (accepted ++ x ∷ []) s → beats s ≡ beats (with_late x r) → IsPrefix s (with_late x a) → s ≡ with_late x r =
-            rw (ahead, own) (only-late accepted x r a new complete.1.0 complete.0 chained.0 late) in
+          rw (ahead, own) (only-late accepted x r a new complete.1.0 complete.0 chained.0 late) in
           let k = ltb-true n (beats r) further in
           repaired-goes_on all (with_late x r) (with_late x a) ss only each first (behind ∙ further) ∙ sym (lt-ltb n (beats a) (omega arith))
       | false ↦ λ level.
@@ -278,10 +278,10 @@ further-first n [] h = (0, 0, refl)
 further-first n (run ∷ behind) h =
     ⊎_elim
     (λ (past : n < beats run).
-      let more = further-first n behind h.1 in
-      (suc more.0, more.1, rw (lt-ltb n (beats run) past) (ap (λ (marks : List Bool). true ∷ marks) more.2)))
+    let more = further-first n behind h.1 in
+    (suc more.0, more.1, rw (lt-ltb n (beats run) past) (ap (λ (marks : List Bool). true ∷ marks) more.2)))
     (λ (most : beats run ≤ n).
-      (0, length (run ∷ behind), none-further n (run ∷ behind) (most, all-weaker (λ r. beats r ≤ beats run) (λ r. beats r ≤ n) behind (λ r l. omega arith) (falls-all run behind h)) ∙ none-marked (run ∷ behind)))
+    (0, length (run ∷ behind), none-further n (run ∷ behind) (most, all-weaker (λ r. beats r ≤ beats run) (λ r. beats r ≤ n) behind (λ r l. omega arith) (falls-all run behind h)) ∙ none-marked (run ∷ behind)))
     (cases_lt n (beats run))
 
 -- what an arrival repairs

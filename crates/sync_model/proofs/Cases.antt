@@ -1,22 +1,17 @@
 -- The cases of an event, each with its state and its answer; and what follows by cases alone.
-use Rattle.std.proofs.Common.{◌≡◌, ℕ, zero, suc, ◌+◌, ◌-◌, ◌≤◌, ◌<◌, ◌⊎◌, Bool, true, false, cond, ◌&&◌, List, [], ◌∷◌, ◌++◌, map, length, get_or, set, refl, ap, sym, ◌∙◌, subst, inl, inr, arith}
-use Rattle.std.proofs.lemmas.Bool.Decides.{nat_tests}
+use Rattle.std.proofs.Common.{◌≡◌, ℕ, suc, ◌+◌, ◌-◌, true, false, cond, List, [], ◌∷◌, ◌++◌, map, length, get_or, refl, ap, ◌∙◌}
 use Rattle.std.proofs.Math.ListN.{length-set}
 use Rattle.game_trait.specs.declared.command.Command.{Command}
-use Rattle.game_trait.specs.declared.command.Item.{Item}
 use Rattle.game_trait.specs.declared.event.Event.{Event}
 use Rattle.game_trait.specs.declared.event.Event.TheVariants.{Tick, Arrive, Step}
 use Rattle.game_trait.specs.declared.event.Reply.{Reply}
 use Rattle.game_trait.specs.declared.event.Reply.TheVariants.{Tick as ToTick, Arrive as ToArrive, Step as ToStep}
-use Rattle.game_trait.specs.declared.event.Ticked.{Ticked}
 use Rattle.game_trait.specs.declared.event.Ticked.TheVariants.{Moved, Over}
-use Rattle.game_trait.specs.declared.event.Arrived.{Arrived}
 use Rattle.game_trait.specs.declared.event.Arrived.TheVariants.{Taken, Repeat, Late}
-use Rattle.game_trait.specs.declared.event.Stepped.{Stepped}
 use Rattle.game_trait.specs.declared.event.Stepped.TheVariants.{Ran, Idle}
 use Rattle.sync_model.specs.State.{MirrorState, last_clock}
 use Rattle.sync_model.specs.Settle.{settle, repaired}
-use Rattle.sync_model.specs.Change.{next, said, is_over, is_repeat, is_late, is_idle, with_late, with_tick, proposed_by_arrival, proposed_by_step, turned_away, Fits, is_change, changes, after, answers}
+use Rattle.sync_model.specs.Change.{next, said, is_over, is_repeat, is_late, is_idle, with_late, with_tick, proposed_by_arrival, proposed_by_step, turned_away, is_change, after}
 use Rattle.sync_model.proofs.Settle.{settle-length}
 
 -- the states of the cases that change the state
@@ -32,7 +27,7 @@ taken s x =
       accepted = s.accepted ++ x ∷ [];
       runs = settle (s.accepted ++ x ∷ []) (proposed_by_arrival s x);
       history = s.history ++ Arrive x ∷ [];
-      spare = s.spare - 1
+      spare = s.spare - 1;
     }
 
 abbrev pub ran : {W : Type 0} → MirrorState W → ℕ → MirrorState W

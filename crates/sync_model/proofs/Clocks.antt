@@ -1,23 +1,19 @@
 -- How events move the clocks of the copies and of the mirror.
-use Rattle.std.proofs.Common.{◌≡◌, ℕ, zero, suc, ◌+◌, ◌-◌, ◌≤◌, ◌<◌, ◌⊎◌, min, Bool, true, false, cond, ltb, leb, eqb, List, [], ◌∷◌, ◌++◌, map, length, get_or, set, refl, ap, sym, ◌∙◌, subst, inl, inr, ⊎_elim, arith}
-use Rattle.std.specs.List.{AllByRecursion, AllZip}
+use Rattle.std.proofs.Common.{◌≡◌, ℕ, zero, suc, ◌+◌, ◌≤◌, ◌<◌, min, true, false, leb, List, [], ◌∷◌, ◌++◌, map, length, get_or, set, refl, ap, sym, ◌∙◌, subst, ⊎_elim, arith}
 use Rattle.std.proofs.lemmas.Bool.{cases_eq, eqb-true}
 use Rattle.std.proofs.lemmas.Bool.Decides.{nat_tests}
 use Rattle.std.proofs.Math.ListN.{get_or-map}
 use Rattle.std.proofs.lemmas.List.{get_or-set_same, get_or-set_other}
 use Rattle.game_trait.specs.declared.command.Command.{Command}
-use Rattle.game_trait.specs.declared.command.Item.{Item}
 use Rattle.game_trait.specs.declared.event.Event.{Event}
 use Rattle.game_trait.specs.declared.event.Event.TheVariants.{Tick, Arrive, Step}
-use Rattle.game_trait.specs.declared.event.Reply.{Reply}
 use Rattle.game_trait.specs.Run.{beats}
-use Rattle.sync_model.specs.State.{MirrorState, longest_delay, last_clock, copy_clock, step_limit, last_of}
-use Rattle.sync_model.specs.Settle.{settle}
-use Rattle.sync_model.specs.Change.{next, is_over, is_idle, with_late, with_tick, proposed_by_arrival, proposed_by_step}
+use Rattle.sync_model.specs.State.{MirrorState, longest_delay, copy_clock}
+use Rattle.sync_model.specs.Change.{next, is_idle, proposed_by_arrival, proposed_by_step}
 use Rattle.sync_model.specs.Staggered.{IsStaggered}
 use Rattle.sync_model.proofs.Settle.{NeverRises, settle-beats}
 use Rattle.sync_model.proofs.Staggered.{chained-falls, late-beats, step-beats, set-falls, below_limit}
-use Rattle.sync_model.proofs.Cases.{moved, taken, ran, tick-cases, arrive-cases, step-cases, copies_of}
+use Rattle.sync_model.proofs.Cases.{taken, ran, tick-cases, arrive-cases, step-cases, copies_of}
 
 -- the clocks of the copies
 abbrev pub clocks_of : {W : Type 0} → MirrorState W → List ℕ
@@ -72,19 +68,19 @@ ran-never_falls :
 ran-never_falls s c i here e =
     ⊎_elim
     (λ (same : i ≡ c).
-      elim (leb (copies_of s) c) as (λ v. leb (copies_of s) c ≡ v → copy_clock s i ≤ copy_clock (ran s c) i) [
-        | true ↦ λ past.
-            let most : copies_of s ≤ c = grind (arith, nat_tests) in
-            let k : copy_clock (ran s c) i ≡ copy_clock s i =
-              copy_clock-is (ran s c) i ∙ ap (λ (ks : List ℕ). get_or ks i 0) (ran-clocks s c here e)
-              ∙ get_or-set_past (clocks_of s) c (copy_clock s c + 1) i (let n = map-length beats s.runs in omega arith) ∙ sym (copy_clock-is s i) in
-            omega arith
-        | false ↦ λ there.
-            let most : c < copies_of s = grind (arith, nat_tests) in
-            let k = ran-moves s c here e most in
-            subst (λ (j : ℕ). copy_clock s j ≤ copy_clock (ran s c) j) (sym same) (omega arith)
-      ]
-      refl)
+    elim (leb (copies_of s) c) as (λ v. leb (copies_of s) c ≡ v → copy_clock s i ≤ copy_clock (ran s c) i) [
+      | true ↦ λ past.
+          let most : copies_of s ≤ c = grind (arith, nat_tests) in
+          let k : copy_clock (ran s c) i ≡ copy_clock s i =
+          copy_clock-is (ran s c) i ∙ ap (λ (ks : List ℕ). get_or ks i 0) (ran-clocks s c here e)
+          ∙ get_or-set_past (clocks_of s) c (copy_clock s c + 1) i (let n = map-length beats s.runs in omega arith) ∙ sym (copy_clock-is s i) in
+          omega arith
+      | false ↦ λ there.
+          let most : c < copies_of s = grind (arith, nat_tests) in
+          let k = ran-moves s c here e most in
+          subst (λ (j : ℕ). copy_clock s j ≤ copy_clock (ran s c) j) (sym same) (omega arith)
+    ]
+    refl)
     (λ (other : i ≡ c → ⊥). (let k = ran-others s c i here e other in omega arith))
     (cases_eq i c)
 
@@ -96,9 +92,9 @@ clocks-never_fall s Tick i here =
 clocks-never_fall s (Arrive x) i here =
     arrive-cases s x (λ t r. copy_clock s i ≤ copy_clock t i) (λ e. omega arith) (λ e l. omega arith)
     (λ e l.
-      let k : copy_clock (taken s x) i ≡ copy_clock s i =
-        copy_clock-is (taken s x) i ∙ ap (λ (ks : List ℕ). get_or ks i 0) (taken-clocks s x here) ∙ sym (copy_clock-is s i) in
-      omega arith)
+    let k : copy_clock (taken s x) i ≡ copy_clock s i =
+    copy_clock-is (taken s x) i ∙ ap (λ (ks : List ℕ). get_or ks i 0) (taken-clocks s x here) ∙ sym (copy_clock-is s i) in
+    omega arith)
 clocks-never_fall s (Step c) i here =
     step-cases s c (λ t r. copy_clock s i ≤ copy_clock t i) (λ e. omega arith) (λ e. ran-never_falls s c i here e)
 

@@ -1,13 +1,12 @@
 -- Draining ends within its bound, and leaves every copy at the ordered part of what was accepted.
-use Rattle.std.proofs.Common.{◌≡◌, ℕ, zero, suc, ◌+◌, ◌-◌, ◌≤◌, ◌<◌, ◌⊎◌, min, Bool, true, false, cond, ◌&&◌, ltb, leb, eqb, List, [], ◌∷◌, ◌++◌, map, length, get_or, set, refl, ap, sym, ◌∙◌, subst, inl, inr, ⊎_elim, arith}
+use Rattle.std.proofs.Common.{◌≡◌, ℕ, zero, suc, ◌+◌, ◌-◌, ◌≤◌, ◌<◌, true, false, cond, ◌&&◌, ltb, List, [], ◌∷◌, ◌++◌, length, get_or, refl, ap, sym, ◌∙◌, subst, ⊎_elim, arith}
 use Rattle.std.specs.List.{AllByRecursion, AllZip, list_all}
 use Rattle.std.proofs.lemmas.Bool.{and_parts, eqb-true, leb-true, cases_eq}
-use Rattle.std.proofs.lemmas.Bool.Decides.{nat_tests}
 use Rattle.game_trait.specs.declared.command.Command.{Command}
 use Rattle.game_trait.specs.declared.command.Item.{Item}
 use Rattle.game_trait.specs.declared.command.Item.TheVariants.{Cmd, Beat}
 use Rattle.game_trait.specs.declared.event.Event.{Event}
-use Rattle.game_trait.specs.declared.event.Event.TheVariants.{Tick, Arrive, Step}
+use Rattle.game_trait.specs.declared.event.Event.TheVariants.{Tick, Step}
 use Rattle.game_trait.specs.Run.{beats, commands_of, world_of, IsPrefix}
 use Rattle.game_trait.specs.Ordered.{ordered, time_ordered}
 use Rattle.game_trait.specs.Game.{Rules}
@@ -18,11 +17,11 @@ use Rattle.game_trait.proofs.KeyOrder.{all-weaker}
 use Rattle.std.specs.Prelude.{◌==◌}
 use Rattle.sync_model.specs.State.{MirrorState, last_of, longest_delay, copy_clock, step_limit}
 use Rattle.sync_model.specs.Change.{next, is_idle, after}
-use Rattle.sync_model.specs.Staggered.{IsAhead, IsChained, IsComplete, IsBehindClock, IsStaggered, DelaysRise, IsWellFormed}
+use Rattle.sync_model.specs.Staggered.{IsAhead, IsChained, IsComplete, IsBehindClock, IsStaggered, DelaysRise}
 use Rattle.sync_model.specs.Turns.{steps_from, turn_events, turns_of, turn, IsDrained, is_drained, drain_within, drain_bound, drain}
 use Rattle.sync_model.proofs.Staggered.{staggered-tick, staggered-step}
-use Rattle.sync_model.proofs.Cases.{moved, ran, tick-cases, step-cases, next-fixed, after-fixed, copies_of}
-use Rattle.sync_model.proofs.Clocks.{ran-moves, ran-others, clocks-never_fall, clock-tick, clock-step, runs-tick}
+use Rattle.sync_model.proofs.Cases.{tick-cases, step-cases, next-fixed, after-fixed, copies_of}
+use Rattle.sync_model.proofs.Clocks.{ran-moves, clocks-never_fall, clock-tick, clock-step}
 use Rattle.sync_model.proofs.Along.{steps-keep, turn-keeps}
 
 -- a run without a beat and without a command is empty
@@ -153,10 +152,10 @@ steps-nearer l ds n j zero c s h rise all near far i there = near i (omega arith
 steps-nearer l ds n j (suc k) c s h rise all near far i there =
     steps-nearer l ds n j k (c + 1) (next s (Step c)) (at_end-step l ds n s c h) rise (omega arith)
     (λ i below.
-      ⊎_elim
-      (λ (e : i ≡ c). subst (λ (m : ℕ). l ≤ copy_clock (next s (Step c)) m + j) (sym e) (step-nearer l ds n s c j h rise (omega arith) near (far c (omega arith))))
-      (λ (e : i ≡ c → ⊥). (let a = near i (grind arith) in let b = clocks-never_fall s (Step c) i h.staggered in omega arith))
-      (cases_eq i c))
+    ⊎_elim
+    (λ (e : i ≡ c). subst (λ (m : ℕ). l ≤ copy_clock (next s (Step c)) m + j) (sym e) (step-nearer l ds n s c j h rise (omega arith) near (far c (omega arith))))
+    (λ (e : i ≡ c → ⊥). (let a = near i (grind arith) in let b = clocks-never_fall s (Step c) i h.staggered in omega arith))
+    (cases_eq i c))
     (λ i below. (let a = far i below in let b = clocks-never_fall s (Step c) i h.staggered in omega arith))
     i there
 

@@ -1,24 +1,19 @@
 -- Answers, histories, clocks and room.
-use Rattle.std.proofs.Common.{◌≡◌, ℕ, zero, suc, ◌+◌, ◌-◌, ◌≤◌, ◌<◌, ◌↔◌, Bool, true, false, cond, ◌&&◌, ltb, List, [], ◌∷◌, ◌++◌, map, length, refl, ap, sym, ◌∙◌, subst, arith}
-use Rattle.std.specs.Prelude.{if◌then◌else◌}
+use Rattle.std.proofs.Common.{◌≡◌, ℕ, ◌+◌, ◌-◌, ◌<◌, ◌↔◌, Bool, true, false, cond, ◌&&◌, List, [], ◌∷◌, ◌++◌, length, refl, ap, sym, ◌∙◌, subst, arith}
 use Rattle.std.proofs.Math.ListN.{length-append}
-use Rattle.std.proofs.lemmas.Bool.{ltb-true, ltb-false, lt-ltb, both_ways}
-use Rattle.std.proofs.lemmas.Bool.Decides.{nat_tests}
+use Rattle.std.proofs.lemmas.Bool.{ltb-true, ltb-false, both_ways}
 use Rattle.game_trait.specs.declared.command.Command.{Command}
 use Rattle.game_trait.specs.declared.event.Event.{Event}
 use Rattle.game_trait.specs.declared.event.Event.TheVariants.{Tick, Arrive, Step}
 use Rattle.game_trait.specs.declared.event.Reply.{Reply}
-use Rattle.game_trait.specs.declared.event.Reply.TheVariants.{Tick as ToTick, Arrive as ToArrive, Step as ToStep}
-use Rattle.game_trait.specs.declared.event.Ticked.TheVariants.{Moved, Over}
-use Rattle.game_trait.specs.declared.event.Arrived.TheVariants.{Taken, Repeat, Late}
-use Rattle.game_trait.specs.declared.event.Stepped.TheVariants.{Ran, Idle}
+use Rattle.game_trait.specs.declared.event.Reply.TheVariants.{Arrive as ToArrive}
+use Rattle.game_trait.specs.declared.event.Arrived.TheVariants.{Late}
 use Rattle.game_trait.specs.Count.{times}
 use Rattle.game_trait.proofs.Counts.{times-append}
 use Rattle.sync_model.specs.State.{MirrorState, opening_state, last_clock}
-use Rattle.sync_model.specs.Settle.{repaired}
-use Rattle.sync_model.specs.Change.{next, said, is_repeat, is_late, proposed_by_arrival, is_change, changes, after, answers}
+use Rattle.sync_model.specs.Change.{next, said, is_repeat, is_change, changes, after, answers}
 use Rattle.sync_model.specs.History.{IsOfKind, is_moved, changing, EachChanges, is_arrival, opening_of, IsFromHistory, HasRoom, HasRoomAlong, repaired_in, repairs_in, repairs}
-use Rattle.sync_model.proofs.Cases.{moved, away, taken, ran, said_taken, said_ran, tick-cases, arrive-cases, step-cases, next-cases, next-fixed}
+use Rattle.sync_model.proofs.Cases.{tick-cases, arrive-cases, step-cases, next-fixed}
 
 -- an answer is of its event's kind
 pub said-kind : {W : Type 0} (s : MirrorState W) (e : Event) → IsOfKind e (said s e)

@@ -1,5 +1,5 @@
 -- How a plain mirror's fields after an event make up the next state, and that it stays sound.
-use Rattle.std.proofs.Common.{◌≡◌, ℕ, zero, suc, ◌+◌, ◌-◌, ◌≤◌, ◌<◌, Bool, true, false, cond, min, List, [], ◌∷◌, ◌++◌, map, length, get_or, set, refl, ap, sym, ◌∙◌, subst, arith}
+use Rattle.std.proofs.Common.{◌≡◌, ℕ, zero, suc, ◌+◌, ◌-◌, ◌≤◌, ◌<◌, true, false, min, List, [], ◌∷◌, ◌++◌, map, length, get_or, set, refl, ap, sym, ◌∙◌, subst, arith}
 use Rattle.std.specs.List.{AllByRecursion, AllZip}
 use Rattle.game_trait.specs.declared.command.Command.{Command}
 use Rattle.game_trait.specs.declared.command.Item.{Item}
@@ -11,10 +11,10 @@ use Rattle.game_trait.specs.declared.event.Arrived.TheVariants.{Taken, Repeat, L
 use Rattle.game_trait.specs.declared.event.Stepped.TheVariants.{Ran, Idle}
 use Rattle.game_trait.specs.Run.{beats}
 use Rattle.sync_model.specs.declared.turned.Turned.{Turned}
-use Rattle.sync_model.specs.State.{MirrorState, opening_state, last_of, longest_delay, last_clock, copy_clock, step_limit}
+use Rattle.sync_model.specs.State.{MirrorState, opening_state, last_of, longest_delay, last_clock, step_limit}
 use Rattle.sync_model.specs.Change.{next, said, is_over, is_repeat, is_late, is_idle, with_late, with_tick, proposed_by_arrival, proposed_by_step, Fits}
 use Rattle.sync_model.specs.Settle.{settle, repaired}
-use Rattle.sync_model.specs.Staggered.{IsStaggered, IsWellFormed, IsBehindClock}
+use Rattle.sync_model.specs.Staggered.{IsWellFormed, IsBehindClock}
 use Rattle.std.specs.Prelude.{Vec}
 use Rattle.std.specs.declared.alloc.Global.{Global}
 use Rattle.sync_model.specs.Runs.{IsSound, runs_of}

@@ -1,5 +1,5 @@
 -- What holds of each element, of a last element and of two lists side by side, through a map and through one change.
-use Rattle.std.proofs.Common.{◌≡◌, ℕ, zero, suc, ◌+◌, ◌≤◌, ◌<◌, ◌⊎◌, Bool, true, false, ◌||◌, List, [], ◌∷◌, ◌++◌, map, length, get_or, set, refl, ap, sym, ◌∙◌, subst, inl, inr, arith}
+use Rattle.std.proofs.Common.{◌≡◌, ℕ, zero, suc, ◌⊎◌, false, List, [], ◌∷◌, ◌++◌, map, length, get_or, set, refl, ap, inl, inr, arith}
 use Rattle.std.specs.List.{AllByRecursion, AllZip, list_any}
 use Rattle.std.proofs.lemmas.Bool.{or_parts}
 use Rattle.std.proofs.lemmas.Bool.Decides.{nat_tests}

@@ -1,5 +1,5 @@
 -- A mirror from its opening state along any events that fit, and then drained.
-use Rattle.std.proofs.Common.{◌≡◌, ℕ, List, ap, sym, ◌∙◌, subst}
+use Rattle.std.proofs.Common.{ℕ, List, sym, subst}
 use Rattle.std.specs.List.{AllByRecursion}
 use Rattle.game_trait.specs.declared.event.Event.{Event}
 use Rattle.sync_model.specs.State.{MirrorState, opening_state}

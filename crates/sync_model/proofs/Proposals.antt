@@ -1,6 +1,6 @@
 -- What the runs that an event proposes keep, and what a repair keeps.
-use Rattle.std.proofs.Common.{◌≡◌, ℕ, zero, suc, ◌+◌, ◌-◌, ◌≤◌, ◌<◌, Bool, true, false, cond, ◌&&◌, ltb, leb, eqb, List, [], ◌∷◌, ◌++◌, map, filter, refl, ap, sym, ◌∙◌, subst, arith}
-use Rattle.std.specs.Prelude.{nat_lt, ◌==◌}
+use Rattle.std.proofs.Common.{◌≡◌, ℕ, zero, suc, ◌+◌, ◌-◌, ◌≤◌, ◌<◌, Bool, true, false, cond, ◌&&◌, ltb, List, [], ◌∷◌, ◌++◌, map, filter, refl, ap, sym, ◌∙◌, subst, arith}
+use Rattle.std.specs.Prelude.{◌==◌}
 use Rattle.std.proofs.lemmas.Bool.{lt-ltb, le-ltb, ltb-true, ltb-false, ne_eqb}
 use Rattle.std.proofs.lemmas.Bool.Decides.{nat_tests}
 use Rattle.std.proofs.lemmas.List.Elements.{filter-append}
@@ -13,9 +13,9 @@ use Rattle.game_trait.specs.Run.{beats, commands_of}
 use Rattle.game_trait.specs.Ordered.{due_at, tick_of, ticks, ordered}
 use Rattle.game_trait.specs.Count.{times, within}
 use Rattle.game_trait.proofs.Runs.{beats-append, commands_of-append}
-use Rattle.game_trait.proofs.Counts.{times-append, times-agree}
-use Rattle.game_trait.proofs.KeyOrder.{all-in_key_order, all-weaker}
-use Rattle.game_trait.proofs.OrderedParts.{beats-tick_of, beats-ticks, times-tick_of, times-ticks, ordered-more, beats-ordered}
+use Rattle.game_trait.proofs.Counts.{times-append}
+use Rattle.game_trait.proofs.KeyOrder.{all-in_key_order}
+use Rattle.game_trait.proofs.OrderedParts.{beats-tick_of, times-tick_of, times-ticks}
 use Rattle.sync_model.specs.Settle.{rebuilt}
 use Rattle.sync_model.specs.Change.{with_late, with_tick}
 use Rattle.sync_model.specs.Staggered.{IsComplete, IsNeverEarly}
@@ -67,8 +67,8 @@ complete-rebuilt accepted q s complete h test =
     let front = complete test in
     let rest = times-ticks test accepted (beats s) (beats q - beats s) in
     let both =
-        times-apart (λ (x : Command). test x && ltb x.time (beats s)) (λ (x : Command). test x && within (beats s) (beats s + (beats q - beats s)) x.time)
-        (λ (x : Command). test x && ltb x.time (beats q)) accepted (λ x. split-rebuilt test (beats s) (beats q) x h) in
+    times-apart (λ (x : Command). test x && ltb x.time (beats s)) (λ (x : Command). test x && within (beats s) (beats s + (beats q - beats s)) x.time)
+    (λ (x : Command). test x && ltb x.time (beats q)) accepted (λ x. split-rebuilt test (beats s) (beats q) x h) in
     ap (times test) (commands_of-append s (ordered accepted (beats s) (beats q)))
     ∙ times-append test (commands_of s) (commands_of (ordered accepted (beats s) (beats q)))
     ∙ omega (arith, front, rest, both)
@@ -85,8 +85,8 @@ complete-tick accepted run complete test =
     let front = complete test in
     let rest = times-tick_of test accepted (beats run) in
     let both =
-        times-apart (λ (x : Command). test x && ltb x.time (beats run)) (λ (x : Command). test x && (x.time == beats run))
-        (λ (x : Command). test x && ltb x.time (beats run + 1)) accepted (λ x. split-tick test (beats run) x) in
+    times-apart (λ (x : Command). test x && ltb x.time (beats run)) (λ (x : Command). test x && (x.time == beats run))
+    (λ (x : Command). test x && ltb x.time (beats run + 1)) accepted (λ x. split-tick test (beats run) x) in
     ap (times test) (commands_of-append run (tick_of accepted (beats run)))
     ∙ times-append test (commands_of run) (commands_of (tick_of accepted (beats run)))
     ∙ omega (arith, front, rest, both)

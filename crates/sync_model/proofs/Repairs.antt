@@ -1,28 +1,22 @@
 -- The repaired copies of an event are the first ones, and how many they are.
-use Rattle.std.proofs.Common.{◌≡◌, ℕ, zero, suc, ◌+◌, ◌-◌, ◌≤◌, ◌<◌, ◌⊎◌, Bool, true, false, not, cond, ◌&&◌, ◌||◌, ltb, leb, eqb, List, [], ◌∷◌, ◌++◌, map, filter, length, get_or, set, drop, replicate, refl, ap, sym, ◌∙◌, subst, inl, inr, ⊎_elim, append_assoc, arith}
-use Rattle.std.specs.List.{AllByRecursion, list_any}
-use Rattle.std.proofs.lemmas.Bool.{not-true, false_from_ne_true, or_parts, lt-ltb, le-ltb, ltb-true, ltb-false, cases_lt, cases_Bool}
-use Rattle.std.proofs.lemmas.Bool.Decides.{nat_tests}
-use Rattle.game_trait.specs.declared.command.Act.{Act}
+use Rattle.std.proofs.Common.{◌≡◌, ℕ, zero, suc, ◌+◌, ◌-◌, ◌<◌, ◌⊎◌, Bool, true, false, not, cond, List, [], ◌∷◌, ◌++◌, map, length, get_or, set, drop, replicate, refl, ap, sym, ◌∙◌, subst, inl, inr, ⊎_elim, append_assoc, arith}
+use Rattle.std.specs.List.{AllByRecursion}
+use Rattle.std.proofs.lemmas.Bool.{not-true, false_from_ne_true}
 use Rattle.game_trait.specs.declared.command.Command.{Command}
 use Rattle.game_trait.specs.declared.command.Item.{Item}
-use Rattle.game_trait.specs.declared.command.Item.TheVariants.{Cmd, Beat}
-use Rattle.game_trait.specs.Keys.{same_name}
-use Rattle.game_trait.specs.Run.{beats, commands_of, IsPrefix, same_command}
+use Rattle.game_trait.specs.Run.{beats, IsPrefix}
 use Rattle.game_trait.specs.Ordered.{ordered, tick_of}
 use Rattle.game_trait.specs.Count.{times}
-use Rattle.game_trait.proofs.Items.{same_command-Decides}
-use Rattle.game_trait.proofs.Runs.{beats-append, commands_of-append}
 use Rattle.game_trait.proofs.Counts.{times-append}
-use Rattle.sync_model.specs.State.{MirrorState, last_of}
+use Rattle.sync_model.specs.State.{MirrorState}
 use Rattle.sync_model.specs.Settle.{begins_with, rebuilt, settle_one, settle, is_repaired, which_repaired, repaired}
-use Rattle.sync_model.specs.Change.{is_repeat, is_late, is_idle, with_late, with_tick, proposed_by_arrival, proposed_by_step}
+use Rattle.sync_model.specs.Change.{is_idle, with_tick, proposed_by_step}
 use Rattle.sync_model.specs.Staggered.{IsAhead, IsChained, IsComplete, IsStaggered}
-use Rattle.sync_model.specs.Repairs.{AreFirst, repaired_by_step, is_late_at, last_late_clock, repaired_by_arrival}
+use Rattle.sync_model.specs.Repairs.{AreFirst, repaired_by_step}
 use Rattle.sync_model.proofs.Settle.{begins_with-Decides, IsFirstAtMost, NeverRises, beats-rebuilt, settle-beats, settle-each}
-use Rattle.sync_model.proofs.Proposals.{complete-rebuilt, complete-late, complete-tick, with_late-past, with_late-due, beats-with_late, beats-command}
-use Rattle.sync_model.proofs.Lists.{all-map, all-set}
-use Rattle.sync_model.proofs.Staggered.{beats-front, chained-falls, late-beats, IsBehindAhead, step-beats, set-falls, below_limit}
+use Rattle.sync_model.proofs.Proposals.{complete-rebuilt, complete-tick}
+use Rattle.sync_model.proofs.Lists.{all-set}
+use Rattle.sync_model.proofs.Staggered.{chained-falls, IsBehindAhead, step-beats, set-falls, below_limit}
 use Rattle.sync_model.proofs.Drain.{equal_clocks}
 
 -- of two fronts of one list, one is a front of the other
@@ -92,11 +86,11 @@ repaired-goes_on accepted r a (s ∷ rest) only complete falls h =
     let apart : begins_with r s ≡ false = not-true (begins_with r s) h in
     let new = rebuilt accepted r s in
     let not_front : begins_with a (rebuilt accepted r s) ≡ false =
-      false_from_ne_true (begins_with a (rebuilt accepted r s))
-      (λ e.
-        let same = only (rebuilt accepted r s) (complete-rebuilt accepted r s complete.0 falls) (beats-rebuilt accepted r s falls) ((begins_with-Decides a (rebuilt accepted r s)).0 e) in
-        let front : begins_with r s ≡ true = (begins_with-Decides r s).1 (ordered accepted (beats s) (beats r), sym same) in
-        cc) in
+    false_from_ne_true (begins_with a (rebuilt accepted r s))
+    (λ e.
+    let same = only (rebuilt accepted r s) (complete-rebuilt accepted r s complete.0 falls) (beats-rebuilt accepted r s falls) ((begins_with-Decides a (rebuilt accepted r s)).0 e) in
+    let front : begins_with r s ≡ true = (begins_with-Decides r s).1 (ordered accepted (beats s) (beats r), sym same) in
+    cc) in
     rw (apart, not_front) refl
 
 pub unrepaired-same : (accepted : List Command) (q : List Item) (ss : List (List Item)) → is_repaired q ss ≡ false → settle_one accepted q ss ≡ q ∷ ss
@@ -215,8 +209,8 @@ step-repairs s (suc c) here e there =
           (ap (times (λ (b : Bool). b)) marks ∙ count-first 0 (length (proposed_by_step s (suc c))), marks-first which 0 (length (proposed_by_step s (suc c))) marks)
       | false ↦ λ apart.
           let marks =
-            step-marks s.accepted s.runs c here.chained here.complete (below_limit s (suc c) e).0 there apart
-            ∙ ap (λ (l : List Bool). replicate (suc c) true ++ l) (none-marked (drop (suc c) s.runs)) in
+          step-marks s.accepted s.runs c here.chained here.complete (below_limit s (suc c) e).0 there apart
+          ∙ ap (λ (l : List Bool). replicate (suc c) true ++ l) (none-marked (drop (suc c) s.runs)) in
           (ap (times (λ (b : Bool). b)) marks ∙ count-first (suc c) (length (drop (suc c) s.runs)), marks-first which (suc c) (length (drop (suc c) s.runs)) marks)
     ]
     refl

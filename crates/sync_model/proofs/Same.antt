@@ -1,9 +1,8 @@
 -- The derived tests of equal items are the plain ones.
-use Rattle.std.proofs.Common.{◌≡◌, ℕ, Bool, true, false, ◌&&◌, eqb, List, refl, ap, ◌∙◌}
+use Rattle.std.proofs.Common.{◌≡◌, Bool, ◌&&◌, eqb, List, refl, ap}
 use Rattle.std.specs.List.{starts_with}
 use Rattle.game_trait.specs.declared.command.Act.{Act}
 use Rattle.game_trait.specs.declared.command.Act.TheVariants.{Go, Left, Right, Shoot}
-use Rattle.game_trait.specs.declared.command.Command.{Command}
 use Rattle.game_trait.specs.declared.command.Item.{Item}
 use Rattle.game_trait.specs.declared.command.Item.TheVariants.{Cmd, Beat}
 use Rattle.game_trait.specs.Run.{same_item, same_command, act_place}

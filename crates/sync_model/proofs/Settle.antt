@@ -1,12 +1,12 @@
 -- Settled runs are chained, keep the clocks that were proposed, and keep what a repair keeps.
-use Rattle.std.proofs.Common.{◌≡◌, ℕ, suc, ◌+◌, ◌-◌, ◌≤◌, Bool, true, false, cond, List, [], ◌∷◌, ◌++◌, map, refl, ap, sym, ◌∙◌, subst, arith}
+use Rattle.std.proofs.Common.{◌≡◌, ℕ, suc, ◌≤◌, true, false, cond, List, [], ◌∷◌, map, refl, ap, sym, ◌∙◌, subst, arith}
 use Rattle.std.specs.Bool.{Decides}
-use Rattle.std.specs.List.{AllByRecursion, starts_with}
+use Rattle.std.specs.List.{AllByRecursion}
 use Rattle.std.proofs.lemmas.Slice.Eq.{starts_is}
 use Rattle.std.proofs.Common.{length, drop}
 use Rattle.game_trait.specs.declared.command.Command.{Command}
 use Rattle.game_trait.specs.declared.command.Item.{Item}
-use Rattle.game_trait.specs.Run.{beats, same_item, IsPrefix}
+use Rattle.game_trait.specs.Run.{beats, IsPrefix}
 use Rattle.game_trait.specs.Ordered.{ordered}
 use Rattle.game_trait.proofs.Items.{same_item-Decides}
 use Rattle.game_trait.proofs.Runs.{beats-append}

@@ -1,24 +1,23 @@
 -- Every event keeps a mirror staggered.
-use Rattle.std.proofs.Common.{◌≡◌, ℕ, zero, suc, ◌+◌, ◌-◌, ◌≤◌, ◌<◌, ◌⊎◌, min, Bool, true, false, cond, ltb, leb, eqb, List, [], ◌∷◌, ◌++◌, map, length, get_or, set, refl, ap, sym, ◌∙◌, subst, inl, inr, ⊎_elim, arith}
-use Rattle.std.specs.List.{AllByRecursion, AllZip, list_any}
-use Rattle.std.proofs.lemmas.Bool.{ltb-true, ltb-false, leb-false, eqb-false}
-use Rattle.std.proofs.lemmas.Bool.Decides.{nat_tests}
+use Rattle.std.proofs.Common.{◌≡◌, ℕ, zero, suc, ◌+◌, ◌-◌, ◌≤◌, ◌<◌, true, false, cond, List, [], ◌∷◌, ◌++◌, map, length, get_or, set, refl, ap, sym, ◌∙◌, subst, ⊎_elim, arith}
+use Rattle.std.specs.List.{AllByRecursion, AllZip}
+use Rattle.std.proofs.lemmas.Bool.{ltb-false, leb-false, eqb-false}
 use Rattle.game_trait.specs.declared.command.Command.{Command}
 use Rattle.game_trait.specs.declared.command.Item.{Item}
 use Rattle.game_trait.specs.declared.event.Event.{Event}
 use Rattle.game_trait.specs.declared.event.Event.TheVariants.{Tick, Arrive, Step}
-use Rattle.game_trait.specs.Keys.{same_name, NamesDiffer}
+use Rattle.game_trait.specs.Keys.{NamesDiffer}
 use Rattle.game_trait.specs.Run.{beats, commands_of, IsPrefix}
 use Rattle.game_trait.specs.Ordered.{ordered, ticks, tick_of}
 use Rattle.game_trait.specs.Count.{times}
 use Rattle.game_trait.proofs.Runs.{beats-append}
 use Rattle.game_trait.proofs.KeyOrder.{all-weaker}
-use Rattle.game_trait.proofs.OrderedParts.{ordered-more, beats-ordered}
+use Rattle.game_trait.proofs.OrderedParts.{ordered-more}
 use Rattle.sync_model.specs.State.{MirrorState, opening_state, last_of, longest_delay, last_clock, copy_clock, step_limit}
 use Rattle.sync_model.specs.Settle.{settle}
-use Rattle.sync_model.specs.Change.{next, is_over, is_repeat, is_late, is_idle, with_late, with_tick, proposed_by_arrival, proposed_by_step, turned_away, Fits, after}
-use Rattle.sync_model.specs.Staggered.{IsAhead, IsChained, IsComplete, IsNeverEarly, IsBehindClock, ClocksInRange, NamesAndBounds, IsStaggered}
-use Rattle.sync_model.proofs.Settle.{IsFirstAtMost, NeverRises, settle-beats, settle-chained, settle-last, settle-each, settle-length}
+use Rattle.sync_model.specs.Change.{next, is_over, is_repeat, is_late, is_idle, with_late, with_tick, proposed_by_arrival, proposed_by_step, turned_away, Fits}
+use Rattle.sync_model.specs.Staggered.{IsAhead, IsChained, IsComplete, IsNeverEarly, IsBehindClock, IsStaggered}
+use Rattle.sync_model.proofs.Settle.{IsFirstAtMost, NeverRises, settle-beats, settle-chained, settle-last, settle-each}
 use Rattle.sync_model.proofs.Proposals.{beats-with_late, beats-with_tick, with_late-due, complete-rebuilt, complete-late, complete-tick, never_early-rebuilt, never_early-late, never_early-tick, ticks-later}
 use Rattle.sync_model.proofs.Lists.{all-map, all-set, all-push, last-map, last-set, zip-weaker, zip-to_map, zip-from_map, zip-set, names-push}
 
@@ -186,14 +185,14 @@ last-step :
     (accepted : List Command) (runs : List (List Item)) (c : ℕ)
     → last_of [] runs ≡ ordered accepted 0 (beats (last_of [] runs))
     → let new = last_of [] (set runs c (with_tick accepted (get_or runs c []))) in
-      (new ≡ ordered accepted 0 (beats new)) × (beats (last_of [] runs) ≤ beats new)
+    (new ≡ ordered accepted 0 (beats new)) × (beats (last_of [] runs) ≤ beats new)
 last-step accepted runs c here =
     let old = last_of [] runs in
     let new = last_of [] (set runs c (with_tick accepted (get_or runs c []))) in
     ⊎_elim
     (λ (e : new ≡ with_tick accepted old).
-      let clock : beats new ≡ beats old + 1 = ap beats e ∙ beats-with_tick accepted old in
-      (e ∙ ticked accepted old here ∙ ap (ordered accepted 0) (sym clock), omega arith))
+    let clock : beats new ≡ beats old + 1 = ap beats e ∙ beats-with_tick accepted old in
+    (e ∙ ticked accepted old here ∙ ap (ordered accepted 0) (sym clock), omega arith))
     (λ (e : new ≡ old). (e ∙ here ∙ ap (λ (run : List Item). ordered accepted 0 (beats run)) (sym e), (let clock = ap beats e in omega arith)))
     (last-set (with_tick accepted) [] [] runs c)
 

@@ -30,5 +30,5 @@ plain_state opening length delays clock accepted turned runs history spare =
       turned = turned;
       runs = runs_of runs;
       history = history;
-      spare = spare
+      spare = spare;
     }

@@ -17,48 +17,33 @@ use game_trait::Game;
 
 /// Settled runs are chained, whatever was proposed: each begins with the run behind it.
 pub fn settled_chained()
-    ensures {
-      (accepted : List Command) (proposed : List (List Item)) → IsChained (settle accepted proposed)
-    }
-{
-}
+    ensures { (accepted : List Command) (proposed : List (List Item)) → IsChained (settle accepted proposed) }
+{}
 
 /// The copies that an arrival repairs are the first so many from copy 0 on.
 pub fn arrival_repairs_first<G: Game>()
-    ensures {
-      (s : MirrorState G) (x : Command) → IsStaggered s → is_repeat s x ≡ false → AreFirst (which_repaired (s.accepted ++ x ∷ []) (proposed_by_arrival s x))
-    }
-{
-}
+    ensures { (s : MirrorState G) (x : Command) → IsStaggered s → is_repeat s x ≡ false → AreFirst (which_repaired (s.accepted ++ x ∷ []) (proposed_by_arrival s x)) }
+{}
 
 /// The copies that a step repairs are the first so many from copy 0 on.
 pub fn step_repairs_first<G: Game>()
-    ensures {
-      (s : MirrorState G) (c : ℕ) → IsStaggered s → is_idle s c ≡ false → c < length s.runs → AreFirst (which_repaired s.accepted (proposed_by_step s c))
-    }
-{
-}
+    ensures { (s : MirrorState G) (c : ℕ) → IsStaggered s → is_idle s c ≡ false → c < length s.runs → AreFirst (which_repaired s.accepted (proposed_by_step s c)) }
+{}
 
 /// An arrival that is taken repairs no copy where it is late at none, and else those copies whose clock is greater than the clock
 /// of the last copy at which it is late.
 pub fn arrival_repairs<G: Game>()
-    ensures {
-      (s : MirrorState G) (x : Command) → IsStaggered s
-      → said s (Arrive x)
-      ≡ ToArrive (
-      if is_repeat s x then Repeat
-      else if is_late s x then Late (last_clock s)
-      else Taken (repaired_by_arrival s x))
-    }
-{
-}
+    ensures { (s : MirrorState G) (x : Command) → IsStaggered s
+        → said s (Arrive x)
+        ≡ ToArrive (
+        if is_repeat s x then Repeat
+        else if is_late s x then Late (last_clock s)
+        else Taken (repaired_by_arrival s x)) }
+{}
 
 /// A step that runs repairs no copy, or all copies ahead of its own: these exactly where the run ahead doesn't begin with the
 /// new run.
 pub fn step_repairs<G: Game>()
-    ensures {
-      (s : MirrorState G) (c : ℕ) → IsStaggered s → c < length s.runs
-      → said s (Step c) ≡ ToStep (if is_idle s c then Idle else Ran (repaired_by_step s c))
-    }
-{
-}
+    ensures { (s : MirrorState G) (c : ℕ) → IsStaggered s → c < length s.runs
+        → said s (Step c) ≡ ToStep (if is_idle s c then Idle else Ran (repaired_by_step s c)) }
+{}

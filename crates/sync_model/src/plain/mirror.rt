@@ -39,20 +39,22 @@ impl<G: Game> Model for PlainMirror<G> {
 
     ghost Value = { MirrorState G };
 
-    ghost view = {
-        λ m. plain_state m.opening m.length m.delays.items m.clock m.accepted.items m.turned.items m.runs.items m.history.items m.spare
-    };
+    ghost view = { λ m. plain_state m.opening m.length m.delays.items m.clock m.accepted.items m.turned.items m.runs.items m.history.items m.spare };
 
-    ghost invariant = {
-        λ m.
-          IsSound (plain_state m.opening m.length m.delays.items m.clock m.accepted.items m.turned.items m.runs.items m.history.items m.spare)
-    };
+    ghost invariant = { λ m.
+        IsSound (plain_state m.opening m.length m.delays.items m.clock m.accepted.items m.turned.items m.runs.items m.history.items m.spare) };
 }
 
 impl<G: Game> PlainMirror<G> {
     /// A mirror before any event, with a copy for each delay. `room` is how many arrivals may be taken or turned away. Where memory is
     /// short, no mirror is made.
-    pub fn new(alloc: Global, opening: &G, length: Tick, delays: &[Tick], room: u32) -> Result<PlainMirror<G>, AllocError>
+    pub fn new(
+        alloc: Global,
+        opening: &G,
+        length: Tick,
+        delays: &[Tick],
+        room: u32,
+    ) -> Result<PlainMirror<G>, AllocError>
         requires { IsWellFormed (opening_state opening.now length delays.now room) }
         ensures ok { IfOk result (λ m. m ≡ opening_state opening.now length delays.now room) }
     {
@@ -197,7 +199,8 @@ impl<G: Game> PlainMirror<G> {
         requires { copy < length self.now.runs }
         ensures { result ≡ min self.now.length (self.now.clock - slice_index_or self.now.delays copy 0) }
     {
-        self.length.min(self.clock.saturating_sub(self.delays[copy])) as usize
+        self.length
+            .min(self.clock.saturating_sub(self.delays[copy])) as usize
     }
 
     /// How far a copy may go, in ticks.
@@ -385,9 +388,7 @@ mod tests {
     impl Game for Last {
         ghost use Rattle.std.specs.Prelude.{◌+◌, ◌%◌, ◌^◌};
 
-        ghost rules = {
-            record { apply = λ w x. record { number = x.number; beats = 0 }; beat = λ w. record w { beats = (w.beats + 1) % 2 ^ 32 } }
-        };
+        ghost rules = { record { apply = λ w x. record { number = x.number; beats = 0 }; beat = λ w. record w { beats = (w.beats + 1) % 2 ^ 32 } } };
 
         fn apply(&mut self, x: &Command) {
             self.number = x.number;
@@ -417,10 +418,17 @@ mod tests {
         })
     }
 
-    const OPENING: Last = Last { number: 0, beats: 0 };
+    const OPENING: Last = Last {
+        number: 0,
+        beats: 0,
+    };
 
     /// Makes the events that fit, and answers the last reply.
-    fn make_all(alloc: Global, mirror: &mut PlainMirror<Last>, events: &[Event]) -> Result<Option<Reply>, AllocError> {
+    fn make_all(
+        alloc: Global,
+        mirror: &mut PlainMirror<Last>,
+        events: &[Event],
+    ) -> Result<Option<Reply>, AllocError> {
         let mut reply = None;
         for e in events {
             if mirror.does_fit(e) {
@@ -446,7 +454,13 @@ mod tests {
         assert!(rt; mirror.copies() == 3);
         assert!(rt; mirror.run_of(2).len() == 3);
         assert!(rt; mirror.run_of(0).starts_with(mirror.run_of(1)));
-        assert!(rt; mirror.world(0) == Last { number: 7, beats: 5 });
+        assert!(rt;
+            mirror.world(0)
+                == Last {
+                    number: 7,
+                    beats: 5
+                }
+        );
         assert!(rt; mirror.clock() == 6);
         assert!(rt; mirror.accepted().len() == 1);
         Ok(())
@@ -469,7 +483,15 @@ mod tests {
         assert!(rt; idle == Some(Reply::Step(Stepped::Idle)));
         let over = make_all(alloc, &mut mirror, &[Event::Tick, Event::Tick])?;
         assert!(rt; over == Some(Reply::Tick(Ticked::Over)));
-        assert!(rt; mirror.turned() == [Turned { from: 0, number: 8, bound: 3 }].as_slice());
+        assert!(rt;
+            mirror.turned()
+                == [Turned {
+                    from: 0,
+                    number: 8,
+                    bound: 3
+                }]
+                .as_slice()
+        );
         assert!(rt; mirror.spare() == 0);
         assert!(rt; mirror.events().len() == 9);
         Ok(())

@@ -22,7 +22,11 @@ fn late_run(alloc: Global, run: &[Item], x: &Command) -> Result<Vec<Item>, Alloc
 }
 
 /// The runs that an arrival proposes.
-pub fn by_arrival(alloc: Global, runs: &[Vec<Item>], x: &Command) -> Result<Vec<Vec<Item>>, AllocError>
+pub fn by_arrival(
+    alloc: Global,
+    runs: &[Vec<Item>],
+    x: &Command,
+) -> Result<Vec<Vec<Item>>, AllocError>
     ensures runs { IfOk result (λ v. runs_of v.items ≡ map (with_late x.now) (runs_of runs.now)) }
     ensures count { IfOk result (λ v. length v.items ≡ length runs.now) }
 {
@@ -57,12 +61,15 @@ fn run_tick(alloc: Global, accepted: &[Command], run: &mut Vec<Item>) -> Result<
 }
 
 /// The runs that a step of a copy proposes.
-pub fn by_step(alloc: Global, accepted: &[Command], runs: &[Vec<Item>], copy: usize) -> Result<Vec<Vec<Item>>, AllocError>
+pub fn by_step(
+    alloc: Global,
+    accepted: &[Command],
+    runs: &[Vec<Item>],
+    copy: usize,
+) -> Result<Vec<Vec<Item>>, AllocError>
     requires { copy < length runs.now }
     ensures count { IfOk result (λ v. length v.items ≡ length runs.now) }
-    ensures runs {
-      IfOk result (λ v. runs_of v.items ≡ slice_set (runs_of runs.now) copy (with_tick accepted.now (slice_index_or (runs_of runs.now) copy [])))
-    }
+    ensures runs { IfOk result (λ v. runs_of v.items ≡ slice_set (runs_of runs.now) copy (with_tick accepted.now (slice_index_or (runs_of runs.now) copy []))) }
 {
     let mut proposed = copied(alloc, runs)?;
     run_tick(alloc, accepted, &mut proposed[copy])?;

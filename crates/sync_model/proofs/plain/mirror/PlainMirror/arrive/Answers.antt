@@ -1,5 +1,5 @@
 use Rattle.std.proofs.lemmas.Bool.{lt-ltb, le-ltb}
-use Rattle.std.proofs.Common.{arith, sym, ◌∙◌, ap, List, [], ◌∷◌, ◌++◌}
+use Rattle.std.proofs.Common.{arith, sym}
 use Rattle.sync_model.proofs.Kept.{repeat_state, repeat_answer, late_answer, taken_answer}
 use Rattle.sync_model.proofs.plain.mirror.PlainMirror.arrive.Goals as goal
 
