@@ -1,11 +1,22 @@
 -- How a run may end.
-use Rattle.std.proofs.Common.{◌≡◌, ℕ, ◌<◌, List, [], Option, Some, None, length, take, inl, inr, sym, subst}
-use Rattle.std.specs.Prelude.{IfSome}
+use Rattle.std.proofs.Common.{◌≡◌, ℕ, ◌<◌, ◌≤◌, ◌⊎◌, false, List, [], Option, Some, None, Ok, length, take, inl, inr, sym, ap, subst, ◌∙◌, arith}
+use Rattle.std.specs.Prelude.{IfSome, nat_lt}
+use Rattle.std.proofs.lemmas.Bool.Decides.{nat_tests}
 use Rattle.tss_io.specs.Streams.{Gains}
+use Rattle.run_recorder.specs.declared.log.MirrorLog.{MirrorLog}
+use Rattle.match_file.specs.Data.{MatchData, IsPlain}
+use Rattle.match_file.specs.Text.{match_text}
+use Rattle.match_file.specs.Reading.{read_text}
+use Rattle.match_file.proofs.MatchLaws.{read_text-match_text}
+use Rattle.match_file.proofs.TextLength.{length-match_text}
 use Rattle.tss_program.specs.declared.form.Form.{Form}
+use Rattle.tss_program.specs.declared.form.Form.TheVariants.{Play}
 use Rattle.tss_program.specs.declared.status.Status.TheVariants.{WriteFault}
 use Rattle.tss_program.specs.Words.{form_of}
-use Rattle.tss_program.specs.Due.{due_of, due_of_option, usage_text, Ends, code}
+use Rattle.tss_program.specs.Play.{played}
+use Rattle.tss_program.specs.Headline.{Keeps}
+use Rattle.tss_program.specs.Due.{Due, due_of, due_of_option, due_of_form, due_of_match, match_of, text_limit, usage_text, Ends, code}
+use Rattle.tss_program.proofs.Headline.{played-IsPlayed}
 
 -- what holds at every value holds of the one that is there
 pub IfSome-each : {X : Type 0} (o : Option X) (P : X → Type 0) → ((x : X) → P x) → IfSome o P
@@ -14,9 +25,66 @@ IfSome-each (Some x) P each = each x
 
 -- the usage line could not be put whole
 pub Ends-wrong_words :
-    (words : List (List ℕ)) (status : ℕ) (read_fault write_fault : Type 0) (old new : Option (List ℕ)) (input : List ℕ)
-    → form_of words ≡ None → status ≡ code WriteFault → write_fault
+    (words : List (List ℕ)) (status : ℕ) (kept : List MirrorLog) (read_fault write_fault : Type 0) (old new : Option (List ℕ)) (input : List ℕ)
+    → form_of words ≡ None → status ≡ code WriteFault → write_fault → kept ≡ []
     → ((n : ℕ) × (n < length usage_text) × Gains old (take n usage_text) new)
-    → Ends (due_of words input) status read_fault write_fault old new
-Ends-wrong_words words status read_fault write_fault old new input none ended fault front =
-    subst (λ (o : Option Form). Ends (due_of_option o input) status read_fault write_fault old new) (sym none) (inr (inr (inl (ended, fault, front))))
+    → Ends (due_of words input) status kept read_fault write_fault old new
+Ends-wrong_words words status kept read_fault write_fault old new input none ended fault nothing front =
+    subst (λ (o : Option Form). Ends (due_of_option o input) status kept read_fault write_fault old new) (sym none) (inr (inr (inl (ended, fault, nothing, front))))
+
+-- what is due for the text of a match is what the match decides
+pub due-of_match :
+    (words : List (List ℕ)) (form : Form) (m : MatchData) (input : List ℕ)
+    → form_of words ≡ Some form → IsPlain m → input ≡ match_text m → due_of words input ≡ due_of_match form (Ok m)
+unfolding due_of_form match_of
+due-of_match words form m input of plain text =
+    let short : length input ≤ 8388608 = subst (λ (l : List ℕ). length l ≤ 8388608) (sym text) (length-match_text m plain) in
+    let within : nat_lt text_limit (length input) ≡ false = grind (arith, nat_tests) in
+    let read : read_text input ≡ Ok m = ap read_text text ∙ read_text-match_text m plain in
+    ap (λ (o : Option Form). due_of_option o input) of ∙ ap (due_of_match form) (rw within read)
+
+pub Ends-of_match :
+    (words : List (List ℕ)) (status : ℕ) (kept : List MirrorLog) (read_fault write_fault : Type 0) (old new : Option (List ℕ)) (input : List ℕ)
+    → Ends (due_of words input) status kept read_fault write_fault old new → (form : Form) (m : MatchData)
+    → form_of words ≡ Some form → IsPlain m → input ≡ match_text m → Ends (due_of_match form (Ok m)) status kept read_fault write_fault old new
+Ends-of_match words status kept read_fault write_fault old new input ends form m of plain text =
+    subst (λ (due : Due). Ends due status kept read_fault write_fault old new) (due-of_match words form m input of plain text) ends
+
+-- at status 0 and 4 the logs are those that are due
+wrong : (code status : ℕ) → status ≡ code → 0 < code → (code ≡ 4 → ⊥) → (status ≡ 0) ⊎ (status ≡ 4) → ⊥
+wrong code status is above other (inl none) = omega arith
+wrong code status is above other (inr four) = other (sym is ∙ four)
+
+kept-of : (due : Due) (status : ℕ) (kept : List MirrorLog) (read_fault write_fault : Type 0) (old new : Option (List ℕ))
+    → Ends due status kept read_fault write_fault old new → (status ≡ 0) ⊎ (status ≡ 4) → kept ≡ due.kept
+kept-of due status kept read_fault write_fault old new (inl out) when = absurd (wrong 1 status out.0 (omega arith) (λ e. omega arith) when)
+kept-of due status kept read_fault write_fault old new (inr (inl unread)) when = absurd (wrong 3 status unread.0 (omega arith) (λ e. omega arith) when)
+kept-of due status kept read_fault write_fault old new (inr (inr (inl unwritten))) when = unwritten.2
+kept-of due status kept read_fault write_fault old new (inr (inr (inr whole))) when = whole.1
+
+-- the log of a match that was played
+pub Keeps-played :
+    (words : List (List ℕ)) (status : ℕ) (kept : List MirrorLog) (read_fault write_fault : Type 0) (old new : Option (List ℕ)) (input : List ℕ)
+    → Ends (due_of words input) status kept read_fault write_fault old new → (m : MatchData)
+    → form_of words ≡ Some Play → IsPlain m → input ≡ match_text m → (status ≡ 0) ⊎ (status ≡ 4) → Keeps m kept
+Keeps-played words status kept read_fault write_fault old new input ends m of plain text when =
+    record {
+      log = (played m).history;
+      one = kept-of (due_of_match Play (Ok m)) status kept read_fault write_fault old new (Ends-of_match words status kept read_fault write_fault old new input ends Play m of plain text) when;
+      played = played-IsPlayed m plain.sound;
+    }
+
+-- the same, wherever the bytes are told
+pub told-of_match :
+    (left : Option (List ℕ)) (words : List (List ℕ)) (status : ℕ) (kept : List MirrorLog) (read_fault write_fault : Type 0) (old new : Option (List ℕ))
+    → IfSome left (λ input. Ends (due_of words input) status kept read_fault write_fault old new)
+    → IfSome left (λ input. (form : Form) (m : MatchData) → form_of words ≡ Some form → IsPlain m → input ≡ match_text m → Ends (due_of_match form (Ok m)) status kept read_fault write_fault old new)
+told-of_match None words status kept read_fault write_fault old new ends = tt
+told-of_match (Some input) words status kept read_fault write_fault old new ends = Ends-of_match words status kept read_fault write_fault old new input ends
+
+pub told-played :
+    (left : Option (List ℕ)) (words : List (List ℕ)) (status : ℕ) (kept : List MirrorLog) (read_fault write_fault : Type 0) (old new : Option (List ℕ))
+    → IfSome left (λ input. Ends (due_of words input) status kept read_fault write_fault old new)
+    → IfSome left (λ input. (m : MatchData) → form_of words ≡ Some Play → IsPlain m → input ≡ match_text m → (status ≡ 0) ⊎ (status ≡ 4) → Keeps m kept)
+told-played None words status kept read_fault write_fault old new ends = tt
+told-played (Some input) words status kept read_fault write_fault old new ends = Keeps-played words status kept read_fault write_fault old new input ends

@@ -1,2 +1,11 @@
 pub mod Front
 pub mod Ends
+pub mod Steps
+pub mod Log
+pub mod ScriptEvents
+pub mod Ready
+pub mod Headline
+pub mod Named
+pub mod LineMade
+pub mod ScriptLoop
+pub mod PlayText

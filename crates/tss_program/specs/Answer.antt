@@ -5,4 +5,4 @@ use Rattle.tss_program.specs.Due.{Due}
 
 -- the answer is what is due
 abbrev pub IsAnswer : Due → Answer → Type 0
-IsAnswer due answer = (answer.status ≡ due.status) × (answer.text.items ≡ due.text)
+IsAnswer due answer = (answer.status ≡ due.status) × (answer.text.items ≡ due.text) × (answer.kept ≡ due.kept)

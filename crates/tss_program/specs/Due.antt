@@ -7,16 +7,19 @@ use Rattle.match_file.specs.Causes.{cause_number, cause_word}
 use Rattle.match_file.specs.Data.{MatchData}
 use Rattle.match_file.specs.Reading.{read_text}
 use Rattle.tss_program.specs.declared.form.Form.{Form}
-use Rattle.tss_program.specs.declared.form.Form.TheVariants.{Order}
+use Rattle.tss_program.specs.declared.form.Form.TheVariants.{Order, Play}
 use Rattle.tss_program.specs.declared.status.Status.{Status}
 use Rattle.tss_program.specs.declared.status.Status.TheVariants.{Complete, NoMemory, WrongWords, ReadFault, WriteFault, Refusal}
 use Rattle.tss_program.specs.Words.{form_of}
 use Rattle.tss_program.specs.Blocks.{order_text}
+use Rattle.tss_program.specs.Play.{play_text, played}
+use Rattle.run_recorder.specs.declared.log.MirrorLog.{MirrorLog}
 
--- a status and the text that goes with it
+-- a status, the text that goes with it, and the logs that are kept of the mirrors, mirror 0 first
 pub record Due : Type 0 where
   pub status : Status
   pub text : List ℕ
+  pub kept : List MirrorLog
 
 -- the number that the program ends with
 abbrev pub code : Status → ℕ
@@ -50,12 +53,14 @@ match_of input = if nat_lt text_limit (length input) then Err too_long else read
 
 -- what is due for a refusal
 abbrev pub refusal_due : Refused → Due
-refusal_due r = record { status = Refusal; text = refused_text r }
+refusal_due r = record { status = Refusal; text = refused_text r; kept = [] }
 
 -- what is due for a match that was read, or for a refusal
 abbrev pub due_of_match : Form → Result MatchData Refused → Due
-due_of_match Order (Ok m) = record { status = Complete; text = order_text m }
+due_of_match Order (Ok m) = record { status = Complete; text = order_text m; kept = [] }
 due_of_match Order (Err r) = refusal_due r
+due_of_match Play (Ok m) = record { status = Complete; text = play_text m; kept = record { mirror = 0; events = (played m).history } ∷ [] }
+due_of_match Play (Err r) = refusal_due r
 
 -- what is due for a form and an input
 unfoldable pub due_of_form : Form → List ℕ → Due
@@ -63,7 +68,7 @@ due_of_form form input = due_of_match form (match_of input)
 
 -- what is due for a form, if there is one
 abbrev pub due_of_option : Option Form → List ℕ → Due
-due_of_option None input = record { status = WrongWords; text = usage_text }
+due_of_option None input = record { status = WrongWords; text = usage_text; kept = [] }
 due_of_option (Some form) input = due_of_form form input
 
 -- what is due for a command line and an input
@@ -71,9 +76,9 @@ abbrev pub due_of : List (List ℕ) → List ℕ → Due
 due_of words input = due_of_option (form_of words) input
 
 -- a call may end so: it ran out of memory, a read failed, a write failed, or what is due was written whole
-abbrev pub Ends : Due → ℕ → Type 0 → Type 0 → Option (List ℕ) → Option (List ℕ) → Type 0
-Ends due status read_fault write_fault old new =
-    ((status ≡ code NoMemory) × Gains old [] new)
-    ⊎ ((status ≡ code ReadFault) × read_fault × Gains old [] new)
-    ⊎ ((status ≡ code WriteFault) × write_fault × ((n : ℕ) × (n < length due.text) × Gains old (take n due.text) new))
-    ⊎ ((status ≡ code due.status) × Gains old due.text new)
+abbrev pub Ends : Due → ℕ → List MirrorLog → Type 0 → Type 0 → Option (List ℕ) → Option (List ℕ) → Type 0
+Ends due status kept read_fault write_fault old new =
+    ((status ≡ code NoMemory) × (kept ≡ []) × Gains old [] new)
+    ⊎ ((status ≡ code ReadFault) × read_fault × (kept ≡ []) × Gains old [] new)
+    ⊎ ((status ≡ code WriteFault) × write_fault × (kept ≡ due.kept) × ((n : ℕ) × (n < length due.text) × Gains old (take n due.text) new))
+    ⊎ ((status ≡ code due.status) × (kept ≡ due.kept) × Gains old due.text new)

@@ -1,24 +1,26 @@
 //! The text that is due, built whole before its first byte is put.
 
-ghost use Rattle.std.specs.Prelude.{◌≡◌, ◌≤◌, ◌++◌, Ok, length, IfOk, OnOk};
+ghost use Rattle.std.specs.Prelude.{◌≡◌, ◌≤◌, Ok, length, IfOk};
 ghost use Rattle.tss_program.specs.Due.{due_of_form, due_of_match, refusal_due, too_long, text_limit};
-ghost use Rattle.tss_program.specs.Blocks.{block_text};
 ghost use Rattle.tss_program.specs.Answer.{IsAnswer};
 
 use crate::form::Form;
+use crate::lines::push_block;
 use crate::order::execute_in_order;
+use crate::play::play_answer;
 use crate::status::Status;
-use arena_rules::{Arena, Roster, Shown};
-use game_trait::Tick;
+use arena_rules::Arena;
 use match_file::{Cause, Match, Refused, TextFault, read_match};
+use run_recorder::MirrorLog;
 use std::alloc::Global;
-use tss_io::{NoMemory, push_decimal};
+use tss_io::{NoMemory, Seq};
 
-// A status and the text that goes with it.
+// A status, the text that goes with it, and the logs that are kept.
 #[derive(Drop)]
 pub struct Answer {
     pub status: Status,
     pub text: Vec<u8>,
+    pub kept: Seq<MirrorLog>,
 }
 
 // The answer to a text that is over the limit.
@@ -43,27 +45,11 @@ pub fn answer_text(alloc: Global, form: Form, text: &[u8]) -> Result<Answer, NoM
     match read_match(alloc, text) {
         Ok(game) => match form {
             Form::Order => order_answer(alloc, game),
+            Form::Play => play_answer(alloc, &game),
         },
         Err(TextFault::Refused(refused)) => refusal(alloc, refused),
         Err(TextFault::NoMemory) => Err(NoMemory),
     }
-}
-
-// Puts a word and a time as a head line, and the lines of the world.
-#[tactic(auto, unfolding(crate::specs::Blocks::block_text))]
-fn push_block(
-    out: &mut Vec<u8>,
-    head: &str,
-    time: Tick,
-    world: &Arena,
-    roster: &Roster,
-) -> Result<(), NoMemory>
-    ensures { OnOk result (out.new.items ≡ out.old.items ++ block_text head.now time world.now roster.now) }
-{
-    out.extend_from_slice(head.as_bytes())?;
-    push_decimal(out, i128::from(time))?;
-    out.push(b'\n')?;
-    world.block(roster, out)
 }
 
 // The text of `order`.
@@ -75,11 +61,13 @@ fn order_answer(alloc: Global, game: Match) -> Result<Answer, NoMemory>
     let mut commands = game.commands.into_vec();
     execute_in_order(&mut world, commands.as_mut_slice(), game.length);
     let mut text = Vec::new(alloc);
-    push_block(&mut text, "order ", game.length, &world, &game.roster)?;
+    text.extend_from_slice(b"order ")?;
+    push_block(&mut text, game.length, &world, &game.roster)?;
     text.extend_from_slice(b"done\n")?;
     Ok(Answer {
         status: Status::Complete,
         text,
+        kept: Seq::new(alloc),
     })
 }
 
@@ -95,5 +83,6 @@ fn refusal(alloc: Global, refused: Refused) -> Result<Answer, NoMemory>
     Ok(Answer {
         status: Status::Refusal,
         text: text.into_bytes(),
+        kept: Seq::new(alloc),
     })
 }

@@ -9,6 +9,8 @@ ghost use Rattle.tss_program.specs.Words.{form_of};
 pub enum Form {
     /// Execute the commands of a match in key order, and show the world.
     Order,
+    /// Play a match along its script, drain its mirrors, and show their copies.
+    Play,
 }
 
 impl Form {
@@ -19,6 +21,7 @@ impl Form {
     {
         match words {
             [word] if word.as_str() == "order" => Some(Form::Order),
+            [word] if word.as_str() == "play" => Some(Form::Play),
             _ => None,
         }
     }

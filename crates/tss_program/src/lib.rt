@@ -4,8 +4,12 @@
 mod answer;
 mod done;
 mod form;
+mod lines;
+mod names;
 mod order;
+mod play;
 mod run;
+mod script;
 mod status;
 
 pub use done::Done;

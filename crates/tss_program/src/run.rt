@@ -1,10 +1,13 @@
 //! One run of the program: words and a source in, bytes and a status out.
 
-ghost use Rattle.std.specs.Prelude.{◌≡◌, ◌≤◌, ◌<◌, ◌+◌, ◌⊎◌, ℕ, List, [], None, Some, map, length, take, IfSome, IfOk, OnOk, IfErr, OnErr};
+ghost use Rattle.std.specs.Prelude.{◌≡◌, ◌≤◌, ◌<◌, ◌+◌, ◌⊎◌, ℕ, List, [], None, Some, Ok, map, length, take, IfSome, IfOk, OnOk, IfErr, OnErr};
 ghost use Rattle.std.specs.String.{string_bytes};
 ghost use Rattle.tss_io.specs.Streams.{Rose, Yields, Gains};
 ghost use Rattle.tss_program.specs.Words.{form_of};
-ghost use Rattle.tss_program.specs.Due.{due_of, due_of_form, Ends, text_limit};
+ghost use Rattle.match_file.specs.Data.{MatchData, IsPlain};
+ghost use Rattle.match_file.specs.Text.{match_text};
+ghost use Rattle.tss_program.specs.Due.{due_of, due_of_form, due_of_match, Ends, text_limit};
+ghost use Rattle.tss_program.specs.Headline.{Keeps};
 ghost use Rattle.tss_program.specs.Answer.{IsAnswer};
 
 use crate::answer::{Answer, answer_text, too_long};
@@ -12,7 +15,7 @@ use crate::done::Done;
 use crate::form::Form;
 use crate::status::Status;
 use std::alloc::Global;
-use tss_io::{Failed, ReadFault, Sink, Source, put_all, read_all};
+use tss_io::{Failed, ReadFault, Seq, Sink, Source, put_all, read_all};
 
 // How many bytes a match text has at most.
 const TEXT_LIMIT: usize = 8_388_608;
@@ -24,7 +27,7 @@ const USAGE: &[u8] = b"usage: tss order|play|race|audit|score|soak N\n";
 #[tactic(auto, unfolding(crate::specs::Due::due_of_form, crate::specs::Due::match_of))]
 fn respond<S: Source>(alloc: Global, form: Form, source: &mut S) -> Result<Answer, Status>
     ensures due { IfOk result (λ a. IfSome (S.left source.old) (λ input. IsAnswer (due_of_form form input) a)) }
-    ensures answered { IfOk result (λ a. (a.status ≡ Status.Complete) ⊎ (a.status ≡ Status.Refusal)) }
+    ensures answered { IfOk result (λ a. (a.status ≡ Status.Complete) ⊎ ((a.status ≡ Status.Refusal) × (a.kept ≡ []))) }
     ensures why { IfErr result (λ status.
         (status ≡ Status.NoMemory) ⊎ ((status ≡ Status.ReadFault) × Rose (S.faults source.old) (S.faults source.new))) }
     ensures front { (front : List ℕ) × (length front ≤ text_limit + 1) × Yields (S.left source.old) front (S.left source.new) }
@@ -41,7 +44,45 @@ fn respond<S: Source>(alloc: Global, form: Form, source: &mut S) -> Result<Answe
     }
 }
 
+// Runs the program, by its words and what is due.
 #[tactic(auto, unfolding(crate::specs::Due::due_of_form, crate::specs::Due::usage_text))]
+fn run_words<S: Source, K: Sink>(
+    alloc: Global,
+    words: &[String],
+    source: &mut S,
+    sink: &mut K,
+) -> Done
+    ensures ends { IfSome (S.left source.old) (λ input.
+        Ends (due_of (map string_bytes words.now) input) result.status result.kept
+        (Rose (S.faults source.old) (S.faults source.new)) (Rose (K.faults sink.old) (K.faults sink.new))
+        (K.taken sink.old) (K.taken sink.new)) }
+
+    // Without the premise that bytes are told.
+    ensures wrong_words { form_of (map string_bytes words.now) ≡ None → (result.status ≡ 2) ⊎ (result.status ≡ 4) }
+    ensures untouched { form_of (map string_bytes words.now) ≡ None → source.new ≡ source.old }
+    ensures read_fault { result.status ≡ 3 → Rose (S.faults source.old) (S.faults source.new) }
+    ensures write_fault { result.status ≡ 4 → Rose (K.faults sink.old) (K.faults sink.new) }
+    ensures nothing_kept { (result.status ≡ 1) ⊎ (result.status ≡ 2) ⊎ (result.status ≡ 3) ⊎ (result.status ≡ 5) → result.kept ≡ [] }
+    ensures silent { (result.status ≡ 1) ⊎ (result.status ≡ 3) → Gains (K.taken sink.old) [] (K.taken sink.new) }
+
+    ensures front { (front : List ℕ) × (length front ≤ text_limit + 1) × Yields (S.left source.old) front (S.left source.new) }
+    ensures reads { S.calls source.new ≤ S.calls source.old + (text_limit + 1) }
+{
+    let Some(form) = Form::of(words) else {
+        return match put_all(sink, USAGE) {
+            Ok(()) => Done::of(Status::WrongWords, Seq::new(alloc)),
+            Err(Failed) => Done::of(Status::WriteFault, Seq::new(alloc)),
+        };
+    };
+    match respond(alloc, form, source) {
+        Ok(answer) => match put_all(sink, answer.text.as_slice()) {
+            Ok(()) => Done::of(answer.status, answer.kept),
+            Err(Failed) => Done::of(Status::WriteFault, answer.kept),
+        },
+        Err(status) => Done::of(status, Seq::new(alloc)),
+    }
+}
+
 /// Runs the program on the words behind its name. It reads the source where the words have a form, and puts what is due
 /// to the sink: the whole of it at status 0, 2 or 5, a proper front of it at status 4, and nothing at status 1 or 3.
 pub fn run_plain<S: Source, K: Sink>(
@@ -51,31 +92,32 @@ pub fn run_plain<S: Source, K: Sink>(
     sink: &mut K,
 ) -> Done
     ensures ends { IfSome (S.left source.old) (λ input.
-        Ends (due_of (map string_bytes words.now) input) result.status
+        Ends (due_of (map string_bytes words.now) input) result.status result.kept
         (Rose (S.faults source.old) (S.faults source.new)) (Rose (K.faults sink.old) (K.faults sink.new))
         (K.taken sink.old) (K.taken sink.new)) }
+
+    // The same of a match's text: nothing but the match decides what is due.
+    ensures of_match { IfSome (S.left source.old) (λ input. (form : Form) (m : MatchData)
+        → form_of (map string_bytes words.now) ≡ Some form → IsPlain m → input ≡ match_text m
+        → Ends (due_of_match form (Ok m)) result.status result.kept
+        (Rose (S.faults source.old) (S.faults source.new)) (Rose (K.faults sink.old) (K.faults sink.new))
+        (K.taken sink.old) (K.taken sink.new)) }
+
+    // What playing a match promises, of the log that is kept.
+    ensures played { IfSome (S.left source.old) (λ input. (m : MatchData)
+        → form_of (map string_bytes words.now) ≡ Some Form.Play → IsPlain m → input ≡ match_text m
+        → (result.status ≡ 0) ⊎ (result.status ≡ 4) → Keeps m result.kept) }
 
     // Without the premise that bytes are told.
     ensures wrong_words { form_of (map string_bytes words.now) ≡ None → (result.status ≡ 2) ⊎ (result.status ≡ 4) }
     ensures untouched { form_of (map string_bytes words.now) ≡ None → source.new ≡ source.old }
     ensures read_fault { result.status ≡ 3 → Rose (S.faults source.old) (S.faults source.new) }
     ensures write_fault { result.status ≡ 4 → Rose (K.faults sink.old) (K.faults sink.new) }
+    ensures nothing_kept { (result.status ≡ 1) ⊎ (result.status ≡ 2) ⊎ (result.status ≡ 3) ⊎ (result.status ≡ 5) → result.kept ≡ [] }
     ensures silent { (result.status ≡ 1) ⊎ (result.status ≡ 3) → Gains (K.taken sink.old) [] (K.taken sink.new) }
 
     ensures front { (front : List ℕ) × (length front ≤ text_limit + 1) × Yields (S.left source.old) front (S.left source.new) }
     ensures reads { S.calls source.new ≤ S.calls source.old + (text_limit + 1) }
 {
-    let Some(form) = Form::of(words) else {
-        return match put_all(sink, USAGE) {
-            Ok(()) => Done::of(Status::WrongWords),
-            Err(Failed) => Done::of(Status::WriteFault),
-        };
-    };
-    match respond(alloc, form, source) {
-        Ok(answer) => match put_all(sink, answer.text.as_slice()) {
-            Ok(()) => Done::of(answer.status),
-            Err(Failed) => Done::of(Status::WriteFault),
-        },
-        Err(status) => Done::of(status),
-    }
+    run_words(alloc, words, source, sink)
 }

@@ -5,4 +5,4 @@ use Rattle.tss_program.proofs.answer.refusal.Goals as goal
 
 pub returns : goal.returns
 unfolding refused_text
-returns c = (refl, ap (λ (v : Vec _). v.items) c.into_bytes.ensures.value ∙ rw (c.in_ok-text.ensures.ok, c.number-number.ensures, c.word-word.ensures) refl)
+returns c = (refl, ap (λ (v : Vec _). v.items) c.into_bytes.ensures.value ∙ rw (c.in_ok-text.ensures.ok, c.number-number.ensures, c.word-word.ensures) refl, c.new.ensures)

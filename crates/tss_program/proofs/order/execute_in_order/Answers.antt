@@ -1,9 +1,7 @@
-use Rattle.std.proofs.Common.{◌≡◌, suc, ◌+◌, ◌-◌, List, map, refl, ap, sym, ◌∙◌, arith}
-use Rattle.game_trait.specs.declared.command.Command.{Command}
-use Rattle.game_trait.specs.declared.command.Item.TheVariants.{Cmd}
+use Rattle.std.proofs.Common.{◌≡◌, suc, ◌+◌, ◌-◌, refl, ap, sym, ◌∙◌, arith}
 use Rattle.game_trait.specs.Run.{world_of}
 use Rattle.game_trait.specs.Ordered.{ticks}
-use Rattle.tss_program.proofs.Front.{FromTick, FromTick-start, due_behind-FromTick, world_of-tick, world_of-in_key_order, world_of-no_ticks}
+use Rattle.tss_program.proofs.Front.{FromTick-start, due_behind-FromTick, world_of-tick, world_of-in_key_order, world_of-no_ticks}
 use Rattle.tss_program.proofs.order.execute_in_order.Goals as goal
 
 pub loop-t-init : goal.loop-t-init

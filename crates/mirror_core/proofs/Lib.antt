@@ -1,0 +1,6 @@
+pub mod Places
+pub mod Due
+pub mod Sound
+pub mod OneCopy
+pub mod Kept
+pub mod Calls

@@ -1,0 +1,24 @@
+use Rattle.std.proofs.Common.{sym, arith}
+use Rattle.mirror_core.proofs.Calls.{clock_fits, over_state, over_answer, moved_state, moved_answer}
+use Rattle.mirror_core.proofs.Kept.{kept_moved}
+use Rattle.mirror_core.proofs.mirror.Mirror.tick.Goals as goal
+
+pub returns-then-at_end-clause-state : goal.returns-then-at_end-clause-state
+returns-then-at_end-clause-state g c = rw (← c.self.view_is) (over_state c.self.invariant (sym c.if-at_end.ensures))
+
+pub returns-then-at_end-clause-answer : goal.returns-then-at_end-clause-answer
+returns-then-at_end-clause-answer g c = rw (← c.self.view_is) (over_answer c.self.invariant (sym c.if-at_end.ensures))
+
+pub overflow_add-self : goal.overflow_add-self
+overflow_add-self g c = (let small = clock_fits c.self.invariant in omega arith)
+
+pub invariant_of-self : goal.invariant_of-self
+invariant_of-self g c =
+    rw (c.push_reserved.ensures.items, c.push_reserved.ensures.capacity) (kept_moved _ _ c.self.invariant (sym c.if-at_end.ensures))
+
+pub returns-clause-state : goal.returns-clause-state
+returns-clause-state g c =
+    rw (← c.self.view_is, c.push_reserved.ensures.items) (moved_state c.self.invariant (sym c.if-at_end.ensures))
+
+pub returns-clause-answer : goal.returns-clause-answer
+returns-clause-answer g c = rw (← c.self.view_is) (moved_answer c.self.invariant (sym c.if-at_end.ensures))

@@ -1,0 +1,10 @@
+//! One mirror of a match: it takes ticks, arrivals and steps, and is at every moment a state of `sync_model`.
+#![tactic(auto)]
+
+mod commands;
+mod mirror;
+#[cfg(test)]
+mod tests;
+
+pub use mirror::{MOST_ROOM, Mirror};
+pub use sync_model::Turned;

@@ -1,0 +1,130 @@
+//! The delays of a match's copies, and how far each copy may go.
+
+ghost use Rattle.std.specs.Prelude.{◌≡◌, ◌<◌, ◌≤◌, length, slice_index};
+ghost use Rattle.stagger_clock.specs.Schedule.{IsSchedule, limit_at, longest_delay, is_end};
+
+use game_trait::Tick;
+use std::marker::Model;
+
+/// How many copies a mirror has at most.
+pub const MOST_COPIES: usize = 8;
+
+/// How far the last copy may be behind the clock at most, in ticks.
+pub const LONGEST_DELAY: Tick = 1_024;
+
+/// How long a match may be, in ticks.
+pub const LONGEST_MATCH: Tick = 8_192;
+
+/// The delays of a match's copies, and the match's length, all in ticks. It takes no memory.
+#[derive(Clone, Copy, Debug)]
+pub struct Stagger {
+    places: [Tick; 8],
+    copies: u8,
+    ticks: Tick,
+}
+
+impl Model for Stagger {
+    ghost use Rattle.std.specs.Prelude.{◌++◌, ◌-◌, length, replicate, take};
+    ghost use Rattle.stagger_clock.specs.Schedule.{Schedule};
+    ghost use Rattle.stagger_clock.specs.Stored.{IsStored};
+
+    ghost Value = { Schedule };
+
+    ghost view = { λ a. record { delays = take a.copies a.places; length = a.ticks } };
+
+    ghost invariant = { λ a. IsStored a.places a.copies a.ticks };
+
+    ghost inverse = { λ s. record { places = s.delays ++ replicate (8 - length s.delays) 0; copies = length s.delays; ticks = s.length } };
+}
+
+impl Stagger {
+    /// The delays from copy 0 on, 1 to 8 of them, strictly rising and each at most 1,024 ticks, and a match of 1 to 8,192 ticks.
+    pub fn new(delays: &[Tick], length: Tick) -> Stagger
+        requires { IsSchedule (record { delays = delays.now; length = length }) }
+        ensures { result ≡ record { delays = delays.now; length = length } }
+    {
+        let mut places = [0; MOST_COPIES];
+        places[..delays.len()].copy_from_slice(delays);
+        Stagger {
+            places,
+            copies: delays.len() as u8,
+            ticks: length,
+        }
+    }
+
+    /// How many copies the match's mirrors have, 1 to 8.
+    pub fn copies(&self) -> u8
+        ensures copies { result ≡ length self.now.delays }
+        ensures schedule { IsSchedule self.now }
+    {
+        self.copies
+    }
+
+    /// The copy's delay, in ticks. The copy is there.
+    pub fn delay(&self, copy: u8) -> Tick
+        requires { copy < length self.now.delays }
+        ensures { result ≡ slice_index self.now.delays copy }
+    {
+        self.places[copy as usize]
+    }
+
+    /// The last copy's delay, in ticks.
+    #[tactic(auto, using(crate::proofs::Limits::limits))]
+    pub fn longest(&self) -> Tick
+        ensures longest { result ≡ longest_delay self.now }
+        ensures short { result ≤ 1024 }
+    {
+        self.delay(self.copies - 1)
+    }
+
+    /// The match's length, in ticks.
+    pub fn length(&self) -> Tick
+        ensures length { result ≡ self.now.length }
+        ensures schedule { IsSchedule self.now }
+    {
+        self.ticks
+    }
+
+    /// The tick up to which the copy may go, at the mirror's clock and with the clock of the copy ahead, which says
+    /// nothing for copy 0. The copy is there.
+    #[tactic(auto, using(crate::proofs::Limits::limits))]
+    pub fn limit(&self, copy: u8, clock: Tick, ahead: Tick) -> Tick
+        requires { copy < length self.now.delays }
+        ensures { result ≡ limit_at self.now copy clock ahead }
+    {
+        let own = self.ticks.min(clock.saturating_sub(self.delay(copy)));
+        if copy == 0 { own } else { own.min(ahead) }
+    }
+
+    /// Whether the mirror's clock stands at its end, the match's length plus the longest delay.
+    pub fn at_end(&self, clock: Tick) -> bool
+        ensures { result ≡ is_end self.now clock }
+    {
+        clock == self.ticks + self.longest()
+    }
+}
+
+#[cfg(test)]
+mod tests {
+    use super::*;
+
+    #[test]
+    #[tactic(auto, unfolding(sync_model::specs::Staggered::DelaysRise))]
+    fn limits_and_ends(rt: HostRuntime) {
+        let stagger = Stagger::new(&[0, 100, 300], 900);
+        assert_eq!(rt; stagger.copies(), 3);
+        assert_eq!(rt; stagger.delay(1), 100);
+        assert_eq!(rt; stagger.longest(), 300);
+        assert_eq!(rt; stagger.length(), 900);
+        assert!(rt; stagger.at_end(1_200) && !stagger.at_end(900));
+        for (copy, clock, ahead, limit) in [
+            (0, 50, 0, 50),
+            (0, 1_000, 0, 900),
+            (1, 50, 40, 0),
+            (1, 150, 40, 40),
+            (2, 1_200, 900, 900),
+        ] {
+            assert_eq!(rt; stagger.limit(copy, clock, ahead), limit);
+        }
+    }
+}

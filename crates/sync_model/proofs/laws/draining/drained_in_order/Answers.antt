@@ -1,0 +1,5 @@
+use Rattle.sync_model.proofs.Drain.{drained-ordered}
+use Rattle.sync_model.proofs.laws.draining.drained_in_order.Goals as goal
+
+pub returns : goal.returns
+returns g c = λ s here drained. drained-ordered s here drained

@@ -1,0 +1,5 @@
+use Rattle.sync_model.proofs.History.{unchanged-exactly}
+use Rattle.sync_model.proofs.laws.history.unchanged_exactly.Goals as goal
+
+pub returns : goal.returns
+returns g c = λ s e. unchanged-exactly s e

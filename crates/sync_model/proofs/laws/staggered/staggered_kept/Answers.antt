@@ -1,0 +1,5 @@
+use Rattle.sync_model.proofs.Staggered.{staggered-next}
+use Rattle.sync_model.proofs.laws.staggered.staggered_kept.Goals as goal
+
+pub returns : goal.returns
+returns g c = λ s e fits here. staggered-next s e fits here

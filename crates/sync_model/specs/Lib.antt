@@ -1,0 +1,9 @@
+pub mod State
+pub mod Settle
+pub mod Change
+pub mod Staggered
+pub mod Turns
+pub mod History
+pub mod Repairs
+pub mod Runs
+pub mod Worked

@@ -1,0 +1,57 @@
+-- Commands found by mirror and number, one command after the other.
+use Rattle.std.proofs.Common.{◌≡◌, ℕ, zero, suc, ◌+◌, ◌<◌, Bool, true, false, cond, ◌&&◌, List, [], ◌∷◌, ◌++◌, Option, Some, None, length, take, get_or, refl, sym, ap, subst, ◌∙◌, arith}
+use Rattle.std.specs.Prelude.{◌==◌, find}
+use Rattle.std.specs.List.{AllByRecursion}
+use Rattle.std.proofs.lemmas.Bool.Decides.{nat_tests}
+use Rattle.std.proofs.lemmas.List.{take_more}
+use Rattle.game_trait.specs.declared.command.Command.{Command}
+use Rattle.game_trait.specs.Keys.{same_name, NamesDiffer}
+use Rattle.tss_program.specs.Script.{command_named}
+use Rattle.tss_program.specs.Names.{same_pair}
+use Rattle.tss_program.proofs.Log.{all-take}
+
+-- the command has this mirror and number
+abbrev named : ℕ → ℕ → Command → Bool
+named from number x = (x.from == from) && (x.number == number)
+
+same-named : (from number : ℕ) (x y : Command) → named from number x ≡ true → named from number y ≡ true → same_name x y ≡ true
+unfolding same_name
+same-named from number x y h k = grind (arith, nat_tests)
+
+-- where names differ, one that is named so is found alone
+find-last : (from number : ℕ) (xs : List Command) (x : Command) → NamesDiffer (xs ++ x ∷ [])
+    → find (named from number) (xs ++ x ∷ []) ≡ cond (named from number x) (Some x) (find (named from number) xs)
+unfolding NamesDiffer
+find-last from number [] x differ = refl
+find-last from number (y ∷ xs) x differ =
+    elim (named from number y) as (λ v. named from number y ≡ v → cond v (Some y) (find (named from number) (xs ++ x ∷ [])) ≡ cond (named from number x) (Some x) (cond v (Some y) (find (named from number) xs))) [
+      | true ↦ λ e. elim (named from number x) as (λ w. named from number x ≡ w → Some y ≡ cond w (Some x) (Some y))
+          [ true ↦ λ f. absurd (let a = same-named from number y x e f in let b = last-differs y xs x differ.0 in cc) | false ↦ λ f. refl ] refl
+      | false ↦ λ e. find-last from number xs x differ.1
+    ]
+    refl
+  where
+    last-differs : (y : Command) (xs : List Command) (x : Command) → AllByRecursion (λ z. same_name y z ≡ false) (xs ++ x ∷ []) → same_name y x ≡ false
+    last-differs y [] x h = h.0
+    last-differs y (z ∷ xs) x h = last-differs y xs x h.1
+
+NamesDiffer-take : (n : ℕ) (xs : List Command) → NamesDiffer xs → NamesDiffer (take n xs)
+unfolding NamesDiffer
+NamesDiffer-take zero xs differ = tt
+NamesDiffer-take (suc n) [] differ = tt
+NamesDiffer-take (suc n) (x ∷ xs) differ = (all-take (λ y. same_name x y ≡ false) n xs differ.0, NamesDiffer-take n xs differ.1)
+
+-- one command more, put under its name
+pub named-more :
+    (from number : ℕ) (xs : List Command) (i : ℕ) (x : Command) (found now : Option Command) → i < length xs → x ≡ get_or xs i x → NamesDiffer xs
+    → found ≡ command_named from number (take i xs) → now ≡ cond (same_pair (x.from, x.number) (from, number)) (Some x) found
+    → now ≡ command_named from number (take (i + 1) xs)
+unfolding command_named
+named-more from number xs i x found now below is differ before put =
+    let more : take (i + 1) xs ≡ take i xs ++ x ∷ [] = take_more xs i x below ∙ ap (λ (y : Command). take i xs ++ y ∷ []) (sym is) in
+    put ∙ ap (λ (o : Option Command). cond (named from number x) (Some x) o) before
+    ∙ sym (ap (find (named from number)) more ∙ find-last from number (take i xs) x (subst NamesDiffer more (NamesDiffer-take (i + 1) xs differ)))
+
+pub named-none : (from number : ℕ) → command_named from number [] ≡ None
+unfolding command_named
+named-none from number = refl

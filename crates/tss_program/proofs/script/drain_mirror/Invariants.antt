@@ -1,0 +1,10 @@
+use Rattle.std.proofs.Common.{◌≡◌, ◌-◌, ◌++◌}
+use Rattle.sync_model.specs.Turns.{drain_within}
+use Rattle.tss_program.specs.Play.{drain_text}
+use Rattle.tss_program.proofs.script.drain_mirror.Given as goal
+
+abbrev pub invariant-loop : goal.invariant-loop
+invariant-loop g l = record {
+  state : drain_within (l.turns - l.counter) l.mirror ≡ drain_within l.turns l.fn.mirror;
+  text : l.out.items ++ drain_text l.number (l.turns - l.counter) l.mirror ≡ l.fn.out.items ++ drain_text l.number l.turns l.fn.mirror;
+}

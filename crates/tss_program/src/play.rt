@@ -1,0 +1,155 @@
+//! A match played on one mirror.
+
+ghost use Rattle.std.specs.Prelude.{◌≡◌, ◌<◌, ◌≤◌, if◌then◌else◌, ◌++◌, ◌∷◌, [], Ok, length, IfOk, OnOk, codes, decimal, slice_index_or};
+ghost use Rattle.game_trait.specs.Count.{times};
+ghost use Rattle.game_trait.specs.Run.{beats, world_of};
+ghost use Rattle.sync_model.specs.Turns.{drain_bound};
+ghost use Rattle.arena_rules.specs.World.{arena_rules};
+ghost use Rattle.match_file.specs.Data.{MatchData};
+ghost use Rattle.tss_program.specs.Blocks.{block_text};
+ghost use Rattle.tss_program.specs.Play.{is_arrive, opening_mirror, played, mirror_line, copy_block, copy_blocks, final_text, play_text};
+ghost use Rattle.tss_program.specs.Due.{due_of_match};
+ghost use Rattle.tss_program.specs.Answer.{IsAnswer};
+
+use crate::answer::Answer;
+use crate::form::Form;
+use crate::lines::push_block;
+use crate::names::CommandNames;
+use crate::script::{drain_mirror, make_script};
+use crate::status::Status;
+use arena_rules::{Arena, Roster};
+use game_trait::{Game, MirrorId};
+use match_file::{Match, ScriptLine};
+use mirror_core::Mirror;
+use run_recorder::MirrorLog;
+use stagger_clock::Stagger;
+use std::alloc::Global;
+use tss_io::{NoMemory, Seq, push_decimal};
+
+// Puts a mirror's line: how many commands it accepted, how many arrivals it turned away, how many copies it repaired.
+fn push_mirror<G: Game>(
+    alloc: Global,
+    out: &mut Vec<u8>,
+    number: MirrorId,
+    mirror: &Mirror<G>,
+) -> Result<(), NoMemory>
+    ensures { OnOk result (out.new.items ≡ out.old.items ++ mirror_line number mirror.now) }
+{
+    let accepted = mirror.accepted().len();
+    let turned = mirror.turned().len();
+    let repairs = mirror.repairs();
+    let line = format!(in alloc;
+        "mirror {number} accepted {accepted} turned {turned} repairs {repairs}\n"
+    )?;
+    out.extend_from_slice(line.as_bytes())?;
+    Ok(())
+}
+
+// Puts the block of a copy.
+fn push_copy(
+    alloc: Global,
+    out: &mut Vec<u8>,
+    number: MirrorId,
+    mirror: &Mirror<Arena>,
+    copy: u8,
+    roster: &Roster,
+) -> Result<(), NoMemory>
+    requires { copy < length mirror.now.runs }
+    ensures { OnOk result (out.new.items ≡ out.old.items ++ copy_block number roster.now mirror.now.opening copy (slice_index_or mirror.now.runs copy [])) }
+{
+    let head = format!(in alloc; "world {number} {copy} ")?;
+    out.extend_from_slice(head.as_bytes())?;
+    push_block(out, mirror.copy_clock(copy), mirror.world(copy), roster)?;
+    Ok(())
+}
+
+// Puts the blocks of a mirror's copies.
+fn push_copies(
+    alloc: Global,
+    out: &mut Vec<u8>,
+    number: MirrorId,
+    mirror: &Mirror<Arena>,
+    roster: &Roster,
+) -> Result<(), NoMemory>
+    ensures { OnOk result (out.new.items ≡ out.old.items ++ copy_blocks number roster.now mirror.now.opening 0 mirror.now.runs) }
+{
+    for copy in 0..mirror.copies() {
+        push_copy(alloc, out, number, mirror, copy, roster)?;
+    }
+    Ok(())
+}
+
+// How many arrivals a script line is: one or none.
+fn arrivals_in(line: &ScriptLine) -> u32
+    ensures { result ≡ (if is_arrive line.now then 1 else 0) }
+{
+    match line {
+        ScriptLine::Arrive { .. } => 1,
+        _ => 0,
+    }
+}
+
+// How many lines of a script are arrivals.
+fn arrivals(script: &[ScriptLine]) -> u32
+    requires { length script.now ≤ 262144 }
+    ensures value { result ≡ times is_arrive script.now }
+    ensures few { result ≤ 262144 }
+{
+    let mut arrivals = 0;
+    for line in script {
+        arrivals += arrivals_in(line);
+    }
+    arrivals
+}
+
+// How many turns are enough to drain a mirror of these delays and this length.
+fn turns_to_drain<G: Game>(mirror: &Mirror<G>, stagger: &Stagger) -> u32
+    requires length { stagger.now.length ≡ mirror.now.length }
+    requires delays { stagger.now.delays ≡ mirror.now.delays }
+    ensures { result ≡ drain_bound mirror.now }
+{
+    let end = stagger.length() + stagger.longest();
+    end.saturating_sub(mirror.clock()) + stagger.length()
+}
+
+// The delays and the length of a match.
+fn schedule(game: &Match) -> Stagger
+    ensures { result ≡ record { delays = game.now.delays; length = game.now.length } }
+{
+    Stagger::new(game.delays.as_slice(), game.length)
+}
+
+// The mirror as the match begins, with room for each arrival of its script.
+#[tactic(auto, unfolding(crate::specs::Play::opening_mirror))]
+fn new_mirror(alloc: Global, game: &Match) -> Result<Mirror<Arena>, NoMemory>
+    requires { length game.now.delays ≡ 1 }
+    ensures { IfOk result (λ mirror. mirror ≡ opening_mirror game.now) }
+{
+    let opening = Arena::start(&game.setup);
+    let room = arrivals(game.script.as_slice());
+    Mirror::new(alloc, &opening, schedule(game), room)
+}
+
+/// The text of `play`, and the mirror's log.
+pub fn play_answer(alloc: Global, game: &Match) -> Result<Answer, NoMemory>
+    requires { length game.now.delays ≡ 1 }
+    ensures { IfOk result (IsAnswer (due_of_match Form.Play (Ok game.now))) }
+{
+    let mut mirror = new_mirror(alloc, game)?;
+    let names = CommandNames::of(alloc, game.commands.as_slice())?;
+    let mut text = Vec::new(alloc);
+    make_script(&mut mirror, game, &names, &mut text)?;
+    let turns = turns_to_drain(&mirror, &schedule(game));
+    drain_mirror(&mut mirror, 0, turns, &mut text)?;
+    push_mirror(alloc, &mut text, 0, &mirror)?;
+    push_copies(alloc, &mut text, 0, &mirror, &game.roster)?;
+    text.extend_from_slice(b"done\n")?;
+    let events = Vec::from_slice(alloc, mirror.events())?;
+    let mut kept = Seq::new(alloc);
+    kept.push(MirrorLog::new(0, events))?;
+    Ok(Answer {
+        status: Status::Complete,
+        text,
+        kept,
+    })
+}
