@@ -3,3 +3,4 @@ pub mod Items
 pub mod Counts
 pub mod KeyOrder
 pub mod OrderedParts
+pub mod Sorting

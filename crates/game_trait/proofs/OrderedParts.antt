@@ -1,12 +1,12 @@
 -- The ordered part: how many beats it has, how its parts join, what it holds, and that the order in which commands
 -- were accepted doesn't matter.
-use Rattle.std.proofs.Common.{◌≡◌, ℕ, zero, suc, ◌+◌, ◌-◌, ◌<◌, ◌≤◌, Bool, true, false, cond, ◌&&◌, List, [], ◌∷◌, ◌++◌, map, filter, refl, ap, sym, ◌∙◌, append_assoc, arith}
+use Rattle.std.proofs.Common.{◌≡◌, ℕ, zero, suc, ◌+◌, ◌-◌, ◌≤◌, Bool, false, cond, ◌&&◌, List, [], ◌∷◌, ◌++◌, map, filter, refl, ap, sym, ◌∙◌, append_assoc, arith}
 use Rattle.std.specs.Prelude.{◌==◌}
 use Rattle.std.proofs.lemmas.Bool.Decides.{nat_tests}
 use Rattle.game_trait.specs.declared.command.Command.{Command}
 use Rattle.game_trait.specs.declared.command.Item.{Item}
 use Rattle.game_trait.specs.declared.command.Item.TheVariants.{Cmd, Beat}
-use Rattle.game_trait.specs.Keys.{NamesDiffer, KeysRise, in_key_order}
+use Rattle.game_trait.specs.Keys.{NamesDiffer}
 use Rattle.game_trait.specs.Run.{beats, commands_of}
 use Rattle.game_trait.specs.Ordered.{due_at, tick_of, ticks, ordered}
 use Rattle.game_trait.specs.Count.{times, within}

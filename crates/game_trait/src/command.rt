@@ -1,7 +1,7 @@
 //! Timestamped commands and the items of a run.
 
 ghost use Rattle.std.specs.Prelude.{◌≡◌};
-ghost use Rattle.game_trait.specs.Keys.{key_of};
+ghost use Rattle.game_trait.specs.Keys.{key_of, in_key_order, NamesDiffer};
 
 /// A time in whole ticks, from the start of the match.
 pub type Tick = u32;
@@ -72,4 +72,12 @@ pub enum Item {
     Cmd(Command),
     /// The world's own step, once a tick.
     Beat,
+}
+
+/// Puts commands of different names in key order. It takes no memory.
+pub fn order_by_key(commands: &mut [Command])
+    requires { NamesDiffer commands.old }
+    ensures { commands.new ≡ in_key_order commands.old }
+{
+    commands.sort_unstable_by_key(|x| x.key());
 }

@@ -5,6 +5,6 @@ mod command;
 mod event;
 mod game;
 
-pub use command::{Act, Command, Item, Key, MirrorId, Number, Tick};
+pub use command::{Act, Command, Item, Key, MirrorId, Number, Tick, order_by_key};
 pub use event::{Arrived, Event, Note, Reply, Stepped, Ticked};
 pub use game::Game;

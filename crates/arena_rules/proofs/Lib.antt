@@ -1,0 +1,5 @@
+pub mod Walls
+pub mod Names
+pub mod Cells
+pub mod Soundness
+pub mod Lines

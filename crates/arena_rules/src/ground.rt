@@ -1,0 +1,126 @@
+ghost use Rattle.std.specs.Prelude.{◌≡◌, ◌≤◌, ◌<◌};
+ghost use Rattle.arena_rules.specs.Ground.{open_grid, with_wall, is_walled, is_open, is_free, IsGrid};
+
+use std::marker::Model;
+
+/// The ground of an arena: a grid of at most 64 by 64 cells, some of them walled. Cells are (x, y); x rises to the east and y to the
+/// south, both from 0. It has a fixed size, and no call takes memory.
+#[derive(Clone, Copy, Debug)]
+pub struct Ground {
+    width: u8,
+    height: u8,
+    walls: [u64; 64],
+}
+
+impl Model for Ground {
+    ghost use Rattle.arena_rules.specs.Ground.{Grid, IsGrid};
+
+    ghost Value = { Grid };
+
+    ghost view = { λ g. record { width = g.width; height = g.height; walls = g.walls } };
+
+    ghost invariant = { λ g. IsGrid (record { width = g.width; height = g.height; walls = g.walls }) };
+
+    ghost inverse = { λ grid. record { width = grid.width; height = grid.height; walls = grid.walls } };
+}
+
+impl Ground {
+    /// A grid of these sides without walls. The width is from 3 to 64 and the height from 1 to 64.
+    pub fn new(width: u8, height: u8) -> Ground
+        requires width { (3 ≤ width) × (width ≤ 64) }
+        requires height { (1 ≤ height) × (height ≤ 64) }
+        ensures open { result ≡ open_grid width height }
+        ensures sound { IsGrid result }
+    {
+        Ground {
+            width,
+            height,
+            walls: [0; 64],
+        }
+    }
+
+    /// Walls the cell (x, y), which is in the grid.
+    pub fn wall(&mut self, x: u8, y: u8)
+        requires column { x < self.old.width }
+        requires row { y < self.old.height }
+        ensures walled { self.new ≡ with_wall self.old x y }
+        ensures sound { IsGrid self.new }
+    {
+        let row = self.walls[y as usize];
+        self.walls[y as usize] = row | 1u64 << x;
+    }
+
+    /// Whether the cell (x, y) is in the grid and not walled.
+    pub fn free(&self, x: i32, y: i32) -> bool
+        ensures { result ≡ is_free self.now x y }
+    {
+        // Reads the ground, whose invariant the answers below rest on.
+        let _ = &self.width;
+        let Ok(x) = u8::try_from(x) else {
+            return false;
+        };
+        let Ok(y) = u8::try_from(y) else {
+            return false;
+        };
+        self.is_open(x, y)
+    }
+
+    #[tactic(auto, unfolding(crate::specs::Ground::is_open))]
+    fn is_open(&self, x: u8, y: u8) -> bool
+        ensures { result ≡ is_open self.now x y }
+    {
+        x < self.width && y < self.height && !self.is_walled(x, y)
+    }
+
+    #[tactic(auto, using(std::proofs::lemmas::Nat::Bits::shr_and_one), unfolding(crate::specs::Ground::is_walled))]
+    fn is_walled(&self, x: u8, y: u8) -> bool
+        requires column { x < self.now.width }
+        requires row { y < self.now.height }
+        ensures { result ≡ is_walled self.now x y }
+    {
+        let row = self.walls[y as usize];
+        row >> x & 1 == 1
+    }
+
+    /// The number of columns.
+    pub fn width(&self) -> u8
+        ensures value { result ≡ self.now.width }
+        ensures sound { IsGrid self.now }
+    {
+        self.width
+    }
+
+    /// The number of rows.
+    pub fn height(&self) -> u8
+        ensures value { result ≡ self.now.height }
+        ensures sound { IsGrid self.now }
+    {
+        self.height
+    }
+}
+
+#[cfg(test)]
+mod tests {
+    use super::*;
+
+    #[test]
+    fn tells_free_cells(rt: HostRuntime) {
+        let mut ground = Ground::new(4, 2);
+        ground.wall(3, 1);
+        assert_eq!(rt; ground.width(), 4);
+        assert_eq!(rt; ground.height(), 2);
+        for (x, y, free) in [
+            (0, 0, true),
+            (2, 1, true),
+            (3, 1, false),
+            (3, 0, true),
+            (4, 0, false),
+            (0, 2, false),
+            (-1, 0, false),
+            (0, -1, false),
+            (256, 0, false),
+        ] {
+            assert_eq!(rt; ground.free(x, y), free, "at {x} {y}");
+        }
+    }
+}

@@ -1,0 +1,22 @@
+//! The rules of the arena: its ground, its players and its worlds, the game that mirrors keep in step.
+#![tactic(auto)]
+
+mod arena;
+mod face;
+mod ground;
+mod line;
+mod pickup;
+mod player;
+mod roster;
+mod setup;
+mod shown;
+mod spot;
+
+pub use arena::Arena;
+pub use face::Face;
+pub use ground::Ground;
+pub use pickup::{Kind, PickupSpot};
+pub use roster::Roster;
+pub use setup::Setup;
+pub use shown::Shown;
+pub use spot::Spot;

@@ -1,0 +1,89 @@
+ghost use Rattle.std.specs.Prelude.{◌≡◌, [], IfOk, OnErr, not, slice_get, option_copied};
+ghost use Rattle.arena_rules.specs.Block.{name_of};
+ghost use Rattle.arena_rules.specs.Roster.{is_known, with_name, NamesDiffer};
+
+use indexmap::IndexSet;
+use std::alloc::Global;
+use std::marker::Model;
+use tss_io::NoMemory;
+
+/// The players' names in player order, each but once. Contracts see the list of the names.
+#[derive(Debug, Drop)]
+pub struct Roster {
+    names: IndexSet<Vec<u8>>,
+}
+
+impl Model for Roster {
+    ghost use Rattle.std.specs.Prelude.{List, ℕ, map};
+    ghost use Rattle.arena_rules.specs.Roster.{NamesDiffer};
+
+    ghost Value = { List (List ℕ) };
+
+    ghost view = { λ r. map (λ name. name.items) r.names.keys };
+
+    ghost invariant = { λ r. NamesDiffer (map (λ name. name.items) r.names.keys) };
+}
+
+impl Roster {
+    /// A roster without names.
+    pub fn new(alloc: Global) -> Result<Roster, NoMemory>
+        ensures { IfOk result (λ roster. roster ≡ []) }
+    {
+        Ok(Roster {
+            names: IndexSet::new(alloc),
+        })
+    }
+
+    /// Puts the name last and answers true, or answers false where the name is there already. On `NoMemory` nothing changed.
+    pub fn add(&mut self, name: &[u8]) -> Result<bool, NoMemory>
+        ensures added { IfOk result (λ added. added ≡ not (is_known self.old name.now)) }
+        ensures ok { IfOk result (λ _. self.new ≡ with_name self.old name.now) }
+        ensures err { OnErr result (self.new ≡ self.old) }
+        ensures distinct { NamesDiffer self.new }
+    {
+        if self.names.contains(name) {
+            return Ok(false);
+        }
+        let name = name.to_vec(*self.names.allocator())?;
+        self.names.insert(name)?;
+        Ok(true)
+    }
+
+    /// The name of the player of this number, counted from 0, or None where there are no more than so many names.
+    pub fn name(&self, player: u8) -> Option<&[u8]>
+        ensures name { option_copied result ≡ slice_get self.now player }
+        ensures distinct { NamesDiffer self.now }
+    {
+        let name = self.names.get_index(player as usize)?;
+        Some(name.as_slice())
+    }
+
+    // The name of a player as it is printed: a question mark stands for one that isn't there.
+    pub(crate) fn printed_name(&self, player: u8) -> &[u8]
+        ensures { result.now ≡ name_of self.now player }
+    {
+        self.name(player).unwrap_or(b"?".as_slice())
+    }
+}
+
+#[cfg(test)]
+mod tests {
+    use super::*;
+    use std::test::Fail;
+
+    #[test]
+    fn takes_each_name_once(rt: HostRuntime) -> Result<(), Fail> {
+        let mut roster = Roster::new(rt.alloc())?;
+        for (name, added) in [
+            (b"ann".as_slice(), true),
+            (b"bob".as_slice(), true),
+            (b"ann".as_slice(), false),
+        ] {
+            assert_eq!(rt; roster.add(name)?, added);
+        }
+        assert_eq!(rt; roster.name(0), Some(b"ann".as_slice()));
+        assert_eq!(rt; roster.name(1), Some(b"bob".as_slice()));
+        assert_eq!(rt; roster.name(2), None);
+        Ok(())
+    }
+}

@@ -1,0 +1,15 @@
+use crate::ground::Ground;
+use crate::pickup::PickupSpot;
+use crate::spot::Spot;
+use arrayvec::ArrayVec;
+
+/// How a match begins.
+#[derive(Debug, Drop)]
+pub struct Setup {
+    /// The grid and its walls.
+    pub ground: Ground,
+    /// The pickups, in the order of their lines.
+    pub pickups: ArrayVec<PickupSpot, 32>,
+    /// The homes of the players, in the order of their lines.
+    pub players: ArrayVec<Spot, 16>,
+}

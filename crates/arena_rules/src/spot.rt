@@ -1,0 +1,32 @@
+ghost use Rattle.std.specs.Prelude.{◌≡◌};
+ghost use Rattle.arena_rules.specs.Setup.{spot_cell};
+ghost use Rattle.arena_rules.specs.World.{ahead};
+
+use crate::face::Face;
+
+/// A cell and a facing. In a grid x is from 0 to 63 and rises to the east, and y is from 0 to 63 and rises to the south.
+#[derive(Clone, Copy, Debug, Default, PartialEq, Eq)]
+pub struct Spot {
+    /// The column of the cell.
+    pub x: u8,
+    /// The row of the cell.
+    pub y: u8,
+    /// Where it looks.
+    pub face: Face,
+}
+
+impl Spot {
+    // The column and the row of the cell ahead, which may be outside the grid.
+    pub(crate) fn ahead(self) -> (i32, i32)
+        ensures { result ≡ ahead self.face (spot_cell self) }
+    {
+        let x = i32::from(self.x);
+        let y = i32::from(self.y);
+        match self.face {
+            Face::N => (x, y - 1),
+            Face::E => (x + 1, y),
+            Face::S => (x, y + 1),
+            Face::W => (x - 1, y),
+        }
+    }
+}

@@ -1,0 +1,9 @@
+pub mod Lines
+pub mod Steps
+pub mod CommandLaws
+pub mod Spaced
+pub mod LineLaws
+pub mod NameLaws
+pub mod CommandTexts
+pub mod FaultLaws
+pub mod MatchLaws

@@ -1,0 +1,40 @@
+-- Single steps of reading: a line, a word, a number.
+use Rattle.std.proofs.Common.{◌≡◌, ℕ, zero, suc, ◌+◌, ◌<◌, ◌≤◌, Bool, true, false, cond, ltb, List, [], ◌∷◌, ◌++◌, length, Option, Some, None, Result, Ok, Err, refl, sym, ap, subst, ◌∙◌, arith}
+use Rattle.std.proofs.lemmas.Bool.{ltb-false, lt-ltb, le-ltb}
+use Rattle.match_file.specs.Lines.{cut_at, Lines, torn, line, lines_of, words_of}
+use Rattle.match_file.specs.Reading.{shape, line_at, front_at, last_at}
+use Rattle.match_file.proofs.Lines.{lines_by, lines_of-cut, words_by, words_of-cut}
+
+-- ---- steps, by the first newline or space
+
+pub line_at-some : (bytes : List ℕ) (x : List ℕ × List ℕ) → cut_at 10 bytes ≡ Some x → length x.0 ≤ 120 → line_at (lines_of bytes) ≡ Ok (x.0, lines_of x.1)
+unfolding line_at
+line_at-some bytes x e short = let t : ltb 120 (length x.0) ≡ false = le-ltb _ _ short in rw (lines_of-cut bytes, e, t) refl
+
+pub line_at-long : (bytes : List ℕ) (x : List ℕ × List ℕ) → cut_at 10 bytes ≡ Some x → 120 < length x.0 → line_at (lines_of bytes) ≡ Err shape
+unfolding line_at
+line_at-long bytes x e long = let t : ltb 120 (length x.0) ≡ true = lt-ltb _ _ long in rw (lines_of-cut bytes, e, t) refl
+
+pub line_at-none : (bytes : List ℕ) → cut_at 10 bytes ≡ None → line_at (lines_of bytes) ≡ Err shape
+unfolding line_at
+line_at-none bytes e = rw (lines_of-cut bytes, e) refl
+
+-- a line has at least one word
+some_word : (bytes : List ℕ) → (word : List ℕ) × (more : List (List ℕ)) × (words_of bytes ≡ word ∷ more)
+some_word bytes = rw words_of-cut (elim (cut_at 32 bytes) as (λ o. (word : List ℕ) × (more : List (List ℕ)) × (words_by bytes o ≡ word ∷ more)) [ None ↦ (bytes, [], refl) | Some x ↦ (x.0, words_of x.1, refl) ])
+
+pub front_at-some : (bytes : List ℕ) (x : List ℕ × List ℕ) → cut_at 32 bytes ≡ Some x → front_at (words_of bytes) ≡ Ok (x.0, words_of x.1)
+unfolding front_at
+front_at-some bytes x e = let next = some_word x.1 in rw (words_of-cut bytes, e, next.2) refl
+
+pub front_at-none : (bytes : List ℕ) → cut_at 32 bytes ≡ None → front_at (words_of bytes) ≡ Err shape
+unfolding front_at
+front_at-none bytes e = rw (words_of-cut bytes, e) refl
+
+pub last_at-some : (bytes : List ℕ) (x : List ℕ × List ℕ) → cut_at 32 bytes ≡ Some x → last_at (words_of bytes) ≡ Err shape
+unfolding last_at
+last_at-some bytes x e = let next = some_word x.1 in rw (words_of-cut bytes, e, next.2) refl
+
+pub last_at-none : (bytes : List ℕ) → cut_at 32 bytes ≡ None → last_at (words_of bytes) ≡ Ok bytes
+unfolding last_at
+last_at-none bytes e = rw (words_of-cut bytes, e) refl

@@ -1,0 +1,6 @@
+pub mod Causes
+pub mod Lines
+pub mod Names
+pub mod Data
+pub mod Text
+pub mod Reading

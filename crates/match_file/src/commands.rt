@@ -1,0 +1,179 @@
+//! The lines of commands.
+
+ghost use Rattle.std.specs.Prelude.{◌≡◌, ◌≤◌, ◌<◌, [], length, IfOk, IfSome, option_map};
+ghost use Rattle.match_file.specs.Lines.{lines_of};
+ghost use Rattle.match_file.specs.Reading.{Answers, Gives, act_of, command_words, command_seen, command_at, added, is_end, commands_step, commands_at};
+
+use crate::fault::{Refused, TextFault};
+use crate::words::{self, SHAPE};
+use game_trait::{Act, Command, MirrorId, Number};
+use std::alloc::Global;
+use std::collections::HashSet;
+use std::marker::Model;
+use tss_io::Seq;
+
+/// The most commands of a match.
+const MOST_COMMANDS: usize = 16384;
+
+/// The greatest number of a command.
+const GREATEST_NUMBER: u32 = 999999;
+
+/// The words of a command's line behind the first; the last is an act.
+#[derive(Clone, Copy)]
+struct CommandWords<'a> {
+    time: &'a [u8],
+    from: &'a [u8],
+    number: &'a [u8],
+    player: &'a [u8],
+    act: Act,
+}
+
+// The act that the word names. No shot is in the plain form.
+#[tactic(auto, unfolding(crate::specs::Reading::act_of))]
+fn act(word: &[u8]) -> Result<Act, Refused>
+    ensures { Answers (λ x. x) result (act_of word.now) }
+{
+    match word {
+        b"go" => Ok(Act::Go),
+        b"left" => Ok(Act::Left),
+        b"right" => Ok(Act::Right),
+        _ => Err(SHAPE),
+    }
+}
+
+// The words of a command's line.
+#[tactic(auto, unfolding(crate::specs::Reading::command_words, crate::specs::Text::command_word))]
+fn words_of_command(line: &[u8]) -> Result<CommandWords<'_>, Refused>
+    ensures { Answers command_seen result (command_words line.now) }
+{
+    let words = words::words_behind(b"cmd", line)?;
+    let (time, words) = words::front(words)?;
+    let (from, words) = words::front(words)?;
+    let (number, words) = words::front(words)?;
+    let (player, words) = words::front(words)?;
+    let word = words::last(words)?;
+    let act = act(word)?;
+    Ok(CommandWords {
+        time,
+        from,
+        number,
+        player,
+        act,
+    })
+}
+
+// The command of a line, in a match of so many ticks.
+#[tactic(auto, unfolding(crate::specs::Reading::command_at))]
+fn command(ticks: u32, line: &[u8]) -> Result<Command, Refused>
+    requires { 1 ≤ ticks }
+    ensures { Answers (λ x. x) result (command_at ticks line.now) }
+{
+    let words = words_of_command(line)?;
+    let time = words::number(0, ticks - 1, words.time)?;
+    let from = words::number(0, 0, words.from)?;
+    let number = words::number(0, GREATEST_NUMBER, words.number)?;
+    let player = words::number(0, 0, words.player)?;
+    Ok(Command {
+        time,
+        from: from as u8,
+        number,
+        player: player as u8,
+        act: words.act,
+    })
+}
+
+/// Commands in the order in which they were put, with their names, so that a name is found at once.
+#[derive(Drop)]
+struct Commands {
+    list: Vec<Command>,
+    names: HashSet<(MirrorId, Number)>,
+}
+
+impl Model for Commands {
+    ghost use Rattle.std.specs.Prelude.{ℕ, ◌≡◌, List};
+    ghost use Rattle.game_trait.specs.declared.command.Command.{Command};
+    ghost use Rattle.match_file.specs.Names.{same_numbers, has_command};
+    ghost use Rattle.std.specs.HashSet.{contains};
+
+    ghost Value = { List Command };
+
+    ghost view = { λ c. c.list.items };
+
+    ghost invariant = { λ c. (from number : ℕ) → contains same_numbers c.names (from, number) ≡ has_command from number c.list.items };
+}
+
+impl Commands {
+    #[tactic(auto, unfolding(crate::specs::Names::has_command))]
+    fn new(alloc: Global) -> Commands
+        ensures { result ≡ [] }
+    {
+        Commands {
+            list: Vec::new(alloc),
+            names: HashSet::new(alloc),
+        }
+    }
+
+    // Puts the command last, where there is room and none has its mirror and number.
+    #[tactic(auto, unfolding(crate::specs::Reading::added))]
+    fn add(&mut self, command: Command) -> Result<(), TextFault>
+        ensures { Gives (λ _. self.new) result (added self.old command) }
+    {
+        if self.list.len() >= MOST_COMMANDS {
+            return Err(TextFault::Refused(SHAPE));
+        }
+        self.list.reserve(1)?;
+        if !self.names.insert((command.from, command.number))? {
+            return Err(TextFault::Refused(SHAPE));
+        }
+        self.list.push_reserved(command);
+        Ok(())
+    }
+
+    fn into_seq(self) -> Seq<Command>
+        ensures { result ≡ self }
+    {
+        let Commands { list, names } = self;
+        drop(names);
+        Seq::of(list)
+    }
+}
+
+// Whether no byte is left.
+fn at_end(text: &[u8]) -> bool
+    ensures { result ≡ is_end (lines_of text.now) }
+{
+    text.is_empty()
+}
+
+// Puts the command of the next line to the others and answers the text behind it, or answers none where the line is the
+// last.
+#[tactic(auto, unfolding(crate::specs::Reading::commands_step, crate::specs::Text::end_word))]
+fn read_command<'a>(ticks: u32, commands: &mut Commands, text: &'a [u8]) -> Result<Option<&'a [u8]>, TextFault>
+    requires { 1 ≤ ticks }
+    ensures read { Gives (λ o. (commands.new, option_map (λ rest. lines_of rest.now) o)) result (commands_step ticks commands.old (lines_of text.now)) }
+    ensures shorter { IfOk result (λ o. IfSome o (λ rest. length rest.now < length text.now)) }
+{
+    let (line, rest) = words::next_line(text)?;
+    if line == b"end".as_slice() {
+        if !at_end(rest) {
+            return Err(TextFault::Refused(SHAPE));
+        }
+        return Ok(None);
+    }
+    let command = command(ticks, line)?;
+    commands.add(command)?;
+    Ok(Some(rest))
+}
+
+// The commands of the lines up to the last, which ends the text.
+pub fn read_commands(alloc: Global, ticks: u32, text: &[u8]) -> Result<Seq<Command>, TextFault>
+    requires { 1 ≤ ticks }
+    ensures { Gives (λ x. x) result (commands_at ticks [] (lines_of text.now)) }
+{
+    let mut commands = Commands::new(alloc);
+    let mut rest = text;
+    while let Some(after) = read_command(ticks, &mut commands, rest)? {
+        rest = after;
+    }
+    Ok(commands.into_seq())
+}

@@ -1,0 +1,39 @@
+use crate::script_line::ScriptLine;
+use arena_rules::{Roster, Setup};
+use arrayvec::ArrayVec;
+use game_trait::{Command, Tick};
+use std::marker::Model;
+use tss_io::Seq;
+
+/// A match that a match text can give: its numbers are in their ranges, and whatever it names is there. Contracts see it as a
+/// record of plain lists.
+#[derive(Drop)]
+pub struct Match {
+    /// How many ticks the match has, from 1 to 8,192.
+    pub length: Tick,
+    /// How many mirrors play it, from 1 to 8.
+    pub mirrors: u8,
+    /// How many ticks each mirror's copies lag, the first copy first: 1 to 8 rising numbers up to 1,024.
+    pub delays: ArrayVec<Tick, 8>,
+    /// How many ticks a mirror may be ahead of another, at most the last delay.
+    pub pace: Tick,
+    /// How the world begins.
+    pub setup: Setup,
+    /// The players' names, in player order.
+    pub roster: Roster,
+    /// The commands, at most 16,384, in the order of their lines.
+    pub commands: Seq<Command>,
+    /// The script, at most 262,144 lines.
+    pub script: Seq<ScriptLine>,
+}
+
+impl Model for Match {
+    ghost use Rattle.arena_rules.specs.Setup.{layout_of};
+    ghost use Rattle.match_file.specs.Data.{MatchData, IsMatch};
+
+    ghost Value = { MatchData };
+
+    ghost view = { λ m. record { length = m.length; mirrors = m.mirrors; delays = m.delays.items; pace = m.pace; layout = layout_of m.setup; names = m.roster; commands = m.commands; script = m.script } };
+
+    ghost invariant = { λ m. IsMatch (record { length = m.length; mirrors = m.mirrors; delays = m.delays.items; pace = m.pace; layout = layout_of m.setup; names = m.roster; commands = m.commands; script = m.script }) };
+}

@@ -1,0 +1,92 @@
+//! The lines up to the pace: how long the match is, its grid, its mirrors and their delays. No call takes memory.
+
+ghost use Rattle.std.specs.Prelude.{◌≡◌, ◌≤◌, ◌<◌, length, IfOk};
+ghost use Rattle.match_file.specs.Lines.{lines_of, words_of};
+ghost use Rattle.match_file.specs.Reading.{Answers, head_at, number_at, grid_at, opening_at};
+
+use crate::fault::Refused;
+use crate::words::{self, SHAPE};
+
+/// The sides of a grid.
+#[derive(Clone, Copy)]
+pub struct Sides {
+    /// The number of columns, from 3 to 64.
+    pub width: u8,
+    /// The number of rows, from 1 to 64.
+    pub height: u8,
+}
+
+/// What the lines up to the pace say.
+#[derive(Clone, Copy)]
+pub struct Opening {
+    pub length: u32,
+    pub sides: Sides,
+    pub mirrors: u8,
+    pub delay: u32,
+    pub pace: u32,
+}
+
+// The text behind the first line, where that is the head of a match text.
+#[tactic(auto, unfolding(crate::specs::Reading::head_at, crate::specs::Text::head_words, crate::specs::Lines::spaced))]
+fn read_head(text: &[u8]) -> Result<&[u8], Refused>
+    ensures { Answers (λ x. lines_of x.now) result (head_at (lines_of text.now)) }
+{
+    let (line, rest) = words::next_line(text)?;
+    if line != b"tss match 1".as_slice() {
+        return Err(SHAPE);
+    }
+    Ok(rest)
+}
+
+// The number of a line that is the keyword and one number, from least to most, and the text behind the line.
+#[tactic(auto, unfolding(crate::specs::Reading::number_at))]
+fn read_number<'a>(keyword: &[u8], least: u32, most: u32, text: &'a [u8]) -> Result<(u32, &'a [u8]), Refused>
+    ensures read { Answers (λ x. (x.0, lines_of x.1.now)) result (number_at keyword.now least most (lines_of text.now)) }
+    ensures range { IfOk result (λ x. (least ≤ x.0) × (x.0 ≤ most)) }
+{
+    let (line, rest) = words::next_line(text)?;
+    let words = words::words_behind(keyword, line)?;
+    let word = words::last(words)?;
+    let number = words::number(least, most, word)?;
+    Ok((number, rest))
+}
+
+// The sides of the grid, and the text behind the line.
+#[tactic(auto, unfolding(crate::specs::Reading::grid_at, crate::specs::Text::grid_word))]
+fn read_grid(text: &[u8]) -> Result<(Sides, &[u8]), Refused>
+    ensures read { Answers (λ x. (x.0, lines_of x.1.now)) result (grid_at (lines_of text.now)) }
+    ensures width { IfOk result (λ x. (3 ≤ x.0.width) × (x.0.width ≤ 64)) }
+    ensures height { IfOk result (λ x. (1 ≤ x.0.height) × (x.0.height ≤ 64)) }
+{
+    let (line, rest) = words::next_line(text)?;
+    let words = words::words_behind(b"grid", line)?;
+    let (width, words) = words::front(words)?;
+    let height = words::last(words)?;
+    let width = words::number(3, 64, width)? as u8;
+    let height = words::number(1, 64, height)? as u8;
+    Ok((Sides { width, height }, rest))
+}
+
+// What the lines up to the pace say, and the text behind them.
+#[tactic(auto, unfolding(crate::specs::Reading::opening_at, crate::specs::Text::length_word, crate::specs::Text::mirrors_word, crate::specs::Text::delays_word, crate::specs::Text::pace_word))]
+pub fn read_opening(text: &[u8]) -> Result<(Opening, &[u8]), Refused>
+    ensures read { Answers (λ x. (x.0, lines_of x.1.now)) result (opening_at (lines_of text.now)) }
+    ensures ticks { IfOk result (λ x. (1 ≤ x.0.length) × (x.0.length ≤ 8192)) }
+    ensures width { IfOk result (λ x. (3 ≤ x.0.sides.width) × (x.0.sides.width ≤ 64)) }
+    ensures height { IfOk result (λ x. (1 ≤ x.0.sides.height) × (x.0.sides.height ≤ 64)) }
+{
+    let rest = read_head(text)?;
+    let (length, rest) = read_number(b"length", 1, 8192, rest)?;
+    let (sides, rest) = read_grid(rest)?;
+    let (mirrors, rest) = read_number(b"mirrors", 1, 1, rest)?;
+    let (delay, rest) = read_number(b"delays", 0, 1024, rest)?;
+    let (pace, rest) = read_number(b"pace", 0, delay, rest)?;
+    let opening = Opening {
+        length,
+        sides,
+        mirrors: mirrors as u8,
+        delay,
+        pace,
+    };
+    Ok((opening, rest))
+}

@@ -1,0 +1,31 @@
+//! The program `tss`: the real words, streams and status.
+#![tactic(auto)]
+
+use std::alloc::Global;
+use std::env;
+use std::rt::Env;
+use std::io;
+use std::io::ErrorKind;
+use std::process::ExitCode;
+use tss_io::{StdSink, StdSource};
+use tss_program::{Done, Status, run_plain};
+
+// The words behind the program's own name.
+fn words(rt: &(impl Env + Alloc<A = Global>)) -> io::Result<Vec<String>> {
+    let mut words = env::args(rt)?;
+    let _program = words.next();
+    Ok(words.collect(rt.alloc())?)
+}
+
+fn main(rt: HostRuntime) -> ExitCode {
+    let alloc = rt.alloc();
+    let mut source = StdSource::new(rt.stdin());
+    let mut sink = StdSink::new(rt.stdout());
+    let done = match words(&rt) {
+        Ok(words) => run_plain(alloc, words.as_slice(), &mut source, &mut sink),
+        Err(fault) if fault.kind() == ErrorKind::OutOfMemory => Done::of(Status::NoMemory),
+        // Words that aren't text have no form, like no words at all.
+        Err(_) => run_plain(alloc, &[], &mut source, &mut sink),
+    };
+    ExitCode::from(done.status)
+}

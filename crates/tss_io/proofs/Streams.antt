@@ -1,0 +1,50 @@
+-- What a source gave and what a sink gained, piece after piece.
+use Rattle.std.proofs.Common.{◌≡◌, ℕ, ◌+◌, ◌≤◌, List, [], ◌++◌, length, take, drop, Option, Some, None, refl, sym, ap, ◌∙◌, append_assoc, arith}
+use Rattle.std.specs.Prelude.{IfSome}
+use Rattle.std.proofs.Math.Seq.{take-add}
+use Rattle.std.proofs.lemmas.List.{append-nil, length-append}
+use Rattle.tss_io.specs.Streams.{Yields, Gains}
+
+-- Nothing is given.
+pub Yields-none : (left : Option (List ℕ)) → Yields left [] left
+Yields-none (Some bytes) = refl
+Yields-none None = tt
+
+-- Two pieces that are given one after the other are one piece.
+pub Yields-join : (a b c : Option (List ℕ)) (p q : List ℕ) → Yields a p b → Yields b q c → Yields a (p ++ q) c
+Yields-join (Some a) (Some b) (Some c) p q first then = first ∙ ap (λ (t : List ℕ). p ++ t) then ∙ sym (append_assoc p q c)
+Yields-join (Some a) (Some b) None p q first then = then
+Yields-join (Some a) None c p q first then = absurd first
+Yields-join None (Some b) c p q first then = absurd first
+Yields-join None None (Some c) p q first then = then
+Yields-join None None None p q first then = tt
+
+-- What was left before, where nothing is left now, is what was given.
+pub Yields-all : (a b : Option (List ℕ)) (p : List ℕ) → Yields a p b → IfSome b (λ rest. rest ≡ []) → IfSome a (λ bytes. p ≡ bytes)
+Yields-all (Some a) (Some b) p gives end = sym (gives ∙ ap (λ (t : List ℕ). p ++ t) end ∙ append-nil p)
+Yields-all (Some a) None p gives end = absurd gives
+Yields-all None b p gives end = tt
+
+-- What was given was left.
+pub Yields-length : (a b : Option (List ℕ)) (p : List ℕ) → Yields a p b → IfSome a (λ bytes. length p ≤ length bytes)
+Yields-length (Some a) (Some b) p gives = omega (arith, ap length gives, length-append p b)
+Yields-length (Some a) None p gives = absurd gives
+Yields-length None b p gives = tt
+
+-- Nothing is gained.
+pub Gains-none : (taken : Option (List ℕ)) → Gains taken [] taken
+Gains-none (Some bytes) = sym (append-nil bytes)
+Gains-none None = tt
+
+-- Two pieces that are gained one after the other are one piece.
+pub Gains-join : (a b c : Option (List ℕ)) (p q : List ℕ) → Gains a p b → Gains b q c → Gains a (p ++ q) c
+Gains-join (Some a) (Some b) (Some c) p q first then = then ∙ ap (λ (t : List ℕ). t ++ q) first ∙ append_assoc a p q
+Gains-join (Some a) (Some b) None p q first then = then
+Gains-join (Some a) None c p q first then = absurd first
+Gains-join None (Some b) c p q first then = absurd first
+Gains-join None None (Some c) p q first then = then
+Gains-join None None None p q first then = tt
+
+-- The front of a text and the piece behind it are a longer front.
+pub Gains-more : (a b c : Option (List ℕ)) (text : List ℕ) (at n : ℕ) → Gains a (take at text) b → Gains b (take n (drop at text)) c → Gains a (take (at + n) text) c
+Gains-more a b c text at n first then = rw take-add (Gains-join a b c (take at text) (take n (drop at text)) first then)

@@ -1,0 +1,5 @@
+-- Want of memory, which has one value.
+use Rattle.tss_io.specs.declared.no_memory.NoMemory.{NoMemory}
+
+abbrev pub no_memory : NoMemory
+no_memory = record {}

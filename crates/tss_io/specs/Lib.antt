@@ -1,0 +1,5 @@
+pub mod Decimals
+pub mod Errors
+pub mod Memory
+pub mod Reading
+pub mod Streams

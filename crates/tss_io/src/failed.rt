@@ -1,0 +1,3 @@
+/// A source or a sink failed, and its count of faults rose.
+#[derive(Clone, Copy, Debug, PartialEq, Eq)]
+pub struct Failed;

@@ -1,0 +1,96 @@
+ghost use Rattle.std.specs.Prelude.{◌≡◌, ◌≤◌, ◌<◌, ◌+◌, ◌↔◌, ℕ, [], Some, length, take, min, IsErr, IfOk, OnErr, Contains};
+ghost use Rattle.tss_io.specs.Streams.{Rose, Yields};
+
+use crate::failed::Failed;
+use crate::listing::is_listed;
+use crate::source::Source;
+use std::marker::Model;
+
+/// A source of bytes in memory, that fails where it is told to.
+#[derive(Debug, Drop)]
+pub struct MemSource {
+    bytes: Vec<u8>,
+    at: usize,
+    piece: usize,
+    fails: Vec<u32>,
+    calls: u64,
+    faults: u64,
+}
+
+impl Model for MemSource {
+    ghost use Rattle.std.specs.Prelude.{◌≤◌, drop, vec_len};
+    ghost use Rattle.tss_io.specs.Memory.{Input};
+
+    ghost Value = { Input };
+
+    ghost view = { λ s. record {
+      left = drop s.at s.bytes.items;
+      piece = s.piece;
+      fails = s.fails.items;
+      calls = s.calls;
+      faults = s.faults;
+    } };
+
+    ghost invariant = { λ s. (s.at ≤ vec_len s.bytes) × (1 ≤ s.piece) };
+}
+
+impl MemSource {
+    ghost use Rattle.tss_io.specs.Memory.{Input};
+
+    /// A source of `bytes`, at most `piece` of them a call. Calls are numbered from 0, and those listed in `fails` fail.
+    /// It takes no memory.
+    pub fn new(bytes: Vec<u8>, piece: usize, fails: Vec<u32>) -> MemSource
+        requires { 1 ≤ piece }
+        ensures { result ≡ record { left = bytes.items; piece = piece; fails = fails.items; calls = 0; faults = 0 } }
+    {
+        MemSource {
+            bytes,
+            at: 0,
+            piece,
+            fails,
+            calls: 0,
+            faults: 0,
+        }
+    }
+}
+
+impl Source for MemSource {
+    ghost use Rattle.tss_io.specs.Memory.{after_read, after_failed_read};
+
+    ghost left = { λ s. Some s.left };
+
+    ghost faults = { λ s. s.faults };
+
+    ghost calls = { λ s. s.calls };
+
+    fn read(&mut self, out: &mut [u8]) -> Result<usize, Failed>
+        requires { 0 < length out.old }
+        ensures within { IfOk result (λ n. n ≤ length out.new) }
+        ensures bytes { IfOk result (λ n. Yields (Some self.old.left) (take n out.new) (Some self.new.left)) }
+        ensures end { IfOk result (λ n. (n ≡ 0) ↔ (self.old.left ≡ [])) }
+        ensures kept { OnErr result (self.new.left ≡ self.old.left) }
+        ensures rose { OnErr result (Rose self.old.faults self.new.faults) }
+        ensures never_falls { self.old.faults ≤ self.new.faults }
+        ensures called { self.new.calls ≤ self.old.calls + 1 }
+
+        // Beyond the trait: which calls fail, how many bytes the others give, and what stands after each.
+        ensures listed { IsErr result ↔ Contains self.old.fails self.old.calls }
+        ensures amount { IfOk result (λ n. n ≡ min (min (length out.old) self.old.piece) (length self.old.left)) }
+        ensures ok { IfOk result (λ n. self.new ≡ after_read self.old n) }
+        ensures err { OnErr result (self.new ≡ after_failed_read self.old) }
+    {
+        let is_listed = is_listed(&self.fails, self.calls);
+        self.calls = self.calls.saturating_add(1);
+        if is_listed {
+            self.faults = self.faults.saturating_add(1);
+            return Err(Failed);
+        }
+        let (_, left) = self.bytes.split_at(self.at);
+        let count = out.len().min(self.piece).min(left.len());
+        let (piece, _) = left.split_at(count);
+        let (front, _) = out.split_at_mut(count);
+        front.copy_from_slice(piece);
+        self.at += count;
+        Ok(count)
+    }
+}

@@ -1,0 +1,189 @@
+use super::*;
+use std::io;
+use std::io::{ErrorKind, Read, Write};
+use std::test::*;
+
+#[test]
+fn decimals(rt: HostRuntime) {
+    let rows = [
+        ("0", u64::MAX, Some(0)),
+        ("10", 10, Some(10)),
+        ("11", 10, None),
+        ("18446744073709551615", u64::MAX, Some(u64::MAX)),
+        ("18446744073709551616", u64::MAX, None),
+        ("99999999999999999999999", u64::MAX, None),
+        ("", u64::MAX, None),
+        ("00", u64::MAX, None),
+        ("07", u64::MAX, None),
+        ("-1", u64::MAX, None),
+        ("+1", u64::MAX, None),
+        ("1 ", u64::MAX, None),
+        ("1a", u64::MAX, None),
+    ];
+    for (word, most, want) in rows {
+        assert_eq!(rt; decimal(word.as_bytes(), most), want, "at {word}");
+    }
+}
+
+#[test]
+fn pushed_decimals(rt: HostRuntime) -> Result<(), Fail> {
+    let mut out = Vec::new(rt.alloc());
+    for n in [0, 70, -7, i128::MAX, i128::MIN] {
+        push_decimal(&mut out, n)?;
+        out.push(b' ')?;
+    }
+    let want =
+        b"0 70 -7 170141183460469231731687303715884105727 -170141183460469231731687303715884105728 ";
+    assert_eq!(rt; out.as_slice(), want.as_slice());
+    Ok(())
+}
+
+// What is read of "abcde" in pieces, up to a limit, where some calls fail.
+#[test]
+fn memory_is_read(rt: HostRuntime) -> Result<(), Fail> {
+    let rows: [(usize, usize, &[u32], Result<&[u8], ReadFault>); 7] = [
+        (1, 5, &[], Ok(b"abcde")),
+        (2, 9, &[], Ok(b"abcde")),
+        (9, 5, &[], Ok(b"abcde")),
+        (9, 4, &[], Err(ReadFault::TooLong)),
+        (2, 9, &[0], Err(ReadFault::Failed)),
+        (2, 9, &[3], Err(ReadFault::Failed)),
+        (2, 9, &[4], Ok(b"abcde")),
+    ];
+    for (piece, limit, fails, want) in rows {
+        let bytes = Vec::from_slice(rt.alloc(), b"abcde")?;
+        let fails = Vec::from_slice(rt.alloc(), fails)?;
+        let mut source = MemSource::new(bytes, piece, fails);
+        let read = read_all(rt.alloc(), &mut source, limit);
+        let read = read
+            .as_ref()
+            .map(|text| text.as_slice())
+            .map_err(|fault| *fault);
+        assert_eq!(rt; read, want, "pieces of {piece} up to {limit}");
+    }
+    Ok(())
+}
+
+// What a sink with some room took of "abcde" in pieces, where some calls fail.
+#[test]
+fn memory_is_put(rt: HostRuntime) -> Result<(), Fail> {
+    let rows: [(usize, usize, &[u32], &[u8]); 6] = [
+        (5, 1, &[], b"abcde"),
+        (9, 9, &[1], b"abcde"),
+        (3, 9, &[], b"abc"),
+        (0, 9, &[], b""),
+        (9, 2, &[2], b"abcd"),
+        (9, 2, &[0], b""),
+    ];
+    for (room, piece, fails, want) in rows {
+        let fails = Vec::from_slice(rt.alloc(), fails)?;
+        let mut sink = MemSink::new(rt.alloc(), room, piece, fails)?;
+        let put = put_all(&mut sink, b"abcde");
+        assert_eq!(rt; sink.taken(), want);
+        assert_eq!(rt; put.is_ok(), want.len() == 5);
+    }
+    Ok(())
+}
+
+// A stream that interrupts this many calls before each that it serves.
+#[derive(Drop)]
+struct Interrupted {
+    times: u32,
+    left: u32,
+}
+
+impl Interrupted {
+    fn is_next(&mut self) -> bool {
+        if self.left == 0 {
+            self.left = self.times;
+            return false;
+        }
+        self.left -= 1;
+        true
+    }
+}
+
+impl Read for Interrupted {
+    fn read(&mut self, buf: &mut [u8]) -> io::Result<usize> {
+        if self.is_next() {
+            return Err(ErrorKind::Interrupted.into());
+        }
+        Ok(0)
+    }
+}
+
+impl Write for Interrupted {
+    fn write(&mut self, buf: &[u8]) -> io::Result<usize> {
+        if self.is_next() {
+            return Err(ErrorKind::Interrupted.into());
+        }
+        Ok(buf.len())
+    }
+
+    fn flush(&mut self) -> io::Result<()> {
+        if self.is_next() {
+            return Err(ErrorKind::Interrupted.into());
+        }
+        Ok(())
+    }
+}
+
+#[test]
+fn interrupted_calls_are_tried_again(rt: HostRuntime) {
+    for (times, want) in [(0, true), (16, true), (17, false)] {
+        let mut source = StdSource::new(Interrupted { times, left: times });
+        assert_eq!(rt;
+            source.read(&mut [0; 4]).is_ok(),
+            want,
+            "read after {times}"
+        );
+        let mut sink = StdSink::new(Interrupted { times, left: times });
+        assert_eq!(rt; sink.put(b"ab").is_ok(), want, "put after {times}");
+    }
+}
+
+#[test]
+fn standard_streams(rt: HostRuntime) -> Result<(), Fail> {
+    let mut source = StdSource::new(b"some text".as_slice());
+    let text = read_all(rt.alloc(), &mut source, 100)?;
+    assert_eq!(rt; text.as_slice(), b"some text".as_slice());
+
+    let mut out: Vec<u8> = Vec::new(rt.alloc());
+    put_all(&mut StdSink::new(&mut out), &text)?;
+    assert_eq!(rt; out.as_slice(), b"some text".as_slice());
+
+    // A slice with no room left takes nothing.
+    let mut room = [0u8; 4];
+    let mut sink = StdSink::new(room.as_mut_slice());
+    assert_eq!(rt; put_all(&mut sink, &text), Err(Failed));
+
+    assert_eq!(rt; StdSink::new(Unflushed).put(&text), Err(Failed));
+    Ok(())
+}
+
+// It takes all, and then can't hand it on.
+#[derive(Drop)]
+struct Unflushed;
+
+impl Write for Unflushed {
+    fn write(&mut self, buf: &[u8]) -> io::Result<usize> {
+        Ok(buf.len())
+    }
+
+    fn flush(&mut self) -> io::Result<()> {
+        Err(ErrorKind::StorageFull.into())
+    }
+}
+
+#[test]
+fn lists(rt: HostRuntime) -> Result<(), Fail> {
+    let mut list = Seq::new(rt.alloc());
+    list.push(3)?;
+    list.push(5)?;
+    assert_eq!(rt; list.len(), 2);
+    assert!(rt; !list.is_empty());
+    assert_eq!(rt; list.iter().copied().max(), Some(5));
+    let list = Seq::of(list.into_vec());
+    assert_eq!(rt; list.as_slice(), [3, 5].as_slice());
+    Ok(())
+}

@@ -1,0 +1,16 @@
+//! The program: words and bytes come in, bytes and a status go out.
+#![tactic(auto)]
+
+mod answer;
+mod done;
+mod form;
+mod order;
+mod run;
+mod status;
+
+pub use done::Done;
+pub use run::run_plain;
+pub use status::Status;
+
+#[cfg(test)]
+mod tests;

@@ -1,0 +1,104 @@
+#!/usr/bin/env python3
+"""Times the built program on the largest plain match, and shows how time grows with the commands.
+
+    python3 tools/bench.py PROGRAM [--word order|play] [--runs N]
+
+PROGRAM is the built program `tss`. The match has 8,192 ticks and 2,048 to 16,384 commands of one mirror, in a mixed
+order of lines. For `play` its script has one turn a tick, and each command arrives at a lag of 0 to 40 ticks behind its
+time, so that some are in time and some are late. Each match is run N times (default 15); the least wall time, the start
+of the process included, and the greatest peak memory are printed, and by how much each doubling multiplies the time.
+"""
+
+import argparse
+import os
+import sys
+import time
+
+LENGTH = 8192
+ACTS = ("go", "left", "right")
+COUNTS = (2048, 4096, 8192, 16384)
+
+
+class Draws:
+    """A small linear congruential generator, so that every run measures the same text."""
+
+    def __init__(self, seed):
+        self.state = seed
+
+    def below(self, bound):
+        self.state = (1664525 * self.state + 1013904223) % 4294967296
+        return (self.state >> 16) % bound
+
+
+def match_text(count, with_script):
+    draws = Draws(7)
+    commands = [(draws.below(LENGTH), number, ACTS[draws.below(3)]) for number in range(count)]
+    for at in range(count - 1, 0, -1):
+        other = draws.below(at + 1)
+        commands[at], commands[other] = commands[other], commands[at]
+    lines = ["tss match 1", f"length {LENGTH}", "grid 64 64", "mirrors 1", "delays 20" if with_script else "delays 0",
+             "pace 0", "player ann 32 32 e"]
+    lines += [f"cmd {tick} 0 {number} 0 {act}" for tick, number, act in commands]
+    if with_script:
+        arrivals = {}
+        for tick, number, _ in commands:
+            arrivals.setdefault(tick + draws.below(41), []).append(number)
+        lines.append("script")
+        for tick in range(LENGTH):
+            lines += [f"arrive 0 0 {number}" for number in arrivals.get(tick, ())]
+            lines.append("turn 0")
+    lines.append("end")
+    return "".join(line + "\n" for line in lines).encode()
+
+
+def run_once(program, word, text):
+    """The wall time in seconds and the peak memory in KiB of one run."""
+    read_end, write_end = os.pipe()
+    child = os.fork()
+    if child == 0:
+        os.dup2(read_end, 0)
+        os.close(read_end)
+        os.close(write_end)
+        sink = os.open(os.devnull, os.O_WRONLY)
+        os.dup2(sink, 1)
+        os.execv(program, [program, word])
+    os.close(read_end)
+    begun = time.perf_counter()
+    with os.fdopen(write_end, "wb") as stream:
+        stream.write(text)
+    _, status, usage = os.wait4(child, 0)
+    ended = time.perf_counter()
+    if os.waitstatus_to_exitcode(status) != 0:
+        sys.exit(f"{program} {word} ended with status {os.waitstatus_to_exitcode(status)}")
+    return ended - begun, usage.ru_maxrss
+
+
+def processor():
+    try:
+        with open("/proc/cpuinfo", encoding="utf-8") as info:
+            return next(line.split(":", 1)[1].strip() for line in info if line.startswith("model name"))
+    except (OSError, StopIteration):
+        return "unknown"
+
+
+def main():
+    parser = argparse.ArgumentParser()
+    parser.add_argument("program")
+    parser.add_argument("--word", choices=("order", "play"), default="order")
+    parser.add_argument("--runs", type=int, default=15)
+    given = parser.parse_args()
+    program = os.path.abspath(given.program)
+    print(f"processor: {processor()}, {os.cpu_count()} cores")
+    before = None
+    for count in COUNTS:
+        text = match_text(count, given.word == "play")
+        runs = [run_once(program, given.word, text) for _ in range(given.runs)]
+        least = min(seconds for seconds, _ in runs)
+        peak = max(memory for _, memory in runs)
+        growth = "" if before is None else f"  x{least / before:.2f}"
+        print(f"{given.word} {count:6} commands  {len(text):8} bytes  {least * 1000:8.2f} ms  {peak / 1024:6.1f} MiB{growth}")
+        before = least
+
+
+if __name__ == "__main__":
+    main()
