@@ -7,7 +7,7 @@ use std::rt::Env;
 use std::io;
 use std::io::ErrorKind;
 use std::process::ExitCode;
-use tss_io::{StdSink, StdSource};
+use tss_io::{Seq, StdSink, StdSource};
 use tss_program::{Done, Status, run_plain};
 
 // The words behind the program's own name.
@@ -23,7 +23,7 @@ fn main(rt: HostRuntime) -> ExitCode {
     let mut sink = StdSink::new(rt.stdout());
     let done = match words(&rt) {
         Ok(words) => run_plain(alloc, words.as_slice(), &mut source, &mut sink),
-        Err(fault) if fault.kind() == ErrorKind::OutOfMemory => Done::of(Status::NoMemory),
+        Err(fault) if fault.kind() == ErrorKind::OutOfMemory => Done::of(Status::NoMemory, Seq::new(alloc)),
         // Words that aren't text have no form, like no words at all.
         Err(_) => run_plain(alloc, &[], &mut source, &mut sink),
     };
