@@ -137,6 +137,7 @@ impl Commands {
         self.names.contains(&(from, number))
     }
 
+    /// The commands alone, in the order in which they were put. It takes no memory.
     pub fn into_seq(self) -> Seq<Command>
         ensures { result ≡ self }
     {
