@@ -23,7 +23,7 @@ pub struct Answer {
     pub kept: Seq<MirrorLog>,
 }
 
-// The answer to a text that is over the limit.
+/// The answer to a text that is over the limit.
 pub fn too_long(alloc: Global) -> Result<Answer, NoMemory>
     ensures { IfOk result (IsAnswer (refusal_due too_long)) }
 {
@@ -36,7 +36,7 @@ pub fn too_long(alloc: Global) -> Result<Answer, NoMemory>
     )
 }
 
-// What is due for a text within the limit.
+/// What is due for a text within the limit.
 #[tactic(auto, unfolding(crate::specs::Due::due_of_form, crate::specs::Due::match_of))]
 pub fn answer_text(alloc: Global, form: Form, text: &[u8]) -> Result<Answer, NoMemory>
     requires { length text.now ≤ text_limit }

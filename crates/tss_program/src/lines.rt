@@ -8,7 +8,7 @@ use arena_rules::{Arena, Roster, Shown};
 use game_trait::{Arrived, MirrorId, Number, Reply, Stepped, Tick, Ticked};
 use tss_io::{NoMemory, push_decimal};
 
-// Puts the time that ends a block's head line, and the lines of the world.
+/// Puts the time that ends a block's head line, and the lines of the world.
 #[tactic(auto, unfolding(crate::specs::Blocks::block_text))]
 pub fn push_block(
     out: &mut Vec<u8>,
@@ -37,7 +37,7 @@ fn push_line(out: &mut Vec<u8>, word: &str, numbers: &[u32]) -> Result<(), NoMem
     Ok(())
 }
 
-// Puts the line of a repair, or nothing where no copy was repaired.
+/// Puts the line of a repair, or nothing where no copy was repaired.
 #[tactic(auto, unfolding(crate::specs::Script::repair_line))]
 pub fn push_repair(out: &mut Vec<u8>, mirror: MirrorId, repaired: u8) -> Result<(), NoMemory>
     ensures { OnOk result (out.new.items ≡ out.old.items ++ repair_line mirror repaired) }
@@ -48,7 +48,7 @@ pub fn push_repair(out: &mut Vec<u8>, mirror: MirrorId, repaired: u8) -> Result<
     push_line(out, "repair", &[u32::from(mirror), u32::from(repaired)])
 }
 
-// Puts what the answer to a tick prints.
+/// Puts what the answer to a tick prints.
 #[tactic(auto, unfolding(crate::specs::Script::tick_line))]
 pub fn push_ticked(out: &mut Vec<u8>, mirror: MirrorId, reply: Ticked) -> Result<(), NoMemory>
     ensures { OnOk result (out.new.items ≡ out.old.items ++ tick_line mirror (Reply.Tick reply)) }
@@ -59,7 +59,7 @@ pub fn push_ticked(out: &mut Vec<u8>, mirror: MirrorId, reply: Ticked) -> Result
     }
 }
 
-// Puts what the answer to the arrival of a command prints.
+/// Puts what the answer to the arrival of a command prints.
 #[tactic(auto, unfolding(crate::specs::Script::arrival_line))]
 pub fn push_arrived(
     out: &mut Vec<u8>,
@@ -84,7 +84,7 @@ pub fn push_arrived(
     }
 }
 
-// Puts what the answer to a copy's step prints.
+/// Puts what the answer to a copy's step prints.
 #[tactic(auto, unfolding(crate::specs::Script::step_line))]
 pub fn push_stepped(
     out: &mut Vec<u8>,
@@ -100,7 +100,7 @@ pub fn push_stepped(
     }
 }
 
-// Puts what a copy's step in a turn prints: its repair alone.
+/// Puts what a copy's step in a turn prints: its repair alone.
 #[tactic(auto, unfolding(crate::specs::Script::repair_line))]
 pub fn push_turn_step(out: &mut Vec<u8>, mirror: MirrorId, reply: Stepped) -> Result<(), NoMemory>
     ensures { OnOk result (out.new.items ≡ out.old.items ++ turn_line mirror (Reply.Step reply)) }

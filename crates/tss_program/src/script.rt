@@ -47,7 +47,7 @@ fn make_turn<G: Game>(
     Ok(())
 }
 
-// Makes turns until the mirror is drained, at most so many, and puts a line for each step that repairs.
+/// Makes turns until the mirror is drained, at most so many, and puts a line for each step that repairs.
 pub fn drain_mirror<G: Game>(
     mirror: &mut Mirror<G>,
     number: MirrorId,
