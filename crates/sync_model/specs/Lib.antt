@@ -7,3 +7,4 @@ pub mod History
 pub mod Repairs
 pub mod Runs
 pub mod Worked
+pub mod Legal

@@ -18,7 +18,8 @@ use Rattle.sync_model.proofs.Drain.{drain-ends, staggered-drain, drain-turns, dr
 use Rattle.arena_rules.specs.World.{World, opening_world, arena_rules}
 use Rattle.match_file.specs.Data.{MatchData, IsMatch, Rises}
 use Rattle.tss_program.specs.Play.{is_arrive, opening_mirror, scripted, played}
-use Rattle.tss_program.specs.Headline.{NamesWhatIsThere, IsPlayed}
+use Rattle.sync_model.specs.Legal.{NamesWhatIsThere}
+use Rattle.tss_program.specs.Headline.{IsPlayed}
 use Rattle.tss_program.proofs.Log.{all-append, IsLog, made-IsLog}
 use Rattle.tss_program.proofs.ScriptEvents.{script_events, after_script-events, named-script, script-arrivals, named-turns, turns-no_arrival}
 use Rattle.tss_program.proofs.Ready.{ready-opening, scripted-ready, due-within}

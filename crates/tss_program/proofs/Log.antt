@@ -15,7 +15,7 @@ use Rattle.sync_model.proofs.Cases.{next-fixed}
 use Rattle.sync_model.proofs.Staggered.{staggered-opening}
 use Rattle.sync_model.proofs.Along.{staggered-after}
 use Rattle.sync_model.proofs.History.{history-after, spare-next, unchanged-next, opening_of-next, from_history-next, from_history-after, from_history-opening, each_changes-next}
-use Rattle.tss_program.specs.Headline.{NamesWhatIsThere, IsLegal}
+use Rattle.sync_model.specs.Legal.{NamesWhatIsThere, IsLegal}
 
 -- ---- what holds of each event
 

@@ -21,7 +21,7 @@ use Rattle.match_file.specs.declared.script_line.ScriptLine.{ScriptLine}
 use Rattle.match_file.specs.declared.script_line.ScriptLine.TheVariants as lines
 use Rattle.tss_program.specs.Script.{events_of, after_script}
 use Rattle.tss_program.specs.Play.{is_arrive, opening_mirror, scripted}
-use Rattle.tss_program.specs.Headline.{NamesWhatIsThere}
+use Rattle.sync_model.specs.Legal.{NamesWhatIsThere}
 use Rattle.tss_program.proofs.Log.{named-fits, room-along}
 use Rattle.tss_program.proofs.ScriptEvents.{named-line, line-arrivals, named-turn, turn-no_arrival}
 

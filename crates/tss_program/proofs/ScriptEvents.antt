@@ -18,7 +18,7 @@ use Rattle.match_file.specs.declared.script_line.ScriptLine.{ScriptLine}
 use Rattle.match_file.specs.declared.script_line.ScriptLine.TheVariants as lines
 use Rattle.tss_program.specs.Script.{command_named, arrival_of, events_of, after_script, line_text, script_text}
 use Rattle.tss_program.specs.Play.{is_arrive}
-use Rattle.tss_program.specs.Headline.{NamesWhatIsThere}
+use Rattle.sync_model.specs.Legal.{NamesWhatIsThere}
 use Rattle.tss_program.proofs.Log.{all-append}
 
 -- ---- the command of an arrival

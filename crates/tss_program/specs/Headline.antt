@@ -1,30 +1,18 @@
 -- What playing a match promises: the headline, for one mirror.
 use Rattle.std.specs.Prelude.{◌≡◌, ℕ, ◌<◌, true, List, [], ◌∷◌, take, length, Contains}
 use Rattle.std.specs.List.{AllByRecursion}
-use Rattle.game_trait.specs.declared.command.Command.{Command}
 use Rattle.game_trait.specs.declared.event.Event.{Event}
-use Rattle.game_trait.specs.declared.event.Event.TheVariants.{Tick, Arrive, Step}
 use Rattle.game_trait.specs.Run.{world_of}
 use Rattle.game_trait.specs.Ordered.{time_ordered}
 use Rattle.sync_model.specs.State.{MirrorState}
 use Rattle.sync_model.specs.Change.{next, after, changes}
 use Rattle.sync_model.specs.Staggered.{IsStaggered}
 use Rattle.sync_model.specs.Turns.{IsDrained}
+use Rattle.sync_model.specs.Legal.{IsLegal}
 use Rattle.arena_rules.specs.World.{opening_world, arena_rules}
 use Rattle.match_file.specs.Data.{MatchData}
 use Rattle.run_recorder.specs.declared.log.MirrorLog.{MirrorLog}
 use Rattle.tss_program.specs.Play.{opening_mirror, played}
-
--- an event names what is there: a command of the match, a copy of the mirror
-abbrev pub NamesWhatIsThere : {W : Type 0} → List Command → MirrorState W → Event → Type 0
-NamesWhatIsThere commands s Tick = Unit {0}
-NamesWhatIsThere commands s (Arrive x) = Contains commands x
-NamesWhatIsThere commands s (Step c) = c < length s.runs
-
--- a legal history: each of its events changes the state in which it stands, and names what is there
-unfoldable pub IsLegal : {W : Type 0} → List Command → MirrorState W → List Event → Type 0
-IsLegal commands s [] = Unit {0}
-IsLegal commands s (e ∷ es) = (changes s e ≡ true) × NamesWhatIsThere commands s e × IsLegal commands (next s e) es
 
 -- a match was played: what the mirror's log says of it
 pub record IsPlayed (m : MatchData) (log : List Event) : Type 0 where

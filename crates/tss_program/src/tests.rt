@@ -1,6 +1,10 @@
 use crate::run_plain;
+use arena_rules::{Arena, Shown};
+use game_trait::Event;
+use match_file::read_match;
 use std::alloc::Global;
 use std::test::Fail;
+use sync_model::PlainMirror;
 use tss_io::{MemSink, MemSource, NoMemory};
 
 const USAGE: &str = "usage: tss order|play|race|audit|score|soak N\n";
@@ -147,5 +151,37 @@ fn runs_end_as_they_have_to(rt: HostRuntime) -> Result<(), Fail> {
         assert_eq!(rt; written.as_slice(), case.written.as_bytes(), "case {at}");
         assert_eq!(rt; kept, case.kept, "case {at}");
     }
+    Ok(())
+}
+
+// The plain mirror, along the events of the match that is just in time, comes to the world that `play` shows.
+#[test]
+fn plain_mirror_agrees_on_the_arena(rt: HostRuntime) -> Result<(), Fail> {
+    let alloc = rt.alloc();
+    let Ok(game) = read_match(alloc, JUST_IN_TIME.as_bytes()) else {
+        return Err("the match is refused")?;
+    };
+    let opening = Arena::start(&game.setup);
+    let mut plain = PlainMirror::new(alloc, &opening, 4, &[0], 8)?;
+    let turn = [Event::Tick, Event::Step(0)];
+    for event in turn.iter().chain(turn.iter()) {
+        assert!(rt; plain.does_fit(event));
+        let _ = plain.make(alloc, event)?;
+    }
+    for &x in game.commands.iter() {
+        assert!(rt; plain.does_fit(&Event::Arrive(x)));
+        let _ = plain.make(alloc, &Event::Arrive(x))?;
+    }
+    for event in turn.iter().chain(turn.iter()) {
+        assert!(rt; plain.does_fit(event));
+        let _ = plain.make(alloc, event)?;
+    }
+    assert!(rt; plain.copies() == 1);
+    let mut lines = Vec::new(alloc);
+    plain
+        .world(0)
+        .block(&game.roster, &mut lines)
+        .map_err(|_| "no memory")?;
+    assert_eq!(rt; lines.as_slice(), b"live ann 1 0 e 3 5 0\n".as_slice());
     Ok(())
 }
