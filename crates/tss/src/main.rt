@@ -2,11 +2,10 @@
 #![tactic(auto)]
 
 use std::alloc::Global;
-use std::env;
-use std::rt::Env;
-use std::io;
 use std::io::ErrorKind;
 use std::process::ExitCode;
+use std::rt::Env;
+use std::{env, io};
 use tss_io::{Seq, StdSink, StdSource};
 use tss_program::{Done, Status, run_plain};
 
@@ -23,7 +22,10 @@ fn main(rt: HostRuntime) -> ExitCode {
     let mut sink = StdSink::new(rt.stdout());
     let done = match words(&rt) {
         Ok(words) => run_plain(alloc, words.as_slice(), &mut source, &mut sink),
-        Err(fault) if fault.kind() == ErrorKind::OutOfMemory => Done::of(Status::NoMemory, Seq::new(alloc)),
+        Err(fault) if fault.kind() == ErrorKind::OutOfMemory => Done::of(
+            Status::NoMemory,
+            Seq::new(alloc),
+        ),
         // Words that aren't text have no form, like no words at all.
         Err(_) => run_plain(alloc, &[], &mut source, &mut sink),
     };

@@ -156,6 +156,7 @@ fn runs_end_as_they_have_to(rt: HostRuntime) -> Result<(), Fail> {
 
 // The plain mirror, along the events of the match that is just in time, comes to the world that `play` shows.
 #[test]
+#[tactic(auto, unfolding(sync_model::specs::Staggered::DelaysRise))]
 fn plain_mirror_agrees_on_the_arena(rt: HostRuntime) -> Result<(), Fail> {
     let alloc = rt.alloc();
     let Ok(game) = read_match(alloc, JUST_IN_TIME.as_bytes()) else {
