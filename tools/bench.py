@@ -1,12 +1,15 @@
 #!/usr/bin/env python3
 """Times the built program on the largest plain match, and shows how time grows with the commands.
 
-    python3 tools/bench.py PROGRAM [--word order|play] [--runs N]
+    python3 tools/bench.py PROGRAM [--word order|play] [--text plain|script|late] [--runs N]
 
 PROGRAM is the built program `tss`. The match has 8,192 ticks and 2,048 to 16,384 commands of one mirror, in a mixed
-order of lines. For `play` its script has one turn a tick, and each command arrives at a lag of 0 to 40 ticks behind its
-time, so that some are in time and some are late. Each match is run N times (default 15); the least wall time, the start
-of the process included, and the greatest peak memory are printed, and by how much each doubling multiplies the time.
+order of lines. A plain text has no script. In a `script` text there is one turn a tick, and each command arrives at a lag
+of 0 to 40 ticks behind its time, so that some are in time and some are late. In a `late` text all commands arrive after
+the last turn, so each is found, turned away and printed, and none is executed: that measures reading, finding and
+printing apart. `order` on a `script` text measures reading and executing without a mirror. Without --text it is plain for
+`order` and script for `play`. Each match is run N times (default 15); the least wall time, the start of the process
+included, and the greatest peak memory are printed, and by how much each doubling multiplies the time.
 """
 
 import argparse
@@ -30,23 +33,25 @@ class Draws:
         return (self.state >> 16) % bound
 
 
-def match_text(count, with_script):
+def match_text(count, kind):
     draws = Draws(7)
     commands = [(draws.below(LENGTH), number, ACTS[draws.below(3)]) for number in range(count)]
     for at in range(count - 1, 0, -1):
         other = draws.below(at + 1)
         commands[at], commands[other] = commands[other], commands[at]
-    lines = ["tss match 1", f"length {LENGTH}", "grid 64 64", "mirrors 1", "delays 20" if with_script else "delays 0",
+    lines = ["tss match 1", f"length {LENGTH}", "grid 64 64", "mirrors 1", "delays 0" if kind == "plain" else "delays 20",
              "pace 0", "player ann 32 32 e"]
     lines += [f"cmd {tick} 0 {number} 0 {act}" for tick, number, act in commands]
-    if with_script:
+    if kind != "plain":
         arrivals = {}
         for tick, number, _ in commands:
-            arrivals.setdefault(tick + draws.below(41), []).append(number)
+            clock = LENGTH + 20 if kind == "late" else tick + draws.below(41)
+            arrivals.setdefault(clock, []).append(number)
         lines.append("script")
-        for tick in range(LENGTH):
-            lines += [f"arrive 0 0 {number}" for number in arrivals.get(tick, ())]
-            lines.append("turn 0")
+        for clock in range(LENGTH + 21):
+            lines += [f"arrive 0 0 {number}" for number in arrivals.get(clock, ())]
+            if clock < LENGTH + 20:
+                lines.append("turn 0")
     lines.append("end")
     return "".join(line + "\n" for line in lines).encode()
 
@@ -85,18 +90,20 @@ def main():
     parser = argparse.ArgumentParser()
     parser.add_argument("program")
     parser.add_argument("--word", choices=("order", "play"), default="order")
+    parser.add_argument("--text", choices=("plain", "script", "late"))
     parser.add_argument("--runs", type=int, default=15)
     given = parser.parse_args()
+    kind = given.text or ("script" if given.word == "play" else "plain")
     program = os.path.abspath(given.program)
     print(f"processor: {processor()}, {os.cpu_count()} cores")
     before = None
     for count in COUNTS:
-        text = match_text(count, given.word == "play")
+        text = match_text(count, kind)
         runs = [run_once(program, given.word, text) for _ in range(given.runs)]
         least = min(seconds for seconds, _ in runs)
         peak = max(memory for _, memory in runs)
         growth = "" if before is None else f"  x{least / before:.2f}"
-        print(f"{given.word} {count:6} commands  {len(text):8} bytes  {least * 1000:8.2f} ms  {peak / 1024:6.1f} MiB{growth}")
+        print(f"{given.word} {kind} {count:6} commands  {len(text):8} bytes  {least * 1000:8.2f} ms  {peak / 1024:6.1f} MiB{growth}")
         before = least
 
 
