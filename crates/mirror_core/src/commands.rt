@@ -1,4 +1,4 @@
-//! Lists of commands: whether one is there, its place in key order, and the execution of a tick.
+//! Lists of commands: the place of one in key order, and the execution of a tick.
 
 ghost use Rattle.std.specs.Prelude.{◌≡◌, ◌+◌, ◌<◌, ◌==◌, false, [], ◌∷◌, ◌++◌, map, filter, vec_len, vec_capacity};
 ghost use Rattle.std.specs.List.{list_any};
@@ -14,14 +14,6 @@ fn is_before(x: &Command, y: &Command) -> bool
     ensures { result ≡ before x.now y.now }
 {
     x.key() < y.key()
-}
-
-/// Whether the list has a command with the same mirror and number.
-pub fn has_name(list: &[Command], x: &Command) -> bool
-    ensures { result ≡ list_any (same_name x.now) list.now }
-{
-    list.iter()
-        .any(|y| x.from == y.from && x.number == y.number)
 }
 
 /// Puts a command at its place in key order.

@@ -1,6 +1,7 @@
 //! One mirror of a match: it takes ticks, arrivals and steps, and is at every moment a state of `sync_model`.
 #![tactic(auto)]
 
+mod accepted;
 mod commands;
 mod mirror;
 #[cfg(test)]

@@ -8,7 +8,8 @@ ghost use Rattle.sync_model.specs.Staggered.{IsStaggered, IsWellFormed};
 ghost use Rattle.sync_model.specs.History.{HasRoom, IsFromHistory, EachChanges, opening_of, repairs as repairs_of};
 ghost use Rattle.sync_model.specs.Turns.{is_drained};
 
-use crate::commands::{has_name, place, run_tick};
+use crate::accepted::Accepted;
+use crate::commands::{place, run_tick};
 use game_trait::{Arrived, Command, Event, Game, Item, Reply, Stepped, Tick, Ticked};
 use stagger_clock::Stagger;
 use std::alloc::Global;
@@ -26,7 +27,7 @@ pub struct Mirror<G: Game> {
     opening: G,
     stagger: Stagger,
     clock: Tick,
-    accepted: Vec<Command>,
+    accepted: Accepted,
     turned: Vec<Turned>,
     history: Vec<Event>,
     spare: u32,
@@ -49,7 +50,7 @@ impl<G: Game> Model for Mirror<G> {
 
     ghost invariant = { λ m.
         let room : Room = record {
-          accepted = vec_capacity m.accepted;
+          accepted = m.accepted.room;
           in_order = vec_capacity m.in_order;
           turned = vec_capacity m.turned;
           run = vec_capacity m.run;
@@ -90,7 +91,7 @@ impl<G: Game> Mirror<G> {
         let longest = stagger.longest() as usize;
         let arrivals = room as usize;
         Ok(Mirror {
-            accepted: Vec::with_capacity(alloc, arrivals)?,
+            accepted: Accepted::new(alloc, arrivals)?,
             in_order: Vec::with_capacity(alloc, arrivals)?,
             turned: Vec::with_capacity(alloc, arrivals)?,
             run: Vec::with_capacity(alloc, length + arrivals)?,
@@ -127,7 +128,7 @@ impl<G: Game> Mirror<G> {
         ensures state { self.new ≡ next self.old (Event.Arrive x.now) }
         ensures answer { said self.old (Event.Arrive x.now) ≡ Reply.Arrive result }
     {
-        if has_name(&self.accepted, x) {
+        if self.accepted.has_name(x) {
             return Arrived::Repeat;
         }
         self.spare -= 1;
@@ -141,7 +142,7 @@ impl<G: Game> Mirror<G> {
             });
             return Arrived::Late { bound };
         }
-        self.accepted.push_reserved(*x);
+        self.accepted.push(x);
         place(&mut self.in_order, x);
         Arrived::Taken { repaired: 0 }
     }
@@ -245,7 +246,7 @@ impl<G: Game> Mirror<G> {
     pub fn accepted(&self) -> &[Command]
         ensures { result.now ≡ self.now.accepted }
     {
-        &self.accepted
+        self.accepted.as_slice()
     }
 
     /// The arrivals that were turned away, in order.

@@ -6,16 +6,15 @@ invariant_of-result g c =
     rw (
       c.twin.ensures,
       c.twin-2.ensures,
+      c.in_ok-new.ensures,
       c.in_ok-with_capacity.ensures.items,
       c.in_ok-with_capacity-2.ensures.items,
       c.in_ok-with_capacity-3.ensures.items,
       c.in_ok-with_capacity-4.ensures.items,
-      c.in_ok-with_capacity-5.ensures.items,
       c.in_ok-with_capacity.ensures.exact,
       c.in_ok-with_capacity-2.ensures.exact,
       c.in_ok-with_capacity-3.ensures.exact,
       c.in_ok-with_capacity-4.ensures.exact,
-      c.in_ok-with_capacity-5.ensures.exact,
       c.length-length.ensures.length,
       c.longest-longest.ensures.longest,
     )
