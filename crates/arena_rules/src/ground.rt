@@ -98,29 +98,3 @@ impl Ground {
         self.height
     }
 }
-
-#[cfg(test)]
-mod tests {
-    use super::*;
-
-    #[test]
-    fn tells_free_cells(rt: HostRuntime) {
-        let mut ground = Ground::new(4, 2);
-        ground.wall(3, 1);
-        assert_eq!(rt; ground.width(), 4);
-        assert_eq!(rt; ground.height(), 2);
-        for (x, y, free) in [
-            (0, 0, true),
-            (2, 1, true),
-            (3, 1, false),
-            (3, 0, true),
-            (4, 0, false),
-            (0, 2, false),
-            (-1, 0, false),
-            (0, -1, false),
-            (256, 0, false),
-        ] {
-            assert_eq!(rt; ground.free(x, y), free, "at {x} {y}");
-        }
-    }
-}

@@ -65,25 +65,3 @@ impl Roster {
         self.name(player).unwrap_or(b"?".as_slice())
     }
 }
-
-#[cfg(test)]
-mod tests {
-    use super::*;
-    use std::test::Fail;
-
-    #[test]
-    fn takes_each_name_once(rt: HostRuntime) -> Result<(), Fail> {
-        let mut roster = Roster::new(rt.alloc())?;
-        for (name, added) in [
-            (b"ann".as_slice(), true),
-            (b"bob".as_slice(), true),
-            (b"ann".as_slice(), false),
-        ] {
-            assert_eq!(rt; roster.add(name)?, added);
-        }
-        assert_eq!(rt; roster.name(0), Some(b"ann".as_slice()));
-        assert_eq!(rt; roster.name(1), Some(b"bob".as_slice()));
-        assert_eq!(rt; roster.name(2), None);
-        Ok(())
-    }
-}

@@ -17,6 +17,3 @@ pub use fault::{Refused, TextFault};
 pub use game_match::Match;
 pub use reading::read_match;
 pub use script_line::ScriptLine;
-
-#[cfg(test)]
-mod tests;

@@ -4,8 +4,6 @@
 mod accepted;
 mod commands;
 mod mirror;
-#[cfg(test)]
-mod tests;
 
 pub use mirror::{MOST_ROOM, Mirror};
 pub use sync_model::Turned;

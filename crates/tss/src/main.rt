@@ -1,6 +1,9 @@
 //! The program `tss`: the real words, streams and status.
 #![tactic(auto)]
 
+#[cfg(test)]
+mod tests;
+
 use std::alloc::Global;
 use std::io::ErrorKind;
 use std::process::ExitCode;

@@ -11,7 +11,7 @@ use Rattle.sync_model.specs.State.{MirrorState}
 use Rattle.sync_model.specs.Turns.{drain_within, drain_bound}
 use Rattle.tss_program.specs.Blocks.{block_text, done_line}
 use Rattle.tss_program.specs.Script.{script_text}
-use Rattle.tss_program.specs.Play.{is_arrive, opening_mirror, scripted, played, drain_text, mirror_line, copy_block, copy_blocks, play_text}
+use Rattle.tss_program.specs.Play.{is_arrive, opening_mirror, scripted, played, drain_text, events_text, copy_block, copy_blocks, final_text, play_text}
 use Rattle.tss_program.proofs.Headline.{DelaysRise-from_next}
 
 -- a block behind other text
@@ -58,20 +58,24 @@ schedule-of m sound = record {
   few_ticks = sound.ticks.1;
 }
 
+-- what the script prints, and then draining
+pub events-parts :
+    (m : MatchData) (turns : ℕ) (old script drained : List ℕ)
+    → turns ≡ drain_bound (scripted m) → script ≡ old ++ script_text m (opening_mirror m) m.script
+    → drained ≡ script ++ drain_text 0 turns (scripted m)
+    → drained ≡ old ++ events_text m
+unfolding events_text
+events-parts m turns old script drained enough p q =
+    q
+    ∙ ap (λ (n : ℕ). script ++ drain_text 0 n (scripted m)) enough
+    ∙ ap (λ (l : List ℕ). l ++ drain_text 0 (drain_bound (scripted m)) (scripted m)) p
+    ∙ append_assoc old (script_text m (opening_mirror m) m.script) (drain_text 0 (drain_bound (scripted m)) (scripted m))
+
 -- the parts of what is printed, one after the other
 pub play-parts :
-    (m : MatchData) (s : MirrorState World) (turns : ℕ) (script drained line blocks all : List ℕ)
-    → turns ≡ drain_bound (scripted m) → s ≡ drain_within turns (scripted m)
-    → script ≡ [] ++ script_text m (opening_mirror m) m.script → drained ≡ script ++ drain_text 0 turns (scripted m)
-    → line ≡ drained ++ mirror_line 0 s → blocks ≡ line ++ copy_blocks 0 m.names s.opening 0 s.runs → all ≡ blocks ++ done_line
+    (m : MatchData) (s : MirrorState World) (events final all : List ℕ)
+    → s ≡ played m → events ≡ [] ++ events_text m → final ≡ events ++ final_text 0 m.names s → all ≡ final ++ done_line
     → all ≡ play_text m
 unfolding play_text
-play-parts m s turns script drained line blocks all enough end p q r t u =
-    let ended : s ≡ played m = end ∙ ap (λ (n : ℕ). drain_within n (scripted m)) enough in
-    let front = script_text m (opening_mirror m) m.script ++ drain_text 0 (drain_bound (scripted m)) (scripted m) in
-    let begun : drained ≡ front = q ∙ ap (λ (l : List ℕ). l ++ drain_text 0 turns (scripted m)) p ∙ ap (λ (n : ℕ). script_text m (opening_mirror m) m.script ++ drain_text 0 n (scripted m)) enough in
-    let lined : line ≡ front ++ mirror_line 0 (played m) = r ∙ ap (λ (l : List ℕ). l ++ mirror_line 0 s) begun ∙ ap (λ (v : MirrorState World). front ++ mirror_line 0 v) ended in
-    u ∙ ap (λ (l : List ℕ). l ++ done_line)
-    (t ∙ ap (λ (l : List ℕ). l ++ copy_blocks 0 m.names s.opening 0 s.runs) lined
-    ∙ ap (λ (v : MirrorState World). (front ++ mirror_line 0 (played m)) ++ copy_blocks 0 m.names v.opening 0 v.runs) ended
-    ∙ append_assoc front (mirror_line 0 (played m)) (copy_blocks 0 m.names (played m).opening 0 (played m).runs))
+play-parts m s events final all end p q r =
+    r ∙ ap (λ (l : List ℕ). l ++ done_line) (q ∙ ap (λ (l : List ℕ). l ++ final_text 0 m.names s) p ∙ ap (λ (v : MirrorState World). events_text m ++ final_text 0 m.names v) end)

@@ -64,7 +64,10 @@ copy_blocks mirror names opening copy (run ∷ behind) = copy_block mirror names
 abbrev pub final_text : ℕ → List (List ℕ) → MirrorState World → List ℕ
 final_text mirror names s = mirror_line mirror s ++ copy_blocks mirror names s.opening 0 s.runs
 
+-- what the script's events and then draining print
+unfoldable pub events_text : MatchData → List ℕ
+events_text m = script_text m (opening_mirror m) m.script ++ drain_text 0 (drain_bound (scripted m)) (scripted m)
+
 -- what `play` prints of a match
 unfoldable pub play_text : MatchData → List ℕ
-play_text m =
-    script_text m (opening_mirror m) m.script ++ drain_text 0 (drain_bound (scripted m)) (scripted m) ++ final_text 0 m.names (played m) ++ done_line
+play_text m = events_text m ++ final_text 0 m.names (played m) ++ done_line

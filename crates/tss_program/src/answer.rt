@@ -1,6 +1,7 @@
 //! The text that is due, built whole before its first byte is put.
 
-ghost use Rattle.std.specs.Prelude.{◌≡◌, ◌≤◌, Ok, length, IfOk};
+ghost use Rattle.std.specs.Prelude.{◌≡◌, ◌≤◌, ◌++◌, Ok, length, codes, IfOk};
+ghost use Rattle.tss_program.specs.Blocks.{block_text, done_line};
 ghost use Rattle.tss_program.specs.Due.{due_of_form, due_of_match, refusal_due, too_long, text_limit};
 ghost use Rattle.tss_program.specs.Answer.{IsAnswer};
 
@@ -9,7 +10,8 @@ use crate::lines::push_block;
 use crate::order::execute_in_order;
 use crate::play::play_answer;
 use crate::status::Status;
-use arena_rules::Arena;
+use arena_rules::{Arena, Roster};
+use game_trait::Tick;
 use match_file::{Cause, Match, Refused, TextFault, read_match};
 use run_recorder::MirrorLog;
 use std::alloc::Global;
@@ -52,7 +54,23 @@ pub fn answer_text(alloc: Global, form: Form, text: &[u8]) -> Result<Answer, NoM
     }
 }
 
-// The text of `order`.
+// The text of `order`, of the world after `length` ticks.
+fn ordered_text(
+    alloc: Global,
+    length: Tick,
+    world: &Arena,
+    roster: &Roster,
+) -> Result<Vec<u8>, NoMemory>
+    ensures { IfOk result (λ text. text.items ≡ block_text (codes "order ") length world.now roster.now ++ done_line) }
+{
+    let mut text = Vec::new(alloc);
+    text.extend_from_slice(b"order ")?;
+    push_block(&mut text, length, world, roster)?;
+    text.extend_from_slice(b"done\n")?;
+    Ok(text)
+}
+
+// The answer of `order`.
 #[tactic(auto, unfolding(crate::specs::Blocks::order_text))]
 fn order_answer(alloc: Global, game: Match) -> Result<Answer, NoMemory>
     ensures { IfOk result (IsAnswer (due_of_match Form.Order (Ok game))) }
@@ -60,10 +78,7 @@ fn order_answer(alloc: Global, game: Match) -> Result<Answer, NoMemory>
     let mut world = Arena::start(&game.setup);
     let mut commands = game.commands.into_vec();
     execute_in_order(&mut world, commands.as_mut_slice(), game.length);
-    let mut text = Vec::new(alloc);
-    text.extend_from_slice(b"order ")?;
-    push_block(&mut text, game.length, &world, &game.roster)?;
-    text.extend_from_slice(b"done\n")?;
+    let text = ordered_text(alloc, game.length, &world, &game.roster)?;
     Ok(Answer {
         status: Status::Complete,
         text,

@@ -15,6 +15,3 @@ mod status;
 pub use done::Done;
 pub use run::run_plain;
 pub use status::Status;
-
-#[cfg(test)]
-mod tests;

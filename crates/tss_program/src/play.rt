@@ -7,7 +7,7 @@ ghost use Rattle.sync_model.specs.Turns.{drain_bound};
 ghost use Rattle.arena_rules.specs.World.{arena_rules};
 ghost use Rattle.match_file.specs.Data.{MatchData};
 ghost use Rattle.tss_program.specs.Blocks.{block_text};
-ghost use Rattle.tss_program.specs.Play.{is_arrive, opening_mirror, played, mirror_line, copy_block, copy_blocks, final_text, play_text};
+ghost use Rattle.tss_program.specs.Play.{is_arrive, opening_mirror, played, events_text, mirror_line, copy_block, copy_blocks, final_text, play_text};
 ghost use Rattle.tss_program.specs.Due.{due_of_match};
 ghost use Rattle.tss_program.specs.Answer.{IsAnswer};
 
@@ -130,23 +130,62 @@ fn new_mirror(alloc: Global, game: &Match) -> Result<Mirror<Arena>, NoMemory>
     Mirror::new(alloc, &opening, schedule(game), room)
 }
 
+// The mirror of a match after its script and draining, which print so much.
+fn drained_mirror(
+    alloc: Global,
+    game: &Match,
+    out: &mut Vec<u8>,
+) -> Result<Mirror<Arena>, NoMemory>
+    requires { length game.now.delays ≡ 1 }
+    ensures state { IfOk result (λ mirror. mirror ≡ played game.now) }
+    ensures text { OnOk result (out.new.items ≡ out.old.items ++ events_text game.now) }
+{
+    let mut mirror = new_mirror(alloc, game)?;
+    let names = CommandNames::of(alloc, game.commands.as_slice())?;
+    make_script(&mut mirror, game, &names, out)?;
+    let turns = turns_to_drain(&mirror, &schedule(game));
+    drain_mirror(&mut mirror, 0, turns, out)?;
+    Ok(mirror)
+}
+
+// Puts the line of a drained mirror and the blocks of its copies.
+fn push_final(
+    alloc: Global,
+    out: &mut Vec<u8>,
+    number: MirrorId,
+    mirror: &Mirror<Arena>,
+    roster: &Roster,
+) -> Result<(), NoMemory>
+    ensures { OnOk result (out.new.items ≡ out.old.items ++ final_text number roster.now mirror.now) }
+{
+    push_mirror(alloc, out, number, mirror)?;
+    push_copies(alloc, out, number, mirror, roster)
+}
+
+// The log of a mirror, alone in a list.
+fn log_of<G: Game>(
+    alloc: Global,
+    number: MirrorId,
+    mirror: &Mirror<G>,
+) -> Result<Seq<MirrorLog>, NoMemory>
+    ensures { IfOk result (λ kept. kept ≡ record { mirror = number; events = mirror.now.history } ∷ []) }
+{
+    let events = Vec::from_slice(alloc, mirror.events())?;
+    let mut kept = Seq::new(alloc);
+    kept.push(MirrorLog::new(number, events))?;
+    Ok(kept)
+}
+
 /// The text of `play`, and the mirror's log.
 pub fn play_answer(alloc: Global, game: &Match) -> Result<Answer, NoMemory>
     requires { length game.now.delays ≡ 1 }
     ensures { IfOk result (IsAnswer (due_of_match Form.Play (Ok game.now))) }
 {
-    let mut mirror = new_mirror(alloc, game)?;
-    let names = CommandNames::of(alloc, game.commands.as_slice())?;
     let mut text = Vec::new(alloc);
-    make_script(&mut mirror, game, &names, &mut text)?;
-    let turns = turns_to_drain(&mirror, &schedule(game));
-    drain_mirror(&mut mirror, 0, turns, &mut text)?;
-    push_mirror(alloc, &mut text, 0, &mirror)?;
-    push_copies(alloc, &mut text, 0, &mirror, &game.roster)?;
+    let mirror = drained_mirror(alloc, game, &mut text)?;
+    push_final(alloc, &mut text, 0, &mirror, &game.roster)?;
     text.extend_from_slice(b"done\n")?;
-    let events = Vec::from_slice(alloc, mirror.events())?;
-    let mut kept = Seq::new(alloc);
-    kept.push(MirrorLog::new(0, events))?;
+    let kept = log_of(alloc, 0, &mirror)?;
     Ok(Answer {
         status: Status::Complete,
         text,

@@ -4,7 +4,7 @@ use Rattle.arena_rules.specs.Ground.{open_grid, with_wall, is_open, is_walled}
 use Rattle.arena_rules.specs.Setup.{IsLayout}
 use Rattle.arena_rules.specs.declared.face.Face.TheVariants.{E, S}
 use Rattle.arena_rules.proofs.Walls.{IsGrid-open_grid, IsGrid-with_wall}
-use Rattle.arena_rules.proofs.arena.tests.two_players.Goals as goal
+use Rattle.tss.proofs.tests.arena.two_players.Goals as goal
 
 possible : IsLayout (record { grid = with_wall (open_grid 4 2) 1 1; pickups = []; players = record { x = 0; y = 0; face = E } ∷ record { x = 2; y = 0; face = S } ∷ [] })
 unfolding is_open is_walled with_wall IsDistinct

@@ -1,7 +1,7 @@
 use Rattle.std.proofs.Common.{◌∙◌}
 use Rattle.game_trait.specs.declared.event.Event.TheVariants.{Tick, Arrive, Step}
 use Rattle.sync_model.proofs.Cases.{next-fixed}
-use Rattle.mirror_core.proofs.tests.answer.Goals as goal
+use Rattle.tss.proofs.tests.mirror.answer.Goals as goal
 
 pub returns-in-Tick : goal.returns-in-Tick
 returns-in-Tick g c = rw c.tick.ensures.state ((next-fixed c.args.mirror.now Tick).length ∙ c.requires)

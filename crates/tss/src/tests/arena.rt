@@ -1,0 +1,110 @@
+//! The arena: its ground, its players' names, and its rules.
+
+ghost use Rattle.std.specs.Prelude.{◌≡◌, length};
+
+use arena_rules::{Arena, Face, Ground, Roster, Setup, Shown, Spot};
+use arrayvec::ArrayVec;
+use game_trait::{Act, Command, Game};
+use std::alloc::Global;
+use std::test::Fail;
+use tss_io::NoMemory;
+
+// A grid of 4 by 2 cells with a wall in (1, 1), player 0 in (0, 0) to the east and player 1 in (2, 0) to the south.
+fn two_players() -> Arena
+    ensures { length result.players ≡ 2 }
+{
+    let mut ground = Ground::new(4, 2);
+    ground.wall(1, 1);
+    let mut players = ArrayVec::new();
+    players.push(Spot {
+        x: 0,
+        y: 0,
+        face: Face::E,
+    });
+    players.push(Spot {
+        x: 2,
+        y: 0,
+        face: Face::S,
+    });
+    let setup = Setup {
+        ground,
+        pickups: ArrayVec::new(),
+        players,
+    };
+    Arena::start(&setup)
+}
+
+// Whether this is the block of the arena, whose second player has no name.
+fn does_show(alloc: Global, arena: &Arena, roster: &Roster, block: &str) -> Result<bool, NoMemory> {
+    let mut out = Vec::new(alloc);
+    arena.block(roster, &mut out)?;
+    Ok(out.as_slice() == block.as_bytes())
+}
+
+const ACTS: [(u8, Act, &str); 9] = [
+    (2, Act::Go, "live ann 0 0 e 3 5 0\nlive ? 2 0 s 3 5 0\n"),
+    (0, Act::Go, "live ann 1 0 e 3 5 0\nlive ? 2 0 s 3 5 0\n"),
+    (0, Act::Go, "live ann 1 0 e 3 5 0\nlive ? 2 0 s 3 5 0\n"),
+    (1, Act::Go, "live ann 1 0 e 3 5 0\nlive ? 2 1 s 3 5 0\n"),
+    (1, Act::Go, "live ann 1 0 e 3 5 0\nlive ? 2 1 s 3 5 0\n"),
+    (0, Act::Right, "live ann 1 0 s 3 5 0\nlive ? 2 1 s 3 5 0\n"),
+    (0, Act::Go, "live ann 1 0 s 3 5 0\nlive ? 2 1 s 3 5 0\n"),
+    (0, Act::Shoot, "live ann 1 0 s 3 5 0\nlive ? 2 1 s 3 5 0\n"),
+    (1, Act::Left, "live ann 1 0 s 3 5 0\nlive ? 2 1 e 3 5 0\n"),
+];
+
+#[test]
+fn goes_and_turns(rt: HostRuntime) -> Result<(), Fail> {
+    let mut roster = Roster::new(rt.alloc())?;
+    assert!(rt; roster.add(b"ann")?);
+    let mut arena = two_players();
+    assert_eq!(rt; arena.score(1), 0);
+    let opening = arena.twin();
+    for (player, act, block) in ACTS {
+        arena.apply(&Command {
+            player,
+            act,
+            ..Command::default()
+        });
+        arena.beat();
+        assert!(rt; does_show(rt.alloc(), &arena, &roster, block)?);
+    }
+    assert_eq!(rt; arena.time(), 9);
+    arena.set_from(&opening);
+    assert_eq!(rt; arena.time(), 0);
+    Ok(())
+}
+
+#[test]
+fn tells_free_cells(rt: HostRuntime) {
+    let mut ground = Ground::new(4, 2);
+    ground.wall(3, 1);
+    assert_eq!(rt; (ground.width(), ground.height()), (4, 2));
+    for (x, y, free) in [
+        (0, 0, true),
+        (2, 1, true),
+        (3, 1, false),
+        (3, 0, true),
+        (4, 0, false),
+        (0, 2, false),
+        (-1, 0, false),
+        (0, -1, false),
+        (256, 0, false),
+    ] {
+        assert_eq!(rt; ground.free(x, y), free, "at {x} {y}");
+    }
+}
+
+#[test]
+fn takes_each_name_once(rt: HostRuntime) -> Result<(), Fail> {
+    let mut roster = Roster::new(rt.alloc())?;
+    for (name, is_added) in [("ann", true), ("bob", true), ("ann", false)] {
+        assert_eq!(rt; roster.add(name.as_bytes())?, is_added);
+    }
+    let names = (roster.name(0), roster.name(1), roster.name(2));
+    assert_eq!(rt;
+        names,
+        (Some(b"ann".as_slice()), Some(b"bob".as_slice()), None)
+    );
+    Ok(())
+}

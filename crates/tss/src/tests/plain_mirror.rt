@@ -1,0 +1,111 @@
+//! The plain mirror of the model.
+
+use super::counting_game::{LastCommand, OPENING, arrival};
+use game_trait::{Arrived, Event, Reply, Stepped, Ticked};
+use std::alloc::{AllocError, Global};
+use std::process::Abort;
+use std::test::Fail;
+use sync_model::{PlainMirror, Turned};
+
+// Makes the events that fit, and answers the last reply.
+fn make_all(
+    alloc: Global,
+    mirror: &mut PlainMirror<LastCommand>,
+    events: &[Event],
+) -> Result<Option<Reply>, AllocError> {
+    let mut reply = None;
+    for event in events {
+        if mirror.does_fit(event) {
+            reply = Some(mirror.make(alloc, event)?);
+        }
+    }
+    Ok(reply)
+}
+
+// Makes each list of events, and compares the last reply of each.
+fn answers(
+    rt: &impl Abort,
+    alloc: Global,
+    mirror: &mut PlainMirror<LastCommand>,
+    rows: &[(&[Event], Reply)],
+) -> Result<(), Fail> {
+    for (events, reply) in rows {
+        let last = make_all(alloc, mirror, events)?;
+        assert_eq!(rt; last, Some(*reply));
+    }
+    Ok(())
+}
+
+fn has_repaired_twice(mirror: &PlainMirror<LastCommand>) -> bool {
+    let leading = LastCommand {
+        number: 7,
+        beats: 5,
+    };
+    mirror.copies() == 3
+        && mirror.run_of(2).len() == 3
+        && mirror.run_of(0).starts_with(mirror.run_of(1))
+        && mirror.world(0) == leading
+        && mirror.clock() == 6
+        && mirror.accepted().len() == 1
+}
+
+#[test]
+#[tactic(auto, unfolding(sync_model::specs::Staggered::DelaysRise))]
+fn repaired_twice(rt: HostRuntime) -> Result<(), Fail> {
+    let mut mirror = PlainMirror::new(rt.alloc(), &OPENING, 8, &[0, 2, 4], 2)?;
+    let turn = [Event::Tick, Event::Step(0), Event::Step(1), Event::Step(2)];
+    for _ in 0..5 {
+        make_all(rt.alloc(), &mut mirror, &turn)?;
+    }
+    let taken = Reply::Arrive(Arrived::Taken { repaired: 1 });
+    let ran = Reply::Step(Stepped::Ran { repaired: 2 });
+    answers(
+        &rt,
+        rt.alloc(),
+        &mut mirror,
+        &[(&[arrival(1, 7)], taken), (&turn, ran)],
+    )?;
+    assert!(rt; has_repaired_twice(&mirror));
+    Ok(())
+}
+
+fn has_turned_one_away(mirror: &PlainMirror<LastCommand>) -> bool {
+    let turned = [Turned {
+        from: 0,
+        number: 8,
+        bound: 3,
+    }];
+    mirror.turned() == turned.as_slice() && mirror.spare() == 0 && mirror.events().len() == 9
+}
+
+#[test]
+#[tactic(auto, unfolding(sync_model::specs::Staggered::DelaysRise))]
+fn repeat_and_late(rt: HostRuntime) -> Result<(), Fail> {
+    let mut mirror = PlainMirror::new(rt.alloc(), &OPENING, 4, &[0], 2)?;
+    let three_turns = [
+        Event::Tick,
+        Event::Step(0),
+        Event::Tick,
+        Event::Step(0),
+        Event::Tick,
+        Event::Step(0),
+    ];
+    answers(
+        &rt,
+        rt.alloc(),
+        &mut mirror,
+        &[
+            (
+                &[arrival(2, 7)],
+                Reply::Arrive(Arrived::Taken { repaired: 0 }),
+            ),
+            (&[arrival(2, 7)], Reply::Arrive(Arrived::Repeat)),
+            (&three_turns, Reply::Step(Stepped::Ran { repaired: 0 })),
+            (&[arrival(2, 8)], Reply::Arrive(Arrived::Late { bound: 3 })),
+            (&[Event::Step(0)], Reply::Step(Stepped::Idle)),
+            (&[Event::Tick, Event::Tick], Reply::Tick(Ticked::Over)),
+        ],
+    )?;
+    assert!(rt; has_turned_one_away(&mirror));
+    Ok(())
+}
