@@ -296,14 +296,25 @@ fn does_show(
     Ok(lines.as_slice() == block.as_bytes())
 }
 
+// Whether a plain mirror along those events comes to this block.
+#[tactic(auto, unfolding(sync_model::specs::Staggered::DelaysRise))]
+fn plain_mirror_shows(
+    rt: &impl Abort,
+    alloc: Global,
+    game: &Match,
+    block: &str,
+) -> Result<bool, Fail> {
+    let opening = Arena::start(&game.setup);
+    let mut plain = PlainMirror::new(alloc, &opening, 4, &[0], 8)?;
+    makes_just_in_time(rt, alloc, &mut plain, game)?;
+    Ok(does_show(alloc, &plain, &game.roster, block)?)
+}
+
 // The plain mirror, along the events of the match that is just in time, comes to the world that `play` shows.
 #[test]
-#[tactic(auto, unfolding(sync_model::specs::Staggered::DelaysRise))]
 fn plain_mirror_agrees_on_the_arena(rt: HostRuntime) -> Result<(), Fail> {
     let game = read_match(rt.alloc(), JUST_IN_TIME.as_bytes())?;
-    let opening = Arena::start(&game.setup);
-    let mut plain = PlainMirror::new(rt.alloc(), &opening, 4, &[0], 8)?;
-    makes_just_in_time(&rt, rt.alloc(), &mut plain, &game)?;
-    assert!(rt; does_show(rt.alloc(), &plain, &game.roster, "live ann 1 0 e 3 5 0\n")?);
+    let is_shown = plain_mirror_shows(&rt, rt.alloc(), &game, "live ann 1 0 e 3 5 0\n")?;
+    assert!(rt; is_shown);
     Ok(())
 }
