@@ -59,7 +59,8 @@ fn push_copy(
 {
     let head = format!(in alloc; "world {number} {copy} ")?;
     out.extend_from_slice(head.as_bytes())?;
-    push_block(out, mirror.copy_clock(copy), mirror.world(copy), roster)?;
+    let world = mirror.world(copy);
+    push_block(out, mirror.copy_clock(copy), world, roster)?;
     Ok(())
 }
 

@@ -7,4 +7,4 @@ pub returns : goal.returns
 unfolding copy_block
 returns c =
     c.in_ok-push_block.ensures
-    ∙ rw (c.in_ok-extend_from_slice.ensures.items, c.as_bytes.ensures.value, c.in_ok-head.ensures.ok, c.copy_clock.ensures, c.world.ensures) (block_text-behind _ _ _ _ _)
+    ∙ rw (c.in_ok-extend_from_slice.ensures.items, c.as_bytes.ensures.value, c.in_ok-head.ensures.ok, c.copy_clock.ensures, c.world-world.ensures) (block_text-behind _ _ _ _ _)
