@@ -83,3 +83,12 @@ GainsFront-next names ps i d old mid new within so_far gained =
       gained.1 ∙ rw so_far (append_assoc old _ _),
       (gained.2.0 ++ cut.0, cut.1 ∙ rw (e, gained.2.1) (simp append_assoc refl)),
     )
+
+-- the words of a line so far, and the next one behind its space
+pub words-next : {W : Type 0} (bytes : W → List ℕ) (first : List ℕ) (words : List W) (i : ℕ) (d : W) (old mid spaced new : List ℕ) → i < length words → mid ≡ old ++ (first ++ behind_spaces bytes (take i words)) → spaced ≡ mid ++ 32 ∷ [] → new ≡ spaced ++ bytes (get_or words i d) → new ≡ old ++ (first ++ behind_spaces bytes (take (i + 1) words))
+words-next bytes first words i d old mid spaced new within so_far space next =
+    next ∙ rw (space, so_far, (take_at_read words i d within).1, flat_map-append (λ w. 32 ∷ bytes w) (take i words) (get_or words i d ∷ [])) (simp (append_assoc, append-nil) refl)
+
+-- no part of a line
+pub GainsFront-nothing : (old lines new : List ℕ) → new ≡ old → GainsFront old lines new
+GainsFront-nothing old lines new same = ([], same ∙ sym (append-nil old), (lines, refl))

@@ -72,7 +72,6 @@ impl Ground {
         x < self.width && y < self.height && !self.is_walled(x, y)
     }
 
-    #[tactic(auto, using(std::proofs::lemmas::Nat::Bits::shr_and_one), unfolding(crate::specs::Ground::is_walled))]
     fn is_walled(&self, x: u8, y: u8) -> bool
         requires column { x < self.now.width }
         requires row { y < self.now.height }

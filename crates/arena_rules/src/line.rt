@@ -17,10 +17,9 @@ impl Word<'_> {
         ensures err { OnErr result (out.new.items ≡ out.old.items) }
     {
         match *self {
-            Word::Text(text) => out.extend_from_slice(text)?,
-            Word::Number(number) => push_decimal(out, i128::from(number))?,
+            Word::Text(text) => Ok(out.extend_from_slice(text)?),
+            Word::Number(number) => push_decimal(out, i128::from(number)),
         }
-        Ok(())
     }
 }
 

@@ -8,7 +8,7 @@ use crate::spot::Spot;
 use tss_io::NoMemory;
 
 /// A player of the arena.
-#[derive(Clone, Copy, Debug, Default, PartialEq, Eq)]
+#[derive(Clone, Copy, Debug, Default)]
 pub struct Player {
     /// Where the player stands.
     pub spot: Spot,
