@@ -1,7 +1,7 @@
 //! The lines up to the pace: how long the match is, its grid, its mirrors and their delays. No call takes memory.
 
 ghost use Rattle.std.specs.Prelude.{◌≡◌, ◌≤◌, ◌<◌, length, IfOk};
-ghost use Rattle.match_file.specs.Lines.{lines_of, words_of};
+ghost use Rattle.match_file.specs.Lines.{lines_of};
 ghost use Rattle.match_file.specs.Reading.{Answers, head_at, number_at, grid_at, opening_at};
 
 use crate::fault::Refused;
@@ -36,11 +36,10 @@ pub struct Opening {
 fn read_head(text: &[u8]) -> Result<&[u8], Refused>
     ensures { Answers (λ x. lines_of x.now) result (head_at (lines_of text.now)) }
 {
-    let (line, rest) = words::next_line(text)?;
-    if line != b"tss match 1".as_slice() {
-        return Err(SHAPE);
+    match words::next_line(text) {
+        Some((line, rest)) if line == b"tss match 1".as_slice() => Ok(rest),
+        _ => Err(SHAPE),
     }
-    Ok(rest)
 }
 
 // The number of a line that is the keyword and one number, from least to most, and the text behind the line.
@@ -54,10 +53,12 @@ fn read_number<'a>(
     ensures read { Answers (λ x. (x.0, lines_of x.1.now)) result (number_at keyword.now least most (lines_of text.now)) }
     ensures range { IfOk result (λ x. (least ≤ x.0) × (x.0 ≤ most)) }
 {
-    let (line, rest) = words::next_line(text)?;
-    let words = words::words_behind(keyword, line)?;
-    let word = words::last(words)?;
-    let number = words::number(least, most, word)?;
+    let Some((words, rest)) = words::keyword_line(keyword, text) else {
+        return Err(SHAPE);
+    };
+    let Some(number) = words::last_number(least, most, words) else {
+        return Err(SHAPE);
+    };
     Ok((number, rest))
 }
 
@@ -68,13 +69,20 @@ fn read_grid(text: &[u8]) -> Result<(Sides, &[u8]), Refused>
     ensures width { IfOk result (λ x. (3 ≤ x.0.width) × (x.0.width ≤ 64)) }
     ensures height { IfOk result (λ x. (1 ≤ x.0.height) × (x.0.height ≤ 64)) }
 {
-    let (line, rest) = words::next_line(text)?;
-    let words = words::words_behind(b"grid", line)?;
-    let (width, words) = words::front(words)?;
-    let height = words::last(words)?;
-    let width = words::number(3, 64, width)? as u8;
-    let height = words::number(1, 64, height)? as u8;
-    Ok((Sides { width, height }, rest))
+    let Some((words, rest)) = words::keyword_line(b"grid", text) else {
+        return Err(SHAPE);
+    };
+    let Some((width, words)) = words::front_number(3, 64, words) else {
+        return Err(SHAPE);
+    };
+    let Some(height) = words::last_number(1, 64, words) else {
+        return Err(SHAPE);
+    };
+    let sides = Sides {
+        width: width as u8,
+        height: height as u8,
+    };
+    Ok((sides, rest))
 }
 
 /// What the lines up to the pace say, and the text behind them.
