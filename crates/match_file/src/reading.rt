@@ -1,20 +1,22 @@
 ghost use Rattle.std.specs.Prelude.{◌≡◌, ◌≤◌, length, [], ◌∷◌, Ok, IfOk, IfErr};
 ghost use Rattle.arena_rules.specs.Ground.{open_grid};
 ghost use Rattle.match_file.specs.Lines.{lines_of};
-ghost use Rattle.match_file.specs.Data.{MatchData, IsPlain};
+ghost use Rattle.match_file.specs.Data.{MatchData, IsMatch, IsPlain};
 ghost use Rattle.match_file.specs.Text.{match_text};
 ghost use Rattle.match_file.specs.Reading.{Gives, IsShape, player_seen, plain_match, read_text};
 
 use crate::commands::read_commands;
 use crate::fault::TextFault;
 use crate::game_match::Match;
-use crate::opening::{Sides, read_opening};
-use crate::player::read_player;
+use crate::opening::{Opening, Sides, read_opening};
+use crate::player::{Player, read_player};
 use crate::script::read_script;
+use crate::script_line::ScriptLine;
 use arena_rules::{Ground, Roster, Setup, Spot};
 use arrayvec::ArrayVec;
+use game_trait::Command;
 use std::alloc::Global;
-use tss_io::NoMemory;
+use tss_io::{NoMemory, Seq};
 
 // The roster of the one name.
 fn roster_of(alloc: Global, name: &[u8]) -> Result<Roster, NoMemory>
@@ -42,6 +44,32 @@ fn setup_of(sides: Sides, home: Spot) -> Setup
     }
 }
 
+// The match of these parts.
+fn plain_match(
+    opening: Opening,
+    player: Player<'_>,
+    roster: Roster,
+    commands: Seq<Command>,
+    script: Seq<ScriptLine>,
+) -> Match
+    requires named { roster ≡ player.name.now ∷ [] }
+    requires sound { IsMatch (plain_match opening (player_seen player) commands script) }
+    ensures { result ≡ plain_match opening (player_seen player.entry) commands script }
+{
+    let mut delays = ArrayVec::new();
+    delays.push(opening.delay);
+    Match {
+        length: opening.length,
+        mirrors: opening.mirrors,
+        delays,
+        pace: opening.pace,
+        setup: setup_of(opening.sides, player.home),
+        roster,
+        commands,
+        script,
+    }
+}
+
 // The match that the text says.
 #[tactic(auto, unfolding(crate::specs::Reading::read_text, crate::specs::Reading::match_at))]
 fn match_of(alloc: Global, text: &[u8]) -> Result<Match, TextFault>
@@ -52,18 +80,7 @@ fn match_of(alloc: Global, text: &[u8]) -> Result<Match, TextFault>
     let roster = roster_of(alloc, player.name)?;
     let (commands, rest) = read_commands(alloc, opening.length, rest)?;
     let script = read_script(alloc, &commands, rest)?;
-    let mut delays = ArrayVec::new();
-    delays.push(opening.delay);
-    Ok(Match {
-        length: opening.length,
-        mirrors: opening.mirrors,
-        delays,
-        pace: opening.pace,
-        setup: setup_of(opening.sides, player.home),
-        roster,
-        commands: commands.into_seq(),
-        script,
-    })
+    Ok(plain_match(opening, player, roster, commands.into_seq(), script))
 }
 
 /// Reads a match text (this project's own form). Now it reads the plain form: one mirror, one delay, one player, no walls

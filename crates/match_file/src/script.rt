@@ -176,8 +176,8 @@ pub fn read_script(
     ensures { Gives (λ x. x) result (closing_at commands.now (lines_of text.now)) }
 {
     match words::next_line(text) {
-        Some((b"end", rest)) if at_end(rest) => Ok(Seq::new(alloc)),
-        Some((b"script", rest)) => read_lines(alloc, commands, rest),
+        Some((line, rest)) if line == b"end".as_slice() && at_end(rest) => Ok(Seq::new(alloc)),
+        Some((line, rest)) if line == b"script".as_slice() => read_lines(alloc, commands, rest),
         _ => Err(TextFault::Refused(SHAPE)),
     }
 }
