@@ -9,7 +9,7 @@ use Rattle.match_file.specs.declared.script_line.ScriptLine.TheVariants.{Tick, T
 use Rattle.match_file.specs.Lines.{words_of, spaced}
 use Rattle.match_file.specs.Names.{has_command}
 use Rattle.match_file.specs.Text.{tick_word, turn_word, arrive_word, step_word, script_line}
-use Rattle.match_file.specs.Reading.{shape, front_at, last_at, tick_at, turn_at, arrive_at, step_at, kind_at, script_line_at}
+use Rattle.match_file.specs.Reading.{shape, front_at, tick_at, turn_at, arrive_at, step_at, kind_at, script_line_at}
 use Rattle.match_file.proofs.Spaced.{IsWord, AreWords, words_of-spaced, spaced-words_of}
 use Rattle.match_file.proofs.LineLaws.{through, same_words, front_takes, front_number_takes, front_number_again, last_number_takes, last_number_again, spaced_short, IsKeyword, number_word}
 use Rattle.match_file.proofs.CommandTexts.{either}
