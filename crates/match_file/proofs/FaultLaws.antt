@@ -13,7 +13,7 @@ use Rattle.match_file.specs.declared.opening.Sides.{Sides}
 use Rattle.match_file.specs.declared.script_line.ScriptLine.{ScriptLine}
 use Rattle.match_file.specs.Lines.{Lines, torn, line, words_of, lines_of}
 use Rattle.match_file.specs.Text.{script_word, end_word, face_word, act_word}
-use Rattle.match_file.specs.Reading.{IsShape, Fails, shape, line_at, front_at, last_at, behind, at_least, number_in, head_at, number_at, grid_at, opening_at, face_of, player_words, player_at, act_of, command_words, command_at, added, is_closing, commands_at, tick_at, turn_at, arrive_at, step_at, kind_at, script_line_at, lengthened, is_end, script_at, closing_at, match_at, read_text}
+use Rattle.match_file.specs.Reading.{IsShape, Fails, shape, line_at, front_at, last_at, behind, at_least, number_in, front_number_in, last_number_in, keyword_line_at, head_at, number_at, grid_at, opening_at, face_of, player_at, act_of, command_at, added, is_closing, commands_at, tick_at, turn_at, arrive_at, step_at, kind_at, script_line_at, lengthened, is_end, script_at, closing_at, match_at, read_text}
 
 -- where there is a fault it is this one
 pub record OnlyShape {A : Type 0} (r : Result A Refused) : Type 0 where
@@ -58,6 +58,18 @@ number_shape : (least most : ℕ) (word : List ℕ) → OnlyShape (number_in lea
 unfolding number_in
 number_shape least most word = elim (number_of word most) as (λ o. OnlyShape (at_least least o)) [ None ↦ refused | Some n ↦ either (ltb n least) _ _ refused read ]
 
+front_number_shape : (least most : ℕ) (words : List (List ℕ)) → OnlyShape (front_number_in least most words)
+unfolding front_number_in
+front_number_shape least most words = bind _ _ (front_shape words) (λ front. bind _ _ (number_shape least most front.0) (λ n. read))
+
+last_number_shape : (least most : ℕ) (words : List (List ℕ)) → OnlyShape (last_number_in least most words)
+unfolding last_number_in
+last_number_shape least most words = bind _ _ (last_shape words) (number_shape least most)
+
+keyword_line_shape : (keyword : List ℕ) (lines : Lines) → OnlyShape (keyword_line_at keyword lines)
+unfolding keyword_line_at
+keyword_line_shape keyword lines = bind _ _ (line_shape lines) (λ l. bind _ _ (behind_shape keyword l.0) (λ words. read))
+
 head_shape : (lines : Lines) → OnlyShape (head_at lines)
 unfolding head_at
 head_shape lines = bind _ _ (line_shape lines) (λ l. either _ _ _ read refused)
@@ -65,12 +77,12 @@ head_shape lines = bind _ _ (line_shape lines) (λ l. either _ _ _ read refused)
 number_line_shape : (keyword : List ℕ) (least most : ℕ) (lines : Lines) → OnlyShape (number_at keyword least most lines)
 unfolding number_at
 number_line_shape keyword least most lines =
-    bind _ _ (line_shape lines) (λ l. bind _ _ (behind_shape keyword l.0) (λ words. bind _ _ (last_shape words) (λ word. bind _ _ (number_shape least most word) (λ n. read))))
+    bind _ _ (keyword_line_shape keyword lines) (λ l. bind _ _ (last_number_shape least most l.0) (λ n. read))
 
 grid_shape : (lines : Lines) → OnlyShape (grid_at lines)
 unfolding grid_at
 grid_shape lines =
-    bind _ _ (line_shape lines) (λ l. bind _ _ (behind_shape _ l.0) (λ words. bind _ _ (front_shape words) (λ width. bind _ _ (last_shape width.1) (λ height. bind _ _ (number_shape 3 64 width.0) (λ columns. bind _ _ (number_shape 1 64 height) (λ rows. read))))))
+    bind _ _ (keyword_line_shape _ lines) (λ l. bind _ _ (front_number_shape 3 64 l.0) (λ width. bind _ _ (last_number_shape 1 64 width.1) (λ height. read)))
 
 opening_shape : (lines : Lines) → OnlyShape (opening_at lines)
 unfolding opening_at
@@ -87,29 +99,19 @@ unfolding face_of
 face_shape word =
     chosen (bytes_eq word (face_word N)) N _ (chosen (bytes_eq word (face_word E)) E _ (chosen (bytes_eq word (face_word S)) S _ (chosen (bytes_eq word (face_word W)) W _ refused)))
 
-player_words_shape : (l : List ℕ) → OnlyShape (player_words l)
-unfolding player_words
-player_words_shape l =
-    bind _ _ (behind_shape _ l) (λ words. bind _ _ (front_shape words) (λ name. bind _ _ (front_shape name.1) (λ x. bind _ _ (front_shape x.1) (λ y. bind _ _ (last_shape y.1) (λ word. bind _ _ (face_shape word) (λ face. read))))))
-
 player_shape : (sides : Sides) (lines : Lines) → OnlyShape (player_at sides lines)
 unfolding player_at
 player_shape sides lines =
-    bind _ _ (line_shape lines) (λ l. bind _ _ (player_words_shape l.0) (λ words. bind _ _ (number_shape 0 _ words.x) (λ x. bind _ _ (number_shape 0 _ words.y) (λ y. either _ _ _ read refused))))
+    bind _ _ (keyword_line_shape _ lines) (λ l. bind _ _ (front_shape l.0) (λ name. bind _ _ (front_number_shape 0 _ name.1) (λ x. bind _ _ (front_number_shape 0 _ x.1) (λ y. bind _ _ (last_shape y.1) (λ word. bind _ _ (face_shape word) (λ face. either _ _ _ read refused))))))
 
 act_shape : (word : List ℕ) → OnlyShape (act_of word)
 unfolding act_of
 act_shape word = chosen (bytes_eq word (act_word Go)) Go _ (chosen (bytes_eq word (act_word Left)) Left _ (chosen (bytes_eq word (act_word Right)) Right _ refused))
 
-command_words_shape : (l : List ℕ) → OnlyShape (command_words l)
-unfolding command_words
-command_words_shape l =
-    bind _ _ (behind_shape _ l) (λ words. bind _ _ (front_shape words) (λ time. bind _ _ (front_shape time.1) (λ from. bind _ _ (front_shape from.1) (λ number. bind _ _ (front_shape number.1) (λ player. bind _ _ (last_shape player.1) (λ word. bind _ _ (act_shape word) (λ act. read)))))))
-
 command_shape : (ticks : ℕ) (l : List ℕ) → OnlyShape (command_at ticks l)
 unfolding command_at
 command_shape ticks l =
-    bind _ _ (command_words_shape l) (λ words. bind _ _ (number_shape 0 _ words.time) (λ time. bind _ _ (number_shape 0 _ words.from) (λ from. bind _ _ (number_shape 0 _ words.number) (λ number. bind _ _ (number_shape 0 _ words.player) (λ player. read)))))
+    bind _ _ (behind_shape _ l) (λ words. bind _ _ (front_number_shape 0 _ words) (λ time. bind _ _ (front_number_shape 0 _ time.1) (λ from. bind _ _ (front_number_shape 0 _ from.1) (λ number. bind _ _ (front_number_shape 0 _ number.1) (λ player. bind _ _ (last_shape player.1) (λ word. bind _ _ (act_shape word) (λ act. read)))))))
 
 added_shape : (xs : List Command) (x : Command) → OnlyShape (added xs x)
 unfolding added
@@ -123,21 +125,21 @@ commands_shape ticks so_far (line l rest) =
 
 tick_shape : (words : List (List ℕ)) → OnlyShape (tick_at words)
 unfolding tick_at
-tick_shape words = bind _ _ (last_shape words) (λ word. bind _ _ (number_shape 0 0 word) (λ mirror. read))
+tick_shape words = bind _ _ (last_number_shape 0 0 words) (λ mirror. read)
 
 turn_shape : (words : List (List ℕ)) → OnlyShape (turn_at words)
 unfolding turn_at
-turn_shape words = bind _ _ (last_shape words) (λ word. bind _ _ (number_shape 0 0 word) (λ mirror. read))
+turn_shape words = bind _ _ (last_number_shape 0 0 words) (λ mirror. read)
 
 arrive_shape : (commands : List Command) (words : List (List ℕ)) → OnlyShape (arrive_at commands words)
 unfolding arrive_at
 arrive_shape commands words =
-    bind _ _ (front_shape words) (λ first. bind _ _ (front_shape first.1) (λ second. bind _ _ (last_shape second.1) (λ third. bind _ _ (number_shape 0 0 first.0) (λ mirror. bind _ _ (number_shape 0 0 second.0) (λ from. bind _ _ (number_shape 0 _ third) (λ number. either _ _ _ read refused))))))
+    bind _ _ (front_number_shape 0 0 words) (λ mirror. bind _ _ (front_number_shape 0 0 mirror.1) (λ from. bind _ _ (last_number_shape 0 _ from.1) (λ number. either _ _ _ read refused)))
 
 step_shape : (words : List (List ℕ)) → OnlyShape (step_at words)
 unfolding step_at
 step_shape words =
-    bind _ _ (front_shape words) (λ first. bind _ _ (last_shape first.1) (λ second. bind _ _ (number_shape 0 0 first.0) (λ mirror. bind _ _ (number_shape 0 0 second) (λ copy. read))))
+    bind _ _ (front_number_shape 0 0 words) (λ mirror. bind _ _ (last_number_shape 0 0 mirror.1) (λ copy. read))
 
 kind_shape : (commands : List Command) (word : List ℕ) (words : List (List ℕ)) → OnlyShape (kind_at commands word words)
 unfolding kind_at

@@ -20,7 +20,7 @@ use Rattle.match_file.specs.declared.opening.Sides.{Sides}
 use Rattle.match_file.specs.Lines.{Lines, torn, line, words_of, spaced}
 use Rattle.match_file.specs.Names.{is_name}
 use Rattle.match_file.specs.Text.{length_word, grid_word, mirrors_word, delays_word, pace_word, player_word, command_word, head_words, face_word, act_word, player_line, command_line}
-use Rattle.match_file.specs.Reading.{shape, line_at, front_at, last_at, behind, at_least, number_in, head_at, number_at, grid_at, opening_at, face_of, NamedPlace, player_words, PlayerData, player_at, act_of, CommandParts, command_words, command_at}
+use Rattle.match_file.specs.Reading.{shape, line_at, front_at, last_at, behind, at_least, number_in, front_number_in, last_number_in, keyword_line_at, head_at, number_at, grid_at, opening_at, face_of, PlayerData, player_at, act_of, command_at}
 use Rattle.match_file.proofs.Spaced.{IsWord, AreWords, words_of-spaced, spaced-words_of, IsWord-decimal, IsWord-name, length-name}
 
 pub same_words : (a b : List ℕ) → bytes_eq a b ≡ true → a ≡ b
@@ -110,17 +110,56 @@ through r f y e next = let b = bind_ok r f y e in next b.0 b.1 b.2
 pub same_pairs : {A B : Type 0} (a x : A) (b y : B) → two a b ≡ two x y → (a ≡ x) × (b ≡ y)
 same_pairs {A = A} {B = B} a x b y e = let f : ◌≡◌ {A = A × B} (a, b) (x, y) = cc in (ap (λ p. p.0) f, ap (λ p. p.1) f)
 
+pub front_number_takes : (least most : ℕ) (words more : List (List ℕ)) (n : ℕ) → front_number_in least most words ≡ Ok (n, more) → (words ≡ decimal n ∷ more) × (least ≤ n) × (n ≤ most)
+unfolding front_number_in
+front_number_takes least most words more n e =
+    through _ _ _ e (λ front front_is e. through _ _ _ e (λ m m_is e.
+    let a = front_takes words front front_is in
+    let b = number_takes least most front.0 m m_is in
+    let f = same_pairs m n front.1 more e in
+    (cc, omega (arith, b.1, f.0), omega (arith, b.2, f.0))))
+
+pub front_number_again : (least most n : ℕ) (next : List ℕ) (more : List (List ℕ)) → least ≤ n → n ≤ most → most < 2 ^ 64
+    → front_number_in least most (decimal n ∷ next ∷ more) ≡ Ok (n, next ∷ more)
+unfolding front_number_in front_at
+front_number_again least most n next more low high small = then _ _ _ _ (number_again least most n low high small) refl
+
+pub last_number_takes : (least most : ℕ) (words : List (List ℕ)) (n : ℕ) → last_number_in least most words ≡ Ok n → (words ≡ decimal n ∷ []) × (least ≤ n) × (n ≤ most)
+unfolding last_number_in
+last_number_takes least most words n e =
+    through _ _ _ e (λ word word_is e.
+    let a = last_takes words word word_is in
+    let b = number_takes least most word n e in
+    (cc, b.1, b.2))
+
+pub last_number_again : (least most n : ℕ) → least ≤ n → n ≤ most → most < 2 ^ 64 → last_number_in least most (decimal n ∷ []) ≡ Ok n
+unfolding last_number_in last_at
+last_number_again least most n low high small = number_again least most n low high small
+
+pub keyword_line_takes : (keyword : List ℕ) (lines rest : Lines) (words : List (List ℕ)) → keyword_line_at keyword lines ≡ Ok (words, rest) → lines ≡ line (spaced (keyword ∷ words)) rest
+unfolding keyword_line_at
+keyword_line_takes keyword lines rest words e =
+    through _ _ _ e (λ l l_is e. through _ _ _ e (λ ws ws_is e.
+    let a = line_takes lines l l_is in
+    let b = behind_takes keyword l.0 ws ws_is in
+    let f = same_pairs ws words l.1 rest e in
+    cc))
+
+pub keyword_line_again : (keyword next : List ℕ) (words : List (List ℕ)) (rest : Lines) → AreWords (keyword ∷ next ∷ words) → length (spaced (keyword ∷ next ∷ words)) ≤ 120
+    → keyword_line_at keyword (line (spaced (keyword ∷ next ∷ words)) rest) ≡ Ok (next ∷ words, rest)
+unfolding keyword_line_at
+keyword_line_again keyword next words rest fit short =
+    then _ _ _ _ (line_again (spaced (keyword ∷ next ∷ words)) rest short) (then _ _ _ _ (behind_again keyword next words fit) refl)
+
 pub number_line_takes : (keyword : List ℕ) (least most : ℕ) (lines : Lines) (n : ℕ) (rest : Lines) → number_at keyword least most lines ≡ Ok (n, rest)
     → (lines ≡ line (spaced (keyword ∷ decimal n ∷ [])) rest) × (least ≤ n) × (n ≤ most)
 unfolding number_at
 number_line_takes keyword least most lines n rest e =
-    through _ _ _ e (λ l l_is e. through _ _ _ e (λ words words_is e. through _ _ _ e (λ word word_is e. through _ _ _ e (λ m m_is e.
-    let a = line_takes lines l l_is in
-    let b = behind_takes keyword l.0 words words_is in
-    let c = last_takes words word word_is in
-    let d = number_takes least most word m m_is in
+    through _ _ _ e (λ l l_is e. through _ _ _ e (λ m m_is e.
+    let a = keyword_line_takes keyword lines l.1 l.0 l_is in
+    let d = last_number_takes least most l.0 m m_is in
     let f = same_pairs m n l.1 rest e in
-    (cc, omega (arith, d.1, f.0), omega (arith, d.2, f.0))))))
+    (cc, omega (arith, d.1, f.0), omega (arith, d.2, f.0))))
 
 -- ---- the length of a line of words
 
@@ -178,13 +217,11 @@ number_word n small = IsWord-decimal n (omega arith)
 
 pub number_line_again : (keyword : List ℕ) (least most n : ℕ) (rest : Lines) → IsKeyword keyword → least ≤ n → n ≤ most → most < 2 ^ 32
     → number_at keyword least most (line (spaced (keyword ∷ decimal n ∷ [])) rest) ≡ Ok (n, rest)
-unfolding number_at last_at
+unfolding number_at
 number_line_again keyword least most n rest k low high small =
     let fit : AreWords (keyword ∷ decimal n ∷ []) = (k.fits, (number_word n (omega arith), tt)) in
     let short : length (spaced (keyword ∷ decimal n ∷ [])) ≤ 120 = omega (arith, spaced_short (keyword ∷ decimal n ∷ []), k.short, short_number n (omega arith)) in
-    then _ _ _ _ (line_again (spaced (keyword ∷ decimal n ∷ [])) rest short)
-    (then _ _ _ _ (behind_again keyword (decimal n) [] fit)
-    (then _ _ _ _ (number_again least most n low high (omega arith)) refl))
+    then _ _ _ _ (keyword_line_again keyword (decimal n) [] rest fit short) (then _ _ _ _ (last_number_again least most n low high (omega arith)) refl)
 
 -- ---- the grid
 
@@ -192,31 +229,27 @@ pub grid_takes : (lines : Lines) (sides : Sides) (rest : Lines) → grid_at line
     → (lines ≡ line (spaced (grid_word ∷ decimal sides.width ∷ decimal sides.height ∷ [])) rest) × (3 ≤ sides.width) × (sides.width ≤ 64) × (1 ≤ sides.height) × (sides.height ≤ 64)
 unfolding grid_at
 grid_takes lines sides rest e =
-    through _ _ _ e (λ l l_is e. through _ _ _ e (λ words words_is e. through _ _ _ e (λ width width_is e. through _ _ _ e (λ height height_is e. through _ _ _ e (λ columns columns_is e. through _ _ _ e (λ rows rows_is e.
-    let a = line_takes lines l l_is in
-    let b = behind_takes grid_word l.0 words words_is in
-    let c = front_takes words width width_is in
-    let d = last_takes width.1 height height_is in
-    let w = number_takes 3 64 width.0 columns columns_is in
-    let h = number_takes 1 64 height rows rows_is in
-    let made : Sides = record { width = columns; height = rows } in
+    through _ _ _ e (λ l l_is e. through _ _ _ e (λ width width_is e. through _ _ _ e (λ height height_is e.
+    let a = keyword_line_takes grid_word lines l.1 l.0 l_is in
+    let w = front_number_takes 3 64 l.0 width.1 width.0 width_is in
+    let h = last_number_takes 1 64 width.1 height height_is in
+    let made : Sides = record { width = width.0; height = height } in
     let f = same_pairs made sides l.1 rest e in
-    let fw : columns ≡ sides.width = ap (λ (s : Sides). s.width) f.0 in
-    let fh : rows ≡ sides.height = ap (λ (s : Sides). s.height) f.0 in
-    (cc, omega (arith, w.1, fw), omega (arith, w.2, fw), omega (arith, h.1, fh), omega (arith, h.2, fh))))))))
+    let fw : width.0 ≡ sides.width = ap (λ (s : Sides). s.width) f.0 in
+    let fh : height ≡ sides.height = ap (λ (s : Sides). s.height) f.0 in
+    (cc, omega (arith, w.1, fw), omega (arith, w.2, fw), omega (arith, h.1, fh), omega (arith, h.2, fh)))))
 
 pub grid_again : (sides : Sides) (rest : Lines) → 3 ≤ sides.width → sides.width ≤ 64 → 1 ≤ sides.height → sides.height ≤ 64
     → grid_at (line (spaced (grid_word ∷ decimal sides.width ∷ decimal sides.height ∷ [])) rest) ≡ Ok (sides, rest)
-unfolding grid_at front_at last_at
+unfolding grid_at
 grid_again sides rest wide narrow high low =
     let w : ℕ = sides.width in
     let h : ℕ = sides.height in
     let fit : AreWords (grid_word ∷ decimal w ∷ decimal h ∷ []) = (grid_keyword.fits, (number_word w (omega arith), (number_word h (omega arith), tt))) in
     let short : length (spaced (grid_word ∷ decimal w ∷ decimal h ∷ [])) ≤ 120 = omega (arith, spaced_short (grid_word ∷ decimal w ∷ decimal h ∷ []), grid_keyword.short, short_number w (omega arith), short_number h (omega arith)) in
-    then _ _ _ _ (line_again (spaced (grid_word ∷ decimal w ∷ decimal h ∷ [])) rest short)
-    (then _ _ _ _ (behind_again grid_word (decimal w) (decimal h ∷ []) fit)
-    (then _ _ _ _ (number_again 3 64 w wide narrow (lit< tt))
-    (then _ _ _ _ (number_again 1 64 h high low (lit< tt)) refl)))
+    then _ _ _ _ (keyword_line_again grid_word (decimal w) (decimal h ∷ []) rest fit short)
+    (then _ _ _ _ (front_number_again 3 64 w (decimal h) [] wide narrow (lit< tt))
+    (then _ _ _ _ (last_number_again 1 64 h high low (lit< tt)) refl))
 
 -- ---- words that name a value
 
@@ -265,20 +298,6 @@ act_fits Shoot = (refl, lit≤ tt)
 
 -- ---- a player's line
 
-words_of_player_take : (l : List ℕ) (p : NamedPlace) → player_words l ≡ Ok p → l ≡ spaced (player_word ∷ p.name ∷ p.x ∷ p.y ∷ face_word p.face ∷ [])
-unfolding player_words
-words_of_player_take l p e =
-    through _ _ _ e (λ words words_is e. through _ _ _ e (λ name name_is e. through _ _ _ e (λ x x_is e. through _ _ _ e (λ y y_is e. through _ _ _ e (λ word word_is e. through _ _ _ e (λ face face_is e.
-    let a = behind_takes player_word l words words_is in
-    let b = front_takes words name name_is in
-    let c = front_takes name.1 x x_is in
-    let d = front_takes x.1 y y_is in
-    let f = last_takes y.1 word word_is in
-    let g = face_takes word face face_is in
-    let made : NamedPlace = record { name = name.0; x = x.0; y = y.0; face = face } in
-    let same : made ≡ p = cc in
-    subst (λ (q : NamedPlace). l ≡ spaced (player_word ∷ q.name ∷ q.x ∷ q.y ∷ face_word q.face ∷ [])) same cc))))))
-
 -- a player with a name, in the grid
 pub record IsPlaced (sides : Sides) (p : PlayerData) : Type 0 where
   pub name : is_name p.name ≡ true
@@ -289,18 +308,20 @@ pub player_takes : (sides : Sides) (lines : Lines) (p : PlayerData) (rest : Line
     → (lines ≡ line (spaced (player_line p.name p.home)) rest) × IsPlaced sides p
 unfolding player_at
 player_takes sides lines p rest e =
-    through _ _ _ e (λ l l_is e. through _ _ _ e (λ words words_is e. through _ _ _ e (λ x x_is e. through _ _ _ e (λ y y_is e.
-    let made : PlayerData = record { name = words.name; home = record { x = x; y = y; face = words.face } } in
-    let g = unless_ok (is_name words.name && (ltb x sides.width && ltb y sides.height)) shape (made, l.1) (p, rest) e in
-    let named = and_parts (is_name words.name) (ltb x sides.width && ltb y sides.height) g.0 in
-    let inside = and_parts (ltb x sides.width) (ltb y sides.height) named.1 in
-    let a = line_takes lines l l_is in
-    let b = words_of_player_take l.0 words words_is in
-    let c = number_takes 0 (2 ^ 32 - 1) words.x x x_is in
-    let d = number_takes 0 (2 ^ 32 - 1) words.y y y_is in
+    through _ _ _ e (λ l l_is e. through _ _ _ e (λ name name_is e. through _ _ _ e (λ x x_is e. through _ _ _ e (λ y y_is e. through _ _ _ e (λ word word_is e. through _ _ _ e (λ face face_is e.
+    let made : PlayerData = record { name = name.0; home = record { x = x.0; y = y.0; face = face } } in
+    let g = unless_ok (is_name name.0 && (ltb x.0 sides.width && ltb y.0 sides.height)) shape (made, l.1) (p, rest) e in
+    let named = and_parts (is_name name.0) (ltb x.0 sides.width && ltb y.0 sides.height) g.0 in
+    let inside = and_parts (ltb x.0 sides.width) (ltb y.0 sides.height) named.1 in
+    let a = keyword_line_takes player_word lines l.1 l.0 l_is in
+    let b = front_takes l.0 name name_is in
+    let c = front_number_takes 0 (2 ^ 32 - 1) name.1 x.1 x.0 x_is in
+    let d = front_number_takes 0 (2 ^ 32 - 1) x.1 y.1 y.0 y_is in
+    let f = last_takes y.1 word word_is in
+    let h = face_takes word face face_is in
     let whole : lines ≡ line (spaced (player_line made.name made.home)) l.1 = cc in
     subst (λ (q : PlayerData × Lines). (lines ≡ line (spaced (player_line q.0.name q.0.home)) q.1) × IsPlaced sides q.0) g.1
-    (whole, record { name = named.0; column = ltb-true _ _ inside.0; row = ltb-true _ _ inside.1 })))))
+    (whole, record { name = named.0; column = ltb-true _ _ inside.0; row = ltb-true _ _ inside.1 })))))))
 
 pub player_fits : (sides : Sides) (p : PlayerData) → IsPlaced sides p → sides.width ≤ 64 → sides.height ≤ 64 → AreWords (player_line p.name p.home)
 player_fits sides p h narrow low =
@@ -316,7 +337,7 @@ player_short sides p h narrow low =
 
 pub player_again : (sides : Sides) (p : PlayerData) (rest : Lines) → IsPlaced sides p → sides.width ≤ 64 → sides.height ≤ 64
     → player_at sides (line (spaced (player_line p.name p.home)) rest) ≡ Ok (p, rest)
-unfolding player_at player_words front_at last_at
+unfolding player_at front_at last_at
 player_again sides p rest h narrow low =
     let x : ℕ = p.home.x in
     let y : ℕ = p.home.y in
@@ -327,28 +348,12 @@ player_again sides p rest h narrow low =
     let short : length (spaced words) ≤ 120 = player_short sides p h narrow low in
     let in_column : ltb x sides.width ≡ true = lt-ltb _ _ column in
     let in_row : ltb y sides.height ≡ true = lt-ltb _ _ row in
-    then _ _ _ _ (line_again (spaced words) rest short)
-    (then _ _ _ _ (then _ _ _ _ (behind_again player_word p.name (decimal x ∷ decimal y ∷ face_word p.home.face ∷ []) fit)
-    (then _ _ _ _ (face_again p.home.face) refl))
-    (then _ _ _ _ (number_again 0 (2 ^ 32 - 1) x (omega arith) (omega arith) (lit< tt))
-    (then _ _ _ _ (number_again 0 (2 ^ 32 - 1) y (omega arith) (omega arith) (lit< tt)) (rw (h.name, in_column, in_row) refl))))
+    then _ _ _ _ (keyword_line_again player_word p.name (decimal x ∷ decimal y ∷ face_word p.home.face ∷ []) rest fit short)
+    (then _ _ _ _ (front_number_again 0 (2 ^ 32 - 1) x (decimal y) (face_word p.home.face ∷ []) (omega arith) (omega arith) (lit< tt))
+    (then _ _ _ _ (front_number_again 0 (2 ^ 32 - 1) y (face_word p.home.face) [] (omega arith) (omega arith) (lit< tt))
+    (then _ _ _ _ (face_again p.home.face) (rw (h.name, in_column, in_row) refl))))
 
 -- ---- a command's line
-
-words_of_command_take : (l : List ℕ) (p : CommandParts) → command_words l ≡ Ok p → (l ≡ spaced (command_word ∷ p.time ∷ p.from ∷ p.number ∷ p.player ∷ act_word p.act ∷ [])) × (p.act ≢ Shoot)
-unfolding command_words
-words_of_command_take l p e =
-    through _ _ _ e (λ words words_is e. through _ _ _ e (λ time time_is e. through _ _ _ e (λ from from_is e. through _ _ _ e (λ number number_is e. through _ _ _ e (λ player player_is e. through _ _ _ e (λ word word_is e. through _ _ _ e (λ act act_is e.
-    let a = behind_takes command_word l words words_is in
-    let b = front_takes words time time_is in
-    let c = front_takes time.1 from from_is in
-    let d = front_takes from.1 number number_is in
-    let f = front_takes number.1 player player_is in
-    let g = last_takes player.1 word word_is in
-    let h = act_takes word act act_is in
-    let made : CommandParts = record { time = time.0; from = from.0; number = number.0; player = player.0; act = act } in
-    let same : made ≡ p = cc in
-    subst (λ (q : CommandParts). (l ≡ spaced (command_word ∷ q.time ∷ q.from ∷ q.number ∷ q.player ∷ act_word q.act ∷ [])) × (q.act ≢ Shoot)) same (cc, h.1))))))))
 
 -- a command of the plain form, in a match of so many ticks
 pub record IsPlainCommand (ticks : ℕ) (x : Command) : Type 0 where
@@ -361,17 +366,19 @@ pub record IsPlainCommand (ticks : ℕ) (x : Command) : Type 0 where
 pub command_takes : (ticks : ℕ) (l : List ℕ) (x : Command) → command_at ticks l ≡ Ok x → (l ≡ spaced (command_line x)) × IsPlainCommand ticks x
 unfolding command_at
 command_takes ticks l x e =
-    through _ _ _ e (λ words words_is e. through _ _ _ e (λ time time_is e. through _ _ _ e (λ from from_is e. through _ _ _ e (λ number number_is e. through _ _ _ e (λ player player_is e.
-    let a = words_of_command_take l words words_is in
-    let b = number_takes 0 (ticks - 1) words.time time time_is in
-    let c = number_takes 0 0 words.from from from_is in
-    let d = number_takes 0 999999 words.number number number_is in
-    let f = number_takes 0 0 words.player player player_is in
-    let made : Command = record { time = time; from = from; number = number; player = player; act = words.act } in
+    through _ _ _ e (λ words words_is e. through _ _ _ e (λ time time_is e. through _ _ _ e (λ from from_is e. through _ _ _ e (λ number number_is e. through _ _ _ e (λ player player_is e. through _ _ _ e (λ word word_is e. through _ _ _ e (λ act act_is e.
+    let a = behind_takes command_word l words words_is in
+    let b = front_number_takes 0 (ticks - 1) words time.1 time.0 time_is in
+    let c = front_number_takes 0 0 time.1 from.1 from.0 from_is in
+    let d = front_number_takes 0 999999 from.1 number.1 number.0 number_is in
+    let f = front_number_takes 0 0 number.1 player.1 player.0 player_is in
+    let g = last_takes player.1 word word_is in
+    let h = act_takes word act act_is in
+    let made : Command = record { time = time.0; from = from.0; number = number.0; player = player.0; act = act } in
     let same : made ≡ x = cc in
     let whole : l ≡ spaced (command_line made) = cc in
     subst (λ (q : Command). (l ≡ spaced (command_line q)) × IsPlainCommand ticks q) same
-    (whole, record { time = b.2; from = c.2; number = d.2; player = f.2; act = a.1 }))))))
+    (whole, record { time = b.2; from = c.2; number = d.2; player = f.2; act = h.1 }))))))))
 
 pub command_short : (ticks : ℕ) (x : Command) → ticks ≤ 8192 → IsPlainCommand ticks x → length (spaced (command_line x)) ≤ 120
 command_short ticks x few h =
@@ -390,14 +397,14 @@ command_fits ticks x few h =
     (command_keyword.fits, (number_word x.time (omega arith), (number_word x.from (omega arith), (number_word x.number (omega arith), (number_word x.player (omega arith), ((act_fits x.act).0, tt))))))
 
 pub command_again : (ticks : ℕ) (x : Command) → ticks ≤ 8192 → IsPlainCommand ticks x → command_at ticks (spaced (command_line x)) ≡ Ok x
-unfolding command_at command_words front_at last_at
+unfolding command_at last_at
 command_again ticks x few h =
-    then _ _ _ _ (then _ _ _ _ (behind_again command_word (decimal x.time) (decimal x.from ∷ decimal x.number ∷ decimal x.player ∷ act_word x.act ∷ []) (command_fits ticks x few h))
-    (then _ _ _ _ (act_again x.act h.act) refl))
-    (then _ _ _ _ (number_again 0 (ticks - 1) x.time (omega arith) h.time (omega arith))
-    (then _ _ _ _ (number_again 0 0 x.from (omega arith) h.from (lit< tt))
-    (then _ _ _ _ (number_again 0 999999 x.number (omega arith) h.number (lit< tt))
-    (then _ _ _ _ (number_again 0 0 x.player (omega arith) h.player (lit< tt)) refl))))
+    then _ _ _ _ (behind_again command_word (decimal x.time) (decimal x.from ∷ decimal x.number ∷ decimal x.player ∷ act_word x.act ∷ []) (command_fits ticks x few h))
+    (then _ _ _ _ (front_number_again 0 (ticks - 1) x.time (decimal x.from) (decimal x.number ∷ decimal x.player ∷ act_word x.act ∷ []) (omega arith) h.time (omega arith))
+    (then _ _ _ _ (front_number_again 0 0 x.from (decimal x.number) (decimal x.player ∷ act_word x.act ∷ []) (omega arith) h.from (lit< tt))
+    (then _ _ _ _ (front_number_again 0 999999 x.number (decimal x.player) (act_word x.act ∷ []) (omega arith) h.number (lit< tt))
+    (then _ _ _ _ (front_number_again 0 0 x.player (act_word x.act) [] (omega arith) h.player (lit< tt))
+    (then _ _ _ _ (act_again x.act h.act) refl)))))
 
 -- ---- the lines up to the pace
 

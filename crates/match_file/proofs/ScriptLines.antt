@@ -9,9 +9,9 @@ use Rattle.match_file.specs.declared.script_line.ScriptLine.TheVariants.{Tick, T
 use Rattle.match_file.specs.Lines.{words_of, spaced}
 use Rattle.match_file.specs.Names.{has_command}
 use Rattle.match_file.specs.Text.{tick_word, turn_word, arrive_word, step_word, script_line}
-use Rattle.match_file.specs.Reading.{shape, front_at, last_at, tick_at, turn_at, arrive_at, step_at, kind_at, script_line_at}
+use Rattle.match_file.specs.Reading.{shape, front_at, tick_at, turn_at, arrive_at, step_at, kind_at, script_line_at}
 use Rattle.match_file.proofs.Spaced.{IsWord, AreWords, words_of-spaced, spaced-words_of}
-use Rattle.match_file.proofs.LineLaws.{through, same_words, front_takes, last_takes, number_takes, number_again, spaced_short, IsKeyword, number_word}
+use Rattle.match_file.proofs.LineLaws.{through, same_words, front_takes, front_number_takes, front_number_again, last_number_takes, last_number_again, spaced_short, IsKeyword, number_word}
 use Rattle.match_file.proofs.CommandTexts.{either}
 
 -- a line of a script of the plain form, in a match of these commands
@@ -32,48 +32,41 @@ Says commands words s = (words ≡ script_line s) × IsPlainLine commands s
 tick_takes : (commands : List Command) (words : List (List ℕ)) (s : ScriptLine) → tick_at words ≡ Ok s → Says commands (tick_word ∷ words) s
 unfolding tick_at
 tick_takes commands words s e =
-    through _ _ _ e (λ word word_is e. through _ _ _ e (λ mirror mirror_is e.
-    let a = last_takes words word word_is in
-    let b = number_takes 0 0 word mirror mirror_is in
+    through _ _ _ e (λ mirror mirror_is e.
+    let a = last_number_takes 0 0 words mirror mirror_is in
     let whole : tick_word ∷ words ≡ script_line (Tick mirror) = cc in
     let same : Tick mirror ≡ s = cc in
-    subst (Says commands (tick_word ∷ words)) same (whole, b.2)))
+    subst (Says commands (tick_word ∷ words)) same (whole, a.2))
 
 turn_takes : (commands : List Command) (words : List (List ℕ)) (s : ScriptLine) → turn_at words ≡ Ok s → Says commands (turn_word ∷ words) s
 unfolding turn_at
 turn_takes commands words s e =
-    through _ _ _ e (λ word word_is e. through _ _ _ e (λ mirror mirror_is e.
-    let a = last_takes words word word_is in
-    let b = number_takes 0 0 word mirror mirror_is in
+    through _ _ _ e (λ mirror mirror_is e.
+    let a = last_number_takes 0 0 words mirror mirror_is in
     let whole : turn_word ∷ words ≡ script_line (Turn mirror) = cc in
     let same : Turn mirror ≡ s = cc in
-    subst (Says commands (turn_word ∷ words)) same (whole, b.2)))
+    subst (Says commands (turn_word ∷ words)) same (whole, a.2))
 
 arrive_takes : (commands : List Command) (words : List (List ℕ)) (s : ScriptLine) → arrive_at commands words ≡ Ok s → Says commands (arrive_word ∷ words) s
 unfolding arrive_at
 arrive_takes commands words s e =
-    through _ _ _ e (λ first first_is e. through _ _ _ e (λ second second_is e. through _ _ _ e (λ third third_is e. through _ _ _ e (λ mirror mirror_is e. through _ _ _ e (λ from from_is e. through _ _ _ e (λ number number_is e.
-    let a = front_takes words first first_is in
-    let b = front_takes first.1 second second_is in
-    let c = last_takes second.1 third third_is in
-    let d = number_takes 0 0 first.0 mirror mirror_is in
-    let f = number_takes 0 0 second.0 from from_is in
-    let g = number_takes 0 999999 third number number_is in
-    let k = unless_ok (has_command from number commands) shape (Arrive mirror from number) s e in
-    let whole : arrive_word ∷ words ≡ script_line (Arrive mirror from number) = cc in
-    subst (Says commands (arrive_word ∷ words)) k.1 (whole, (d.2, f.2, g.2, k.0))))))))
+    through _ _ _ e (λ mirror mirror_is e. through _ _ _ e (λ from from_is e. through _ _ _ e (λ number number_is e.
+    let a = front_number_takes 0 0 words mirror.1 mirror.0 mirror_is in
+    let b = front_number_takes 0 0 mirror.1 from.1 from.0 from_is in
+    let c = last_number_takes 0 999999 from.1 number number_is in
+    let k = unless_ok (has_command from.0 number commands) shape (Arrive mirror.0 from.0 number) s e in
+    let whole : arrive_word ∷ words ≡ script_line (Arrive mirror.0 from.0 number) = cc in
+    subst (Says commands (arrive_word ∷ words)) k.1 (whole, (a.2, b.2, c.2, k.0)))))
 
 step_takes : (commands : List Command) (words : List (List ℕ)) (s : ScriptLine) → step_at words ≡ Ok s → Says commands (step_word ∷ words) s
 unfolding step_at
 step_takes commands words s e =
-    through _ _ _ e (λ first first_is e. through _ _ _ e (λ second second_is e. through _ _ _ e (λ mirror mirror_is e. through _ _ _ e (λ copy copy_is e.
-    let a = front_takes words first first_is in
-    let b = last_takes first.1 second second_is in
-    let c = number_takes 0 0 first.0 mirror mirror_is in
-    let d = number_takes 0 0 second copy copy_is in
-    let whole : step_word ∷ words ≡ script_line (Step mirror copy) = cc in
-    let same : Step mirror copy ≡ s = cc in
-    subst (Says commands (step_word ∷ words)) same (whole, (c.2, d.2))))))
+    through _ _ _ e (λ mirror mirror_is e. through _ _ _ e (λ copy copy_is e.
+    let a = front_number_takes 0 0 words mirror.1 mirror.0 mirror_is in
+    let b = last_number_takes 0 0 mirror.1 copy copy_is in
+    let whole : step_word ∷ words ≡ script_line (Step mirror.0 copy) = cc in
+    let same : Step mirror.0 copy ≡ s = cc in
+    subst (Says commands (step_word ∷ words)) same (whole, (a.2, b.2))))
 
 kind_takes : (commands : List Command) (word : List ℕ) (words : List (List ℕ)) (s : ScriptLine) → kind_at commands word words ≡ Ok s → Says commands (word ∷ words) s
 unfolding kind_at
@@ -135,26 +128,26 @@ script_line_short commands (World mirror copy) h = absurd h
 script_line_short commands (Run mirror copy) h = absurd h
 
 tick_again : (commands : List Command) (mirror : ℕ) → mirror ≤ 0 → kind_at commands tick_word (decimal mirror ∷ []) ≡ Ok (Tick mirror)
-unfolding kind_at tick_at last_at tick_word
-tick_again commands mirror h = then _ _ _ _ (number_again 0 0 mirror (omega arith) h (lit< tt)) refl
+unfolding kind_at tick_at tick_word
+tick_again commands mirror h = then _ _ _ _ (last_number_again 0 0 mirror (omega arith) h (lit< tt)) refl
 
 turn_again : (commands : List Command) (mirror : ℕ) → mirror ≤ 0 → kind_at commands turn_word (decimal mirror ∷ []) ≡ Ok (Turn mirror)
-unfolding kind_at turn_at last_at tick_word turn_word
-turn_again commands mirror h = then _ _ _ _ (number_again 0 0 mirror (omega arith) h (lit< tt)) refl
+unfolding kind_at turn_at tick_word turn_word
+turn_again commands mirror h = then _ _ _ _ (last_number_again 0 0 mirror (omega arith) h (lit< tt)) refl
 
 arrive_again : (commands : List Command) (mirror from number : ℕ) → mirror ≤ 0 → from ≤ 0 → number ≤ 999999 → has_command from number commands ≡ true
     → kind_at commands arrive_word (decimal mirror ∷ decimal from ∷ decimal number ∷ []) ≡ Ok (Arrive mirror from number)
-unfolding kind_at arrive_at front_at last_at tick_word turn_word arrive_word
+unfolding kind_at arrive_at tick_word turn_word arrive_word
 arrive_again commands mirror from number h k most known =
-    then _ _ _ _ (number_again 0 0 mirror (omega arith) h (lit< tt))
-    (then _ _ _ _ (number_again 0 0 from (omega arith) k (lit< tt))
-    (then _ _ _ _ (number_again 0 999999 number (omega arith) most (lit< tt)) (rw known refl)))
+    then _ _ _ _ (front_number_again 0 0 mirror (decimal from) (decimal number ∷ []) (omega arith) h (lit< tt))
+    (then _ _ _ _ (front_number_again 0 0 from (decimal number) [] (omega arith) k (lit< tt))
+    (then _ _ _ _ (last_number_again 0 999999 number (omega arith) most (lit< tt)) (rw known refl)))
 
 step_again : (commands : List Command) (mirror copy : ℕ) → mirror ≤ 0 → copy ≤ 0 → kind_at commands step_word (decimal mirror ∷ decimal copy ∷ []) ≡ Ok (Step mirror copy)
-unfolding kind_at step_at front_at last_at tick_word turn_word arrive_word step_word
+unfolding kind_at step_at tick_word turn_word arrive_word step_word
 step_again commands mirror copy h k =
-    then _ _ _ _ (number_again 0 0 mirror (omega arith) h (lit< tt))
-    (then _ _ _ _ (number_again 0 0 copy (omega arith) k (lit< tt)) refl)
+    then _ _ _ _ (front_number_again 0 0 mirror (decimal copy) [] (omega arith) h (lit< tt))
+    (then _ _ _ _ (last_number_again 0 0 copy (omega arith) k (lit< tt)) refl)
 
 line_again : (commands : List Command) (word next : List ℕ) (words : List (List ℕ)) (s : ScriptLine) → AreWords (word ∷ next ∷ words) → kind_at commands word (next ∷ words) ≡ Ok s
     → script_line_at commands (spaced (word ∷ next ∷ words)) ≡ Ok s

@@ -16,8 +16,6 @@ use Rattle.match_file.specs.declared.fault.TextFault.TheVariants as faults
 use Rattle.match_file.specs.declared.opening.Opening.{Opening}
 use Rattle.match_file.specs.declared.opening.Sides.{Sides}
 use Rattle.match_file.specs.declared.player.Player.{Player}
-use Rattle.match_file.specs.declared.player.PlayerWords.{PlayerWords}
-use Rattle.match_file.specs.declared.commands.CommandWords.{CommandWords}
 use Rattle.match_file.specs.declared.script_line.ScriptLine.{ScriptLine}
 use Rattle.match_file.specs.declared.script_line.ScriptLine.TheVariants.{Tick, Turn, Arrive, Step}
 use Rattle.match_file.specs.Lines.{Lines, torn, line, lines_of, words_of, spaced}
@@ -25,10 +23,19 @@ use Rattle.match_file.specs.Names.{is_name, has_command}
 use Rattle.match_file.specs.Data.{MatchData}
 use Rattle.match_file.specs.Text.{length_word, grid_word, mirrors_word, delays_word, pace_word, player_word, command_word, script_word, end_word, tick_word, turn_word, arrive_word, step_word, head_words, face_word, act_word}
 
+-- the text isn't of the plain form
+abbrev pub shape : Refused
+shape = record { line = 0; cause = Shape }
+
 -- what a function returned, seen by view, is what reading gives
 abbrev pub Answers : {X Y : Type 0} → (X → Y) → Result X Refused → Result Y Refused → Type 0
 Answers view (Ok x) read = read ≡ Ok (view x)
 Answers view (Err e) read = read ≡ Err e
+
+-- what a function found, seen by view, is what reading gives, which is refused where there was nothing to find
+abbrev pub Finds : {X Y : Type 0} → (X → Y) → Option X → Result Y Refused → Type 0
+Finds view (Some x) read = read ≡ Ok (view x)
+Finds view None read = read ≡ Err shape
 
 -- memory ran out, or reading gives this fault
 abbrev pub Fails : {Y : Type 0} → TextFault → Result Y Refused → Type 0
@@ -39,10 +46,6 @@ Fails (faults.Refused e) read = read ≡ Err e
 abbrev pub Gives : {X Y : Type 0} → (X → Y) → Result X TextFault → Result Y Refused → Type 0
 Gives view (Ok x) read = read ≡ Ok (view x)
 Gives view (Err e) read = Fails e read
-
--- the text isn't of the plain form
-abbrev pub shape : Refused
-shape = record { line = 0; cause = Shape }
 
 -- memory ran out, or the text isn't of the plain form
 abbrev pub IsShape : TextFault → Type 0
@@ -81,6 +84,24 @@ at_least least (Some n) = if nat_lt n least then Err shape else Ok n
 unfoldable pub number_in : ℕ → ℕ → List ℕ → Result ℕ Refused
 number_in least most word = at_least least (number_of word most)
 
+-- the number that the first word writes, where other words follow, and these
+unfoldable pub front_number_in : ℕ → ℕ → List (List ℕ) → Result (ℕ × List (List ℕ)) Refused
+front_number_in least most words = do
+  front ← front_at words
+  n ← number_in least most front.0
+  Ok (n, front.1)
+
+-- the number that the word writes, where it is the last
+unfoldable pub last_number_in : ℕ → ℕ → List (List ℕ) → Result ℕ Refused
+last_number_in least most words = last_at words >>= number_in least most
+
+-- the words behind this first word of the next line, and the lines after it
+unfoldable pub keyword_line_at : List ℕ → Lines → Result (List (List ℕ) × Lines) Refused
+keyword_line_at keyword lines = do
+  l ← line_at lines
+  words ← behind keyword l.0
+  Ok (words, l.1)
+
 -- the first line
 unfoldable pub head_at : Lines → Result Lines Refused
 head_at lines = do
@@ -90,22 +111,17 @@ head_at lines = do
 -- a line of a first word and one number in its range, and the lines after it
 unfoldable pub number_at : List ℕ → ℕ → ℕ → Lines → Result (ℕ × Lines) Refused
 number_at keyword least most lines = do
-  l ← line_at lines
-  words ← behind keyword l.0
-  word ← last_at words
-  n ← number_in least most word
+  l ← keyword_line_at keyword lines
+  n ← last_number_in least most l.0
   Ok (n, l.1)
 
 -- the sides of the grid
 unfoldable pub grid_at : Lines → Result (Sides × Lines) Refused
 grid_at lines = do
-  l ← line_at lines
-  words ← behind grid_word l.0
-  width ← front_at words
-  height ← last_at width.1
-  columns ← number_in 3 64 width.0
-  rows ← number_in 1 64 height
-  Ok (record { width = columns; height = rows }, l.1)
+  l ← keyword_line_at grid_word lines
+  width ← front_number_in 3 64 l.0
+  height ← last_number_in 1 64 width.1
+  Ok (record { width = width.0; height = height }, l.1)
 
 -- what the lines up to the pace say
 unfoldable pub opening_at : Lines → Result (Opening × Lines) Refused
@@ -127,28 +143,6 @@ face_of word =
     else (if bytes_eq word (face_word W) then Ok W
     else Err shape)))
 
--- the words of a player's line
-pub record NamedPlace : Type 0 where
-  pub name : List ℕ
-  pub x : List ℕ
-  pub y : List ℕ
-  pub face : Face
-
--- those words, without where they lie in memory
-abbrev pub words_seen : PlayerWords → NamedPlace
-words_seen words = record { name = words.name.now; x = words.x.now; y = words.y.now; face = words.face }
-
--- the words of a line, where they are a player's
-unfoldable pub player_words : List ℕ → Result NamedPlace Refused
-player_words l = do
-  words ← behind player_word l
-  name ← front_at words
-  x ← front_at name.1
-  y ← front_at x.1
-  word ← last_at y.1
-  face ← face_of word
-  Ok (record { name = name.0; x = x.0; y = y.0; face = face })
-
 -- a player's name and home
 pub record PlayerData : Type 0 where
   pub name : List ℕ
@@ -161,12 +155,14 @@ player_seen player = record { name = player.name.now; home = player.home }
 -- a player's line, whose cell is in the grid, and the lines after it
 unfoldable pub player_at : Sides → Lines → Result (PlayerData × Lines) Refused
 player_at sides lines = do
-  l ← line_at lines
-  words ← player_words l.0
-  x ← number_in 0 (2 ^ 32 - 1) words.x
-  y ← number_in 0 (2 ^ 32 - 1) words.y
-  if is_name words.name && (nat_lt x sides.width && nat_lt y sides.height)
-      then Ok (record { name = words.name; home = record { x = x; y = y; face = words.face } }, l.1)
+  l ← keyword_line_at player_word lines
+  name ← front_at l.0
+  x ← front_number_in 0 (2 ^ 32 - 1) name.1
+  y ← front_number_in 0 (2 ^ 32 - 1) x.1
+  word ← last_at y.1
+  face ← face_of word
+  if is_name name.0 && (nat_lt x.0 sides.width && nat_lt y.0 sides.height)
+      then Ok (record { name = name.0; home = record { x = x.0; y = y.0; face = face } }, l.1)
       else Err shape
 
 -- the act that a word names; no shot is in the plain form
@@ -177,39 +173,17 @@ act_of word =
     else (if bytes_eq word (act_word Right) then Ok Right
     else Err shape))
 
--- the words of a command's line
-pub record CommandParts : Type 0 where
-  pub time : List ℕ
-  pub from : List ℕ
-  pub number : List ℕ
-  pub player : List ℕ
-  pub act : Act
-
--- those words, without where they lie in memory
-abbrev pub command_seen : CommandWords → CommandParts
-command_seen words = record { time = words.time.now; from = words.from.now; number = words.number.now; player = words.player.now; act = words.act }
-
--- the words of a line, where they are a command's
-unfoldable pub command_words : List ℕ → Result CommandParts Refused
-command_words l = do
-  words ← behind command_word l
-  time ← front_at words
-  from ← front_at time.1
-  number ← front_at from.1
-  player ← front_at number.1
-  word ← last_at player.1
-  act ← act_of word
-  Ok (record { time = time.0; from = from.0; number = number.0; player = player.0; act = act })
-
 -- a command's line in a match of this length
 unfoldable pub command_at : ℕ → List ℕ → Result Command Refused
 command_at length l = do
-  words ← command_words l
-  time ← number_in 0 (length - 1) words.time
-  from ← number_in 0 0 words.from
-  number ← number_in 0 999999 words.number
-  player ← number_in 0 0 words.player
-  Ok (record { time = time; from = from; number = number; player = player; act = words.act })
+  words ← behind command_word l
+  time ← front_number_in 0 (length - 1) words
+  from ← front_number_in 0 0 time.1
+  number ← front_number_in 0 999999 from.1
+  player ← front_number_in 0 0 number.1
+  word ← last_at player.1
+  act ← act_of word
+  Ok (record { time = time.0; from = from.0; number = number.0; player = player.0; act = act })
 
 -- the commands with one more, where there is room and none has its mirror and number
 unfoldable pub added : List Command → Command → Result (List Command) Refused
@@ -243,36 +217,29 @@ commands_at ticks so_far (line l rest) =
 -- a mirror's tick, by the words behind the first
 unfoldable pub tick_at : List (List ℕ) → Result ScriptLine Refused
 tick_at words = do
-  word ← last_at words
-  mirror ← number_in 0 0 word
+  mirror ← last_number_in 0 0 words
   Ok (Tick mirror)
 
 -- a mirror's turn, in the same way
 unfoldable pub turn_at : List (List ℕ) → Result ScriptLine Refused
 turn_at words = do
-  word ← last_at words
-  mirror ← number_in 0 0 word
+  mirror ← last_number_in 0 0 words
   Ok (Turn mirror)
 
 -- the arrival of one of the commands
 unfoldable pub arrive_at : List Command → List (List ℕ) → Result ScriptLine Refused
 arrive_at commands words = do
-  first ← front_at words
-  second ← front_at first.1
-  third ← last_at second.1
-  mirror ← number_in 0 0 first.0
-  from ← number_in 0 0 second.0
-  number ← number_in 0 999999 third
-  if has_command from number commands then Ok (Arrive mirror from number) else Err shape
+  mirror ← front_number_in 0 0 words
+  from ← front_number_in 0 0 mirror.1
+  number ← last_number_in 0 999999 from.1
+  if has_command from.0 number commands then Ok (Arrive mirror.0 from.0 number) else Err shape
 
 -- a copy's step
 unfoldable pub step_at : List (List ℕ) → Result ScriptLine Refused
 step_at words = do
-  first ← front_at words
-  second ← last_at first.1
-  mirror ← number_in 0 0 first.0
-  copy ← number_in 0 0 second
-  Ok (Step mirror copy)
+  mirror ← front_number_in 0 0 words
+  copy ← last_number_in 0 0 mirror.1
+  Ok (Step mirror.0 copy)
 
 -- a script's line of the kind that the first word names; no world and no run is in the plain form
 unfoldable pub kind_at : List Command → List ℕ → List (List ℕ) → Result ScriptLine Refused

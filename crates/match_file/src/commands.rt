@@ -3,7 +3,7 @@
 ghost use Rattle.std.specs.Prelude.{◌≡◌, ◌≤◌, ◌<◌, [], length, IfOk, IfSome, option_map};
 ghost use Rattle.match_file.specs.Lines.{lines_of};
 ghost use Rattle.match_file.specs.Names.{has_command};
-ghost use Rattle.match_file.specs.Reading.{Answers, Gives, act_of, command_words, command_seen, command_at, added, is_closing, commands_step, commands_at};
+ghost use Rattle.match_file.specs.Reading.{Finds, Answers, Gives, act_of, command_at, added, is_closing, commands_step, commands_at};
 
 use crate::fault::{Refused, TextFault};
 use crate::words::{self, SHAPE};
@@ -19,67 +19,52 @@ const MOST_COMMANDS: usize = 16384;
 /// The greatest number of a command.
 pub const GREATEST_NUMBER: u32 = 999999;
 
-/// The words of a command's line behind the first; the last is an act.
-#[derive(Clone, Copy)]
-struct CommandWords<'a> {
-    time: &'a [u8],
-    from: &'a [u8],
-    number: &'a [u8],
-    player: &'a [u8],
-    act: Act,
-}
-
 // The act that the word names. No shot is in the plain form.
 #[tactic(auto, unfolding(crate::specs::Reading::act_of))]
-fn act(word: &[u8]) -> Result<Act, Refused>
-    ensures { Answers (λ x. x) result (act_of word.now) }
+fn act(word: &[u8]) -> Option<Act>
+    ensures { Finds (λ x. x) result (act_of word.now) }
 {
     match word {
-        b"go" => Ok(Act::Go),
-        b"left" => Ok(Act::Left),
-        b"right" => Ok(Act::Right),
-        _ => Err(SHAPE),
+        b"go" => Some(Act::Go),
+        b"left" => Some(Act::Left),
+        b"right" => Some(Act::Right),
+        _ => None,
     }
 }
 
-// The words of a command's line.
-#[tactic(auto, unfolding(crate::specs::Reading::command_words, crate::specs::Text::command_word))]
-fn words_of_command(line: &[u8]) -> Result<CommandWords<'_>, Refused>
-    ensures { Answers command_seen result (command_words line.now) }
-{
-    let words = words::words_behind(b"cmd", line)?;
-    let (time, words) = words::front(words)?;
-    let (from, words) = words::front(words)?;
-    let (number, words) = words::front(words)?;
-    let (player, words) = words::front(words)?;
-    let word = words::last(words)?;
-    let act = act(word)?;
-    Ok(CommandWords {
-        time,
-        from,
-        number,
-        player,
-        act,
-    })
-}
-
 // The command of a line, in a match of so many ticks.
-#[tactic(auto, unfolding(crate::specs::Reading::command_at))]
+#[tactic(auto, unfolding(crate::specs::Reading::command_at, crate::specs::Text::command_word))]
 fn command(ticks: u32, line: &[u8]) -> Result<Command, Refused>
     requires { 1 ≤ ticks }
     ensures { Answers (λ x. x) result (command_at ticks line.now) }
 {
-    let words = words_of_command(line)?;
-    let time = words::number(0, ticks - 1, words.time)?;
-    let from = words::number(0, 0, words.from)?;
-    let number = words::number(0, GREATEST_NUMBER, words.number)?;
-    let player = words::number(0, 0, words.player)?;
+    let Some(words) = words::words_behind(b"cmd", line) else {
+        return Err(SHAPE);
+    };
+    let Some((time, words)) = words::front_number(0, ticks - 1, words) else {
+        return Err(SHAPE);
+    };
+    let Some((from, words)) = words::front_number(0, 0, words) else {
+        return Err(SHAPE);
+    };
+    let Some((number, words)) = words::front_number(0, GREATEST_NUMBER, words) else {
+        return Err(SHAPE);
+    };
+    let Some((player, words)) = words::front_number(0, 0, words) else {
+        return Err(SHAPE);
+    };
+    let Some(word) = words::last(words) else {
+        return Err(SHAPE);
+    };
+    let Some(act) = act(word) else {
+        return Err(SHAPE);
+    };
     Ok(Command {
         time,
         from: from as u8,
         number,
         player: player as u8,
-        act: words.act,
+        act,
     })
 }
 
@@ -167,7 +152,9 @@ fn read_command<'a>(
     ensures read { Gives (λ o. (commands.new, option_map (λ rest. lines_of rest.now) o)) result (commands_step ticks commands.old (lines_of text.now)) }
     ensures shorter { IfOk result (λ o. IfSome o (λ rest. length rest.now < length text.now)) }
 {
-    let (line, rest) = words::next_line(text)?;
+    let Some((line, rest)) = words::next_line(text) else {
+        return Err(TextFault::Refused(SHAPE));
+    };
     if is_closing(line) {
         return Ok(None);
     }

@@ -1,8 +1,8 @@
 //! The lines up to the pace: how long the match is, its grid, its mirrors and their delays. No call takes memory.
 
-ghost use Rattle.std.specs.Prelude.{◌≡◌, ◌≤◌, ◌<◌, length, IfOk};
-ghost use Rattle.match_file.specs.Lines.{lines_of, words_of};
-ghost use Rattle.match_file.specs.Reading.{Answers, head_at, number_at, grid_at, opening_at};
+ghost use Rattle.std.specs.Prelude.{◌≡◌, ◌≤◌, ◌<◌, IfOk, IfSome};
+ghost use Rattle.match_file.specs.Lines.{lines_of};
+ghost use Rattle.match_file.specs.Reading.{Finds, Answers, head_at, number_at, grid_at, opening_at};
 
 use crate::fault::Refused;
 use crate::words::{self, SHAPE};
@@ -33,48 +33,41 @@ pub struct Opening {
 
 // The text behind the first line, where that is the head of a match text.
 #[tactic(auto, unfolding(crate::specs::Reading::head_at, crate::specs::Text::head_words, crate::specs::Lines::spaced))]
-fn read_head(text: &[u8]) -> Result<&[u8], Refused>
-    ensures { Answers (λ x. lines_of x.now) result (head_at (lines_of text.now)) }
+fn read_head(text: &[u8]) -> Option<&[u8]>
+    ensures { Finds (λ x. lines_of x.now) result (head_at (lines_of text.now)) }
 {
-    let (line, rest) = words::next_line(text)?;
-    if line != b"tss match 1".as_slice() {
-        return Err(SHAPE);
+    match words::next_line(text) {
+        Some((line, rest)) if line == b"tss match 1".as_slice() => Some(rest),
+        _ => None,
     }
-    Ok(rest)
 }
 
 // The number of a line that is the keyword and one number, from least to most, and the text behind the line.
 #[tactic(auto, unfolding(crate::specs::Reading::number_at))]
-fn read_number<'a>(
-    keyword: &[u8],
-    least: u32,
-    most: u32,
-    text: &'a [u8],
-) -> Result<(u32, &'a [u8]), Refused>
-    ensures read { Answers (λ x. (x.0, lines_of x.1.now)) result (number_at keyword.now least most (lines_of text.now)) }
-    ensures range { IfOk result (λ x. (least ≤ x.0) × (x.0 ≤ most)) }
+fn read_number<'a>(keyword: &[u8], least: u32, most: u32, text: &'a [u8]) -> Option<(u32, &'a [u8])>
+    ensures read { Finds (λ x. (x.0, lines_of x.1.now)) result (number_at keyword.now least most (lines_of text.now)) }
+    ensures range { IfSome result (λ x. (least ≤ x.0) × (x.0 ≤ most)) }
 {
-    let (line, rest) = words::next_line(text)?;
-    let words = words::words_behind(keyword, line)?;
-    let word = words::last(words)?;
-    let number = words::number(least, most, word)?;
-    Ok((number, rest))
+    let (words, rest) = words::keyword_line(keyword, text)?;
+    let number = words::last_number(least, most, words)?;
+    Some((number, rest))
 }
 
 // The sides of the grid, and the text behind the line.
 #[tactic(auto, unfolding(crate::specs::Reading::grid_at, crate::specs::Text::grid_word))]
-fn read_grid(text: &[u8]) -> Result<(Sides, &[u8]), Refused>
-    ensures read { Answers (λ x. (x.0, lines_of x.1.now)) result (grid_at (lines_of text.now)) }
-    ensures width { IfOk result (λ x. (3 ≤ x.0.width) × (x.0.width ≤ 64)) }
-    ensures height { IfOk result (λ x. (1 ≤ x.0.height) × (x.0.height ≤ 64)) }
+fn read_grid(text: &[u8]) -> Option<(Sides, &[u8])>
+    ensures read { Finds (λ x. (x.0, lines_of x.1.now)) result (grid_at (lines_of text.now)) }
+    ensures width { IfSome result (λ x. (3 ≤ x.0.width) × (x.0.width ≤ 64)) }
+    ensures height { IfSome result (λ x. (1 ≤ x.0.height) × (x.0.height ≤ 64)) }
 {
-    let (line, rest) = words::next_line(text)?;
-    let words = words::words_behind(b"grid", line)?;
-    let (width, words) = words::front(words)?;
-    let height = words::last(words)?;
-    let width = words::number(3, 64, width)? as u8;
-    let height = words::number(1, 64, height)? as u8;
-    Ok((Sides { width, height }, rest))
+    let (words, rest) = words::keyword_line(b"grid", text)?;
+    let (width, words) = words::front_number(3, 64, words)?;
+    let height = words::last_number(1, 64, words)?;
+    let sides = Sides {
+        width: width as u8,
+        height: height as u8,
+    };
+    Some((sides, rest))
 }
 
 /// What the lines up to the pace say, and the text behind them.
@@ -85,12 +78,24 @@ pub fn read_opening(text: &[u8]) -> Result<(Opening, &[u8]), Refused>
     ensures width { IfOk result (λ x. (3 ≤ x.0.sides.width) × (x.0.sides.width ≤ 64)) }
     ensures height { IfOk result (λ x. (1 ≤ x.0.sides.height) × (x.0.sides.height ≤ 64)) }
 {
-    let rest = read_head(text)?;
-    let (length, rest) = read_number(b"length", 1, 8192, rest)?;
-    let (sides, rest) = read_grid(rest)?;
-    let (mirrors, rest) = read_number(b"mirrors", 1, 1, rest)?;
-    let (delay, rest) = read_number(b"delays", 0, 1024, rest)?;
-    let (pace, rest) = read_number(b"pace", 0, delay, rest)?;
+    let Some(rest) = read_head(text) else {
+        return Err(SHAPE);
+    };
+    let Some((length, rest)) = read_number(b"length", 1, 8192, rest) else {
+        return Err(SHAPE);
+    };
+    let Some((sides, rest)) = read_grid(rest) else {
+        return Err(SHAPE);
+    };
+    let Some((mirrors, rest)) = read_number(b"mirrors", 1, 1, rest) else {
+        return Err(SHAPE);
+    };
+    let Some((delay, rest)) = read_number(b"delays", 0, 1024, rest) else {
+        return Err(SHAPE);
+    };
+    let Some((pace, rest)) = read_number(b"pace", 0, delay, rest) else {
+        return Err(SHAPE);
+    };
     let opening = Opening {
         length,
         sides,

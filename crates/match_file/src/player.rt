@@ -1,24 +1,15 @@
 //! The line of a player. No call takes memory.
 
-ghost use Rattle.std.specs.Prelude.{◌≡◌, ◌≤◌, ◌<◌, length, IfOk};
+ghost use Rattle.std.specs.Prelude.{◌≡◌};
 ghost use Rattle.std.specs.List.{list_all};
 ghost use Rattle.match_file.specs.Lines.{lines_of};
 ghost use Rattle.match_file.specs.Names.{is_letter, is_name_byte, is_name};
-ghost use Rattle.match_file.specs.Reading.{Answers, face_of, player_words, words_seen, player_at, player_seen};
+ghost use Rattle.match_file.specs.Reading.{Finds, Answers, face_of, player_at, player_seen};
 
 use crate::fault::Refused;
 use crate::opening::Sides;
 use crate::words::{self, SHAPE};
 use arena_rules::{Face, Spot};
-
-/// The words of a player's line behind the first; the last is a facing.
-#[derive(Clone, Copy)]
-struct PlayerWords<'a> {
-    name: &'a [u8],
-    x: &'a [u8],
-    y: &'a [u8],
-    face: Face,
-}
 
 /// A player's name and home.
 #[derive(Clone, Copy)]
@@ -31,30 +22,16 @@ pub struct Player<'a> {
 
 // The facing that the word names.
 #[tactic(auto, unfolding(crate::specs::Reading::face_of))]
-fn face(word: &[u8]) -> Result<Face, Refused>
-    ensures { Answers (λ x. x) result (face_of word.now) }
+fn face(word: &[u8]) -> Option<Face>
+    ensures { Finds (λ x. x) result (face_of word.now) }
 {
     match word {
-        b"n" => Ok(Face::N),
-        b"e" => Ok(Face::E),
-        b"s" => Ok(Face::S),
-        b"w" => Ok(Face::W),
-        _ => Err(SHAPE),
+        b"n" => Some(Face::N),
+        b"e" => Some(Face::E),
+        b"s" => Some(Face::S),
+        b"w" => Some(Face::W),
+        _ => None,
     }
-}
-
-// The words of a player's line.
-#[tactic(auto, unfolding(crate::specs::Reading::player_words, crate::specs::Text::player_word))]
-fn words_of_player(line: &[u8]) -> Result<PlayerWords<'_>, Refused>
-    ensures { Answers words_seen result (player_words line.now) }
-{
-    let words = words::words_behind(b"player", line)?;
-    let (name, words) = words::front(words)?;
-    let (x, words) = words::front(words)?;
-    let (y, words) = words::front(words)?;
-    let word = words::last(words)?;
-    let face = face(word)?;
-    Ok(PlayerWords { name, x, y, face })
 }
 
 // A letter from a to z.
@@ -90,25 +67,35 @@ fn is_name(word: &[u8]) -> bool
 }
 
 /// A player's name and home in the grid, and the text behind the line.
-#[tactic(auto, unfolding(crate::specs::Reading::player_at))]
+#[tactic(auto, unfolding(crate::specs::Reading::player_at, crate::specs::Text::player_word))]
 pub fn read_player(sides: Sides, text: &[u8]) -> Result<(Player<'_>, &[u8]), Refused>
     ensures { Answers (λ x. (player_seen x.0, lines_of x.1.now)) result (player_at sides (lines_of text.now)) }
 {
-    let (line, rest) = words::next_line(text)?;
-    let words = words_of_player(line)?;
-    let x = words::number(0, u32::MAX, words.x)?;
-    let y = words::number(0, u32::MAX, words.y)?;
-    if !is_name(words.name) || x >= u32::from(sides.width) || y >= u32::from(sides.height) {
+    let Some((words, rest)) = words::keyword_line(b"player", text) else {
+        return Err(SHAPE);
+    };
+    let Some((name, words)) = words::front(words) else {
+        return Err(SHAPE);
+    };
+    let Some((x, words)) = words::front_number(0, u32::MAX, words) else {
+        return Err(SHAPE);
+    };
+    let Some((y, words)) = words::front_number(0, u32::MAX, words) else {
+        return Err(SHAPE);
+    };
+    let Some(word) = words::last(words) else {
+        return Err(SHAPE);
+    };
+    let Some(face) = face(word) else {
+        return Err(SHAPE);
+    };
+    if !is_name(name) || x >= u32::from(sides.width) || y >= u32::from(sides.height) {
         return Err(SHAPE);
     }
     let home = Spot {
         x: x as u8,
         y: y as u8,
-        face: words.face,
+        face,
     };
-    let player = Player {
-        name: words.name,
-        home,
-    };
-    Ok((player, rest))
+    Ok((Player { name, home }, rest))
 }

@@ -19,9 +19,12 @@ const MOST_LINES: usize = 262144;
 fn tick(words: &[u8]) -> Result<ScriptLine, Refused>
     ensures { Answers (λ x. x) result (tick_at (words_of words.now)) }
 {
-    let word = words::last(words)?;
-    let mirror = words::number(0, 0, word)? as u8;
-    Ok(ScriptLine::Tick { mirror })
+    let Some(mirror) = words::last_number(0, 0, words) else {
+        return Err(SHAPE);
+    };
+    Ok(ScriptLine::Tick {
+        mirror: mirror as u8,
+    })
 }
 
 // A mirror's turn.
@@ -29,9 +32,12 @@ fn tick(words: &[u8]) -> Result<ScriptLine, Refused>
 fn turn(words: &[u8]) -> Result<ScriptLine, Refused>
     ensures { Answers (λ x. x) result (turn_at (words_of words.now)) }
 {
-    let word = words::last(words)?;
-    let mirror = words::number(0, 0, word)? as u8;
-    Ok(ScriptLine::Turn { mirror })
+    let Some(mirror) = words::last_number(0, 0, words) else {
+        return Err(SHAPE);
+    };
+    Ok(ScriptLine::Turn {
+        mirror: mirror as u8,
+    })
 }
 
 // The arrival of one of the commands.
@@ -39,17 +45,21 @@ fn turn(words: &[u8]) -> Result<ScriptLine, Refused>
 fn arrive(commands: &Commands, words: &[u8]) -> Result<ScriptLine, Refused>
     ensures { Answers (λ x. x) result (arrive_at commands.now (words_of words.now)) }
 {
-    let (first, words) = words::front(words)?;
-    let (second, words) = words::front(words)?;
-    let third = words::last(words)?;
-    let mirror = words::number(0, 0, first)? as u8;
-    let from = words::number(0, 0, second)? as u8;
-    let number = words::number(0, GREATEST_NUMBER, third)?;
+    let Some((mirror, words)) = words::front_number(0, 0, words) else {
+        return Err(SHAPE);
+    };
+    let Some((from, words)) = words::front_number(0, 0, words) else {
+        return Err(SHAPE);
+    };
+    let Some(number) = words::last_number(0, GREATEST_NUMBER, words) else {
+        return Err(SHAPE);
+    };
+    let from = from as u8;
     if !commands.has(from, number) {
         return Err(SHAPE);
     }
     Ok(ScriptLine::Arrive {
-        mirror,
+        mirror: mirror as u8,
         from,
         number,
     })
@@ -60,11 +70,16 @@ fn arrive(commands: &Commands, words: &[u8]) -> Result<ScriptLine, Refused>
 fn step(words: &[u8]) -> Result<ScriptLine, Refused>
     ensures { Answers (λ x. x) result (step_at (words_of words.now)) }
 {
-    let (first, words) = words::front(words)?;
-    let second = words::last(words)?;
-    let mirror = words::number(0, 0, first)? as u8;
-    let copy = words::number(0, 0, second)? as u8;
-    Ok(ScriptLine::Step { mirror, copy })
+    let Some((mirror, words)) = words::front_number(0, 0, words) else {
+        return Err(SHAPE);
+    };
+    let Some(copy) = words::last_number(0, 0, words) else {
+        return Err(SHAPE);
+    };
+    Ok(ScriptLine::Step {
+        mirror: mirror as u8,
+        copy: copy as u8,
+    })
 }
 
 // The line of the kind that the word names, of these words. No world and no run is in the plain form.
@@ -90,7 +105,9 @@ fn kind(commands: &Commands, word: &[u8], words: &[u8]) -> Result<ScriptLine, Re
 fn script_line(commands: &Commands, line: &[u8]) -> Result<ScriptLine, Refused>
     ensures { Answers (λ x. x) result (script_line_at commands.now line.now) }
 {
-    let (word, words) = words::front(line)?;
+    let Some((word, words)) = words::front(line) else {
+        return Err(SHAPE);
+    };
     kind(commands, word, words)
 }
 
@@ -123,7 +140,9 @@ fn read_line<'a>(
     ensures read { Gives (λ o. (script.new, option_map (λ rest. lines_of rest.now) o)) result (script_step commands.now script.old (lines_of text.now)) }
     ensures shorter { IfOk result (λ o. IfSome o (λ rest. length rest.now < length text.now)) }
 {
-    let (line, rest) = words::next_line(text)?;
+    let Some((line, rest)) = words::next_line(text) else {
+        return Err(TextFault::Refused(SHAPE));
+    };
     if line == b"end".as_slice() {
         if !at_end(rest) || script.is_empty() {
             return Err(TextFault::Refused(SHAPE));
@@ -156,15 +175,9 @@ pub fn read_script(
 ) -> Result<Seq<ScriptLine>, TextFault>
     ensures { Gives (λ x. x) result (closing_at commands.now (lines_of text.now)) }
 {
-    let (line, rest) = words::next_line(text)?;
-    match line {
-        b"end" => {
-            if !at_end(rest) {
-                return Err(TextFault::Refused(SHAPE));
-            }
-            Ok(Seq::new(alloc))
-        }
-        b"script" => read_lines(alloc, commands, rest),
+    match words::next_line(text) {
+        Some((line, rest)) if line == b"end".as_slice() && at_end(rest) => Ok(Seq::new(alloc)),
+        Some((line, rest)) if line == b"script".as_slice() => read_lines(alloc, commands, rest),
         _ => Err(TextFault::Refused(SHAPE)),
     }
 }

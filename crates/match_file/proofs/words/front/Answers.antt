@@ -1,8 +1,5 @@
-use Rattle.match_file.proofs.Steps.{front_at-some, front_at-none}
+use Rattle.match_file.proofs.Steps.{front_at-cut}
 use Rattle.match_file.proofs.words.front.Goals as goal
 
-pub returns-in-Some : goal.returns-in-Some
-returns-in-Some c = front_at-some c.args.words.now _ c.in-Some.ensures.parts
-
-pub returns-in-None : goal.returns-in-None
-returns-in-None c = front_at-none c.args.words.now c.in-None.ensures.parts
+pub returns : goal.returns
+returns c = front_at-cut (λ x. (x.0.now, x.1.now)) c.args.words.now c.cut.result c.cut.ensures.parts
