@@ -1,9 +1,23 @@
 -- What a source gave and what a sink gained, piece after piece.
 use Rattle.std.proofs.Common.{◌≡◌, ℕ, ◌+◌, ◌≤◌, List, [], ◌++◌, length, take, drop, Option, Some, None, refl, sym, ap, ◌∙◌, append_assoc, arith}
 use Rattle.std.specs.Prelude.{IfSome}
-use Rattle.std.proofs.Math.Seq.{take-add}
-use Rattle.std.proofs.lemmas.List.{append-nil, length-append}
+use Rattle.std.proofs.Math.Seq.{take-add, take-append_seam}
+use Rattle.std.proofs.lemmas.List.{append-nil, drop-drop, length-append, take-append-drop}
+use Rattle.tss_io.specs.Memory.{next_count}
 use Rattle.tss_io.specs.Streams.{Yields, Gains}
+
+pub same-le : (n : ℕ) → n ≤ n
+same-le n = omega arith
+
+-- One more call is at most one more.
+pub counted-le : (n m : ℕ) → m ≡ next_count n → m ≤ n + 1
+counted-le n m is = omega arith
+
+-- The bytes at a place, copied to the front of others, are given from there on.
+pub given-front : (bytes given others : List ℕ) (at n : ℕ) → given ≡ take n (drop at bytes) → length given ≡ n → drop at bytes ≡ take n (given ++ others) ++ drop (at + n) bytes
+given-front bytes given others at n is long =
+    let front : take n (given ++ others) ≡ given = rw (← long) (take-append_seam given others) in
+    rw (front, is, ← drop-drop n at bytes) (sym (take-append-drop n (drop at bytes)))
 
 -- Nothing is given.
 pub Yields-none : (left : Option (List ℕ)) → Yields left [] left
