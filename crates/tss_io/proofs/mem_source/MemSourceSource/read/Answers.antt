@@ -27,5 +27,5 @@ returns-clause-ok c = rw (← c.self.view_is, c.saturating_add-self-inside.ensur
 pub returns-clause-bytes : goal.returns-clause-bytes
 returns-clause-bytes c =
     rw (← c.self.view_is) (given-front c.self.inside.bytes.items c.copy_from_slice.new.self _ c.self.inside.at c.min-count.result
-      (rw (← c.deref-2.ensures.value, ← c.split_at.ensures.back) (c.copy_from_slice.ensures.after ∙ c.split_at-2.ensures.front))
-      (rw c.copy_from_slice.ensures.after c.split_at-2.ensures.front_len))
+    (rw (← c.deref-2.ensures.value, ← c.split_at.ensures.back) (c.copy_from_slice.ensures.after ∙ c.split_at-2.ensures.front))
+    (rw c.copy_from_slice.ensures.after c.split_at-2.ensures.front_len))
