@@ -11,7 +11,9 @@ use Rattle.match_file.proofs.MatchLaws.{read_text-match_text}
 use Rattle.match_file.proofs.TextLength.{length-match_text}
 use Rattle.tss_program.specs.declared.form.Form.{Form}
 use Rattle.tss_program.specs.declared.form.Form.TheVariants.{Play}
-use Rattle.tss_program.specs.declared.status.Status.TheVariants.{WriteFault}
+use Rattle.tss_program.specs.declared.answer.Answer.{Answer}
+use Rattle.tss_program.specs.declared.status.Status.TheVariants.{Complete, WriteFault, Refusal}
+use Rattle.tss_program.specs.Answer.{IsAnswer}
 use Rattle.tss_program.specs.Words.{form_of}
 use Rattle.tss_program.specs.Play.{played}
 use Rattle.tss_program.specs.Headline.{Keeps}
@@ -31,6 +33,24 @@ pub Ends-wrong_words :
     → Ends (due_of words input) status kept read_fault write_fault old new
 Ends-wrong_words words status kept read_fault write_fault old new input none ended fault nothing front =
     subst (λ (o : Option Form). Ends (due_of_option o input) status kept read_fault write_fault old new) (sym none) (inr (inr (inl (ended, fault, nothing, front))))
+
+-- what was due was put whole
+pub told-whole :
+    (left : Option (List ℕ)) (words : List (List ℕ)) (form : Form) (answer : Answer) (status : ℕ) (kept : List MirrorLog) (read_fault write_fault : Type 0) (old new : Option (List ℕ))
+    → form_of words ≡ Some form → IfSome left (λ input. IsAnswer (due_of_form form input) answer)
+    → status ≡ code answer.status → kept ≡ answer.kept → Gains old answer.text.items new
+    → IfSome left (λ input. Ends (due_of words input) status kept read_fault write_fault old new)
+told-whole None words form answer status kept read_fault write_fault old new of due ended log whole = tt
+told-whole (Some input) words form answer status kept read_fault write_fault old new of due ended log whole =
+    subst (λ (o : Option Form). Ends (due_of_option o input) status kept read_fault write_fault old new) (sym of)
+        (inr (inr (inr (ended ∙ ap code due.0, log ∙ due.2, subst (λ (l : List ℕ). Gains old l new) due.1 whole))))
+
+-- an answer ends the program with status 0 or 5
+pub no_fault :
+    {P : Type 0} (n status : ℕ) (answer : Answer) → 0 < n → n < 5
+    → (answer.status ≡ Complete) ⊎ ((answer.status ≡ Refusal) × (answer.kept ≡ [])) → status ≡ code answer.status → status ≡ n → P
+no_fault n status answer above below (inl done) is fault = let zero : status ≡ 0 = is ∙ ap code done in absurd (omega arith)
+no_fault n status answer above below (inr refused) is fault = let five : status ≡ 5 = is ∙ ap code refused.0 in absurd (omega arith)
 
 -- what is due for the text of a match is what the match decides
 pub due-of_match :

@@ -1,5 +1,6 @@
-use Rattle.std.proofs.Common.{sym, ◌∙◌}
-use Rattle.tss_program.proofs.Ends.{IfSome-each, Ends-wrong_words}
+use Rattle.std.proofs.Common.{ℕ, List, sym, subst, ◌∙◌, arith}
+use Rattle.tss_io.specs.Streams.{Gains}
+use Rattle.tss_program.proofs.Ends.{IfSome-each, Ends-wrong_words, told-whole, no_fault}
 use Rattle.tss_program.specs.Due.{usage_text}
 use Rattle.tss_program.proofs.run.run_words.Goals as goal
 
@@ -7,3 +8,14 @@ pub returns-in-Err-clause-ends : goal.returns-in-Err-clause-ends
 unfolding usage_text
 returns-in-Err-clause-ends g c =
     IfSome-each _ _ (λ input. Ends-wrong_words _ _ _ _ _ _ _ input (sym c.of.ensures ∙ c.in_default.is) c.of-in-Err.ensures.status c.in-Err.ensures.rose (c.of-in-Err.ensures.kept ∙ c.new-in-Err.ensures) c.in-Err.ensures.proper_prefix)
+
+pub returns-in-Ok-put_all-clause-ends : goal.returns-in-Ok-put_all-clause-ends
+returns-in-Ok-put_all-clause-ends g c =
+    told-whole _ _ _ c.in-Ok-respond.answer _ _ _ _ _ _ (sym c.of.ensures ∙ c.in-Some.is) c.in-Ok-respond.ensures.due c.of-in-Ok-put_all.ensures.status c.of-in-Ok-put_all.ensures.kept
+        (subst (λ (l : List ℕ). Gains (g.K.Sink.taken c.args.sink.now) l (g.K.Sink.taken c.put_all-in-Ok-respond.new.sink)) c.as_slice.ensures.value c.in-Ok-put_all.ensures.whole)
+
+pub returns-in-Ok-put_all-clause-read_fault : goal.returns-in-Ok-put_all-clause-read_fault
+returns-in-Ok-put_all-clause-read_fault g c = no_fault 3 _ c.in-Ok-respond.answer (omega arith) (omega arith) c.in-Ok-respond.ensures.answered c.of-in-Ok-put_all.ensures.status
+
+pub returns-in-Ok-put_all-clause-write_fault : goal.returns-in-Ok-put_all-clause-write_fault
+returns-in-Ok-put_all-clause-write_fault g c = no_fault 4 _ c.in-Ok-respond.answer (omega arith) (omega arith) c.in-Ok-respond.ensures.answered c.of-in-Ok-put_all.ensures.status
