@@ -8,7 +8,7 @@ use Rattle.match_file.specs.declared.script_line.ScriptLine.{ScriptLine}
 use Rattle.match_file.specs.Data.{MatchData, IsMatch}
 use Rattle.stagger_clock.specs.Schedule.{IsSchedule}
 use Rattle.sync_model.specs.State.{MirrorState}
-use Rattle.sync_model.specs.Turns.{drain_within, drain_bound}
+use Rattle.sync_model.specs.Turns.{drain_bound}
 use Rattle.tss_program.specs.Blocks.{block_text, done_line}
 use Rattle.tss_program.specs.Script.{script_text}
 use Rattle.tss_program.specs.Play.{is_arrive, opening_mirror, scripted, played, drain_text, events_text, copy_block, copy_blocks, final_text, play_text}

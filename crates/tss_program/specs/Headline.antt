@@ -1,11 +1,10 @@
 -- What playing a match promises: the headline, for one mirror.
-use Rattle.std.specs.Prelude.{◌≡◌, ℕ, ◌<◌, true, List, [], ◌∷◌, take, length, Contains}
+use Rattle.std.specs.Prelude.{◌≡◌, ℕ, List, [], ◌∷◌, take}
 use Rattle.std.specs.List.{AllByRecursion}
 use Rattle.game_trait.specs.declared.event.Event.{Event}
 use Rattle.game_trait.specs.Run.{world_of}
 use Rattle.game_trait.specs.Ordered.{time_ordered}
-use Rattle.sync_model.specs.State.{MirrorState}
-use Rattle.sync_model.specs.Change.{next, after, changes}
+use Rattle.sync_model.specs.Change.{after}
 use Rattle.sync_model.specs.Staggered.{IsStaggered}
 use Rattle.sync_model.specs.Turns.{IsDrained}
 use Rattle.sync_model.specs.Legal.{IsLegal}
