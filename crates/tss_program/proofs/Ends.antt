@@ -43,7 +43,7 @@ pub told-whole :
 told-whole None words form answer status kept read_fault write_fault old new of due ended log whole = tt
 told-whole (Some input) words form answer status kept read_fault write_fault old new of due ended log whole =
     subst (λ (o : Option Form). Ends (due_of_option o input) status kept read_fault write_fault old new) (sym of)
-        (inr (inr (inr (ended ∙ ap code due.0, log ∙ due.2, subst (λ (l : List ℕ). Gains old l new) due.1 whole))))
+    (inr (inr (inr (ended ∙ ap code due.0, log ∙ due.2, subst (λ (l : List ℕ). Gains old l new) due.1 whole))))
 
 -- an answer ends the program with status 0 or 5
 pub no_fault :

@@ -132,11 +132,7 @@ fn new_mirror(alloc: Global, game: &Match) -> Result<Mirror<Arena>, NoMemory>
 }
 
 // The mirror of a match after its script and draining, which print so much.
-fn drained_mirror(
-    alloc: Global,
-    game: &Match,
-    out: &mut Vec<u8>,
-) -> Result<Mirror<Arena>, NoMemory>
+fn drained_mirror(alloc: Global, game: &Match, out: &mut Vec<u8>) -> Result<Mirror<Arena>, NoMemory>
     requires { length game.now.delays ≡ 1 }
     ensures state { IfOk result (λ mirror. mirror ≡ played game.now) }
     ensures text { OnOk result (out.new.items ≡ out.old.items ++ events_text game.now) }

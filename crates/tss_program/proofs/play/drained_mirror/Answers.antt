@@ -29,4 +29,4 @@ pub returns-clause-text : goal.returns-clause-text
 returns-clause-text c =
     let made = c.in_ok-make_script.ensures in
     events-parts c.args.game.now _ _ _ _ (c.turns_to_drain-turns.ensures ∙ ap drain_bound made.state) made.text
-        (c.in_ok-drain_mirror.ensures.text ∙ ap (λ (s : MirrorState _). c.make_script.new.out.items ++ drain_text 0 c.turns_to_drain-turns.result s) made.state)
+    (c.in_ok-drain_mirror.ensures.text ∙ ap (λ (s : MirrorState _). c.make_script.new.out.items ++ drain_text 0 c.turns_to_drain-turns.result s) made.state)

@@ -12,7 +12,7 @@ returns-in-Err-clause-ends g c =
 pub returns-in-Ok-put_all-clause-ends : goal.returns-in-Ok-put_all-clause-ends
 returns-in-Ok-put_all-clause-ends g c =
     told-whole _ _ _ c.in-Ok-respond.answer _ _ _ _ _ _ (sym c.of.ensures ∙ c.in-Some.is) c.in-Ok-respond.ensures.due c.of-in-Ok-put_all.ensures.status c.of-in-Ok-put_all.ensures.kept
-        (subst (λ (l : List ℕ). Gains (g.K.Sink.taken c.args.sink.now) l (g.K.Sink.taken c.put_all-in-Ok-respond.new.sink)) c.as_slice.ensures.value c.in-Ok-put_all.ensures.whole)
+    (subst (λ (l : List ℕ). Gains (g.K.Sink.taken c.args.sink.now) l (g.K.Sink.taken c.put_all-in-Ok-respond.new.sink)) c.as_slice.ensures.value c.in-Ok-put_all.ensures.whole)
 
 pub returns-in-Ok-put_all-clause-read_fault : goal.returns-in-Ok-put_all-clause-read_fault
 returns-in-Ok-put_all-clause-read_fault g c = no_fault 3 _ c.in-Ok-respond.answer (omega arith) (omega arith) c.in-Ok-respond.ensures.answered c.of-in-Ok-put_all.ensures.status
