@@ -2,6 +2,7 @@
 //! whole crate once more.
 
 mod arena;
+mod commands;
 mod counting_game;
 mod delays;
 mod match_texts;
