@@ -6,7 +6,7 @@ use Rattle.std.proofs.lemmas.Cmp.{nat_list_eq_equiv}
 use Rattle.std.proofs.lemmas.List.{map-append}
 use Rattle.std.proofs.lemmas.Map.Keys.{IsDistinct-push}
 use Rattle.indexmap.specs.IndexSet.{insert_key}
-use Rattle.arena_rules.specs.Roster.{is_known, with_name, NamesDiffer}
+use Rattle.arena_rules.specs.Roster.{is_known, with_name, PlayerNamesDiffer}
 
 -- a test of what a function makes of each element
 pub list_any-map : {X Y : Type 0} (test : Y → Bool) (f : X → Y) (xs : List X) → list_any test (map f xs) ≡ list_any (λ x. test (f x)) xs
@@ -14,14 +14,14 @@ list_any-map test f [] = refl
 list_any-map test f (x ∷ xs) = ap (λ b. test (f x) || b) (list_any-map test f xs)
 
 -- no name stands twice among no names
-pub NamesDiffer-nil : NamesDiffer []
+pub PlayerNamesDiffer-nil : PlayerNamesDiffer []
 unfolding IsDistinct
-NamesDiffer-nil = tt
+PlayerNamesDiffer-nil = tt
 
 -- nor after a name is put last that isn't there
-pub NamesDiffer-with_name : (names : List (List ℕ)) (name : List ℕ) → NamesDiffer names → NamesDiffer (with_name names name)
-NamesDiffer-with_name names name differ =
-    elim (is_known names name) as (λ known. is_known names name ≡ known → NamesDiffer (if known then names else names ++ name ∷ [])) [
+pub PlayerNamesDiffer-with_name : (names : List (List ℕ)) (name : List ℕ) → PlayerNamesDiffer names → PlayerNamesDiffer (with_name names name)
+PlayerNamesDiffer-with_name names name differ =
+    elim (is_known names name) as (λ known. is_known names name ≡ known → PlayerNamesDiffer (if known then names else names ++ name ∷ [])) [
       | true ↦ λ _. differ
       | false ↦ λ unknown. IsDistinct-push nat_list_eq_equiv names name differ unknown
     ] refl

@@ -11,5 +11,5 @@ abbrev pub with_name : List (List ℕ) → List ℕ → List (List ℕ)
 with_name names name = if is_known names name then names else names ++ name ∷ []
 
 -- no name stands twice
-abbrev pub NamesDiffer : List (List ℕ) → Type 0
-NamesDiffer names = IsDistinct bytes_eq names
+abbrev pub PlayerNamesDiffer : List (List ℕ) → Type 0
+PlayerNamesDiffer names = IsDistinct bytes_eq names

@@ -1,6 +1,6 @@
 ghost use Rattle.std.specs.Prelude.{◌≡◌, [], IfOk, OnErr, not, slice_get, option_copied};
 ghost use Rattle.arena_rules.specs.Block.{name_of};
-ghost use Rattle.arena_rules.specs.Roster.{is_known, with_name, NamesDiffer};
+ghost use Rattle.arena_rules.specs.Roster.{is_known, with_name, PlayerNamesDiffer};
 
 use indexmap::IndexSet;
 use std::alloc::Global;
@@ -15,13 +15,13 @@ pub struct Roster {
 
 impl Model for Roster {
     ghost use Rattle.std.specs.Prelude.{List, ℕ, map};
-    ghost use Rattle.arena_rules.specs.Roster.{NamesDiffer};
+    ghost use Rattle.arena_rules.specs.Roster.{PlayerNamesDiffer};
 
     ghost Value = { List (List ℕ) };
 
     ghost view = { λ r. map (λ name. name.items) r.names.keys };
 
-    ghost invariant = { λ r. NamesDiffer (map (λ name. name.items) r.names.keys) };
+    ghost invariant = { λ r. PlayerNamesDiffer (map (λ name. name.items) r.names.keys) };
 }
 
 impl Roster {
@@ -39,7 +39,7 @@ impl Roster {
         ensures added { IfOk result (λ added. added ≡ not (is_known self.old name.now)) }
         ensures ok { IfOk result (λ _. self.new ≡ with_name self.old name.now) }
         ensures err { OnErr result (self.new ≡ self.old) }
-        ensures distinct { NamesDiffer self.new }
+        ensures distinct { PlayerNamesDiffer self.new }
     {
         if self.names.contains(name) {
             return Ok(false);
@@ -52,7 +52,7 @@ impl Roster {
     /// The name of the player of this number, counted from 0, or None where there are no more than so many names.
     pub fn name(&self, player: u8) -> Option<&[u8]>
         ensures name { option_copied result ≡ slice_get self.now player }
-        ensures distinct { NamesDiffer self.now }
+        ensures distinct { PlayerNamesDiffer self.now }
     {
         let name = self.names.get_index(player as usize)?;
         Some(name.as_slice())

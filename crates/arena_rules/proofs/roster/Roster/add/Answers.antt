@@ -1,6 +1,6 @@
 use Rattle.std.proofs.Common.{◌≡◌, true, false, not, map, ap, sym, ◌∙◌, refl, subst}
-use Rattle.arena_rules.specs.Roster.{is_known, NamesDiffer}
-use Rattle.arena_rules.proofs.Names.{is_known-keys, names-insert_key, NamesDiffer-with_name}
+use Rattle.arena_rules.specs.Roster.{is_known, PlayerNamesDiffer}
+use Rattle.arena_rules.proofs.Names.{is_known-keys, names-insert_key, PlayerNamesDiffer-with_name}
 use Rattle.arena_rules.proofs.roster.Roster.add.Goals as goal
 
 pub returns-then-contains-clause-added : goal.returns-then-contains-clause-added
@@ -25,7 +25,7 @@ returns-clause-ok c =
     ∙ rw (c.in_ok-name.ensures.items_if_clones_equal (λ x y same. same), c.self.view_is) refl
 
 pub returns-clause-distinct : goal.returns-clause-distinct
-returns-clause-distinct c = subst NamesDiffer (sym (returns-clause-ok c)) (NamesDiffer-with_name _ _ (subst NamesDiffer c.self.view_is c.self.invariant))
+returns-clause-distinct c = subst PlayerNamesDiffer (sym (returns-clause-ok c)) (PlayerNamesDiffer-with_name _ _ (subst PlayerNamesDiffer c.self.view_is c.self.invariant))
 
 pub invariant_of-self-2 : goal.invariant_of-self-2
 invariant_of-self-2 c = returns-clause-distinct c
