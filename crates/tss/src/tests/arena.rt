@@ -6,7 +6,6 @@ use arena_rules::{Arena, Face, Ground, Roster, Setup, Shown, Spot};
 use arrayvec::ArrayVec;
 use game_trait::{Act, Command, Game};
 use std::alloc::Global;
-use std::test::Fail;
 use tss_io::NoMemory;
 
 // A grid of 4 by 2 cells with a wall in (1, 1), player 0 in (0, 0) to the east and player 1 in (2, 0) to the south.
@@ -73,18 +72,16 @@ fn do_acts_lead_to_blocks(
     Ok(true)
 }
 
-fn named_ann(alloc: Global) -> Result<Roster, NoMemory> {
+// The same, where the first player has a name.
+fn do_acts_of_ann_lead_to_blocks(alloc: Global) -> Result<bool, NoMemory> {
     let mut roster = Roster::new(alloc)?;
     let _is_added = roster.add(b"ann")?;
-    Ok(roster)
+    do_acts_lead_to_blocks(alloc, &mut two_players(), &roster)
 }
 
 #[test]
-fn goes_and_turns(rt: HostRuntime) -> Result<(), Fail> {
-    let roster = named_ann(rt.alloc())?;
-    let mut arena = two_players();
-    assert!(rt; do_acts_lead_to_blocks(rt.alloc(), &mut arena, &roster)?);
-    Ok(())
+fn goes_and_turns(rt: HostRuntime) {
+    assert!(rt; do_acts_of_ann_lead_to_blocks(rt.alloc()) == Ok(true));
 }
 
 #[test]
@@ -117,14 +114,15 @@ fn tells_free_cells(rt: HostRuntime) {
     }
 }
 
-// Whether each name is added exactly where it is new.
-fn does_add_new_names(roster: &mut Roster) -> Result<bool, NoMemory> {
+// Whether each name is added exactly where it is new, and is there then.
+fn does_add_new_names(alloc: Global) -> Result<bool, NoMemory> {
+    let mut roster = Roster::new(alloc)?;
     for (name, is_new) in [("ann", true), ("bob", true), ("ann", false)] {
         if roster.add(name.as_bytes())? != is_new {
             return Ok(false);
         }
     }
-    Ok(true)
+    Ok(has_both_names(&roster))
 }
 
 fn has_both_names(roster: &Roster) -> bool {
@@ -134,8 +132,6 @@ fn has_both_names(roster: &Roster) -> bool {
 }
 
 #[test]
-fn takes_each_name_once(rt: HostRuntime) -> Result<(), Fail> {
-    let mut roster = Roster::new(rt.alloc())?;
-    assert!(rt; does_add_new_names(&mut roster)? && has_both_names(&roster));
-    Ok(())
+fn takes_each_name_once(rt: HostRuntime) {
+    assert!(rt; does_add_new_names(rt.alloc()) == Ok(true));
 }

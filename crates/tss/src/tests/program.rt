@@ -237,11 +237,10 @@ fn does_end_as_due(alloc: Global, case: &Case) -> Result<bool, NoMemory> {
 }
 
 #[test]
-fn runs_end_as_they_have_to(rt: HostRuntime) -> Result<(), Fail> {
+fn runs_end_as_they_have_to(rt: HostRuntime) {
     for (at, case) in CASES.iter().enumerate() {
-        assert!(rt; does_end_as_due(rt.alloc(), case)?, "case {at}");
+        assert!(rt; does_end_as_due(rt.alloc(), case) == Ok(true), "case {at}");
     }
-    Ok(())
 }
 
 // Makes an event that has to fit.
