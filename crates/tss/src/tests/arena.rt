@@ -58,7 +58,7 @@ fn do_acts_lead_to_blocks(
     arena: &mut Arena,
     roster: &Roster,
 ) -> Result<bool, NoMemory> {
-    for (player, act, block) in ACTS {
+    for &(player, act, block) in &ACTS {
         arena.apply(&Command {
             player,
             act,
@@ -75,8 +75,8 @@ fn do_acts_lead_to_blocks(
 // The same, where the first player has a name.
 fn do_acts_of_ann_lead_to_blocks(alloc: Global) -> Result<bool, NoMemory> {
     let mut roster = Roster::new(alloc)?;
-    let _is_added = roster.add(b"ann")?;
-    do_acts_lead_to_blocks(alloc, &mut two_players(), &roster)
+    let is_added = roster.add(b"ann") == Ok(true);
+    Ok(is_added && do_acts_lead_to_blocks(alloc, &mut two_players(), &roster) == Ok(true))
 }
 
 #[test]
@@ -94,35 +94,46 @@ fn takes_another_world(rt: HostRuntime) {
     assert!(rt; arena.time() == 0);
 }
 
+// Cells of a grid of 4 by 2, or outside it, and whether they are free where (3, 1) is a wall.
+const CELLS: [(i32, i32, bool); 9] = [
+    (0, 0, true),
+    (2, 1, true),
+    (3, 1, false),
+    (3, 0, true),
+    (4, 0, false),
+    (0, 2, false),
+    (-1, 0, false),
+    (0, -1, false),
+    (256, 0, false),
+];
+
+fn tells_each_cell(ground: &Ground) -> bool {
+    for &(x, y, free) in &CELLS {
+        if ground.free(x, y) != free {
+            return false;
+        }
+    }
+    ground.width() == 4 && ground.height() == 2
+}
+
 #[test]
 fn tells_free_cells(rt: HostRuntime) {
     let mut ground = Ground::new(4, 2);
     ground.wall(3, 1);
-    assert!(rt; ground.width() == 4 && ground.height() == 2);
-    for (x, y, free) in [
-        (0, 0, true),
-        (2, 1, true),
-        (3, 1, false),
-        (3, 0, true),
-        (4, 0, false),
-        (0, 2, false),
-        (-1, 0, false),
-        (0, -1, false),
-        (256, 0, false),
-    ] {
-        assert_eq!(rt; ground.free(x, y), free, "at {x} {y}");
-    }
+    assert!(rt; tells_each_cell(&ground));
 }
 
-// Whether each name is added exactly where it is new, and is there then.
+// Whether each name is added exactly where it is new.
+fn adds_where_new(roster: &mut Roster) -> bool {
+    roster.add(b"ann") == Ok(true)
+        && roster.add(b"bob") == Ok(true)
+        && roster.add(b"ann") == Ok(false)
+}
+
+// The same, on a roster that is new, where both names are then.
 fn does_add_new_names(alloc: Global) -> Result<bool, NoMemory> {
     let mut roster = Roster::new(alloc)?;
-    for (name, is_new) in [("ann", true), ("bob", true), ("ann", false)] {
-        if roster.add(name.as_bytes())? != is_new {
-            return Ok(false);
-        }
-    }
-    Ok(has_both_names(&roster))
+    Ok(adds_where_new(&mut roster) && has_both_names(&roster))
 }
 
 fn has_both_names(roster: &Roster) -> bool {

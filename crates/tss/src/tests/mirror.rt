@@ -56,8 +56,8 @@ fn answers_alike(
     ensures { mirror.new.length ≡ 4 }
 {
     assert!(rt; plain.does_fit(event));
-    let answers = (answer(rt, mirror, event), plain.make(alloc, event)?);
-    assert_eq!(rt; answers, (reply, reply));
+    let by_plain = plain.make(alloc, event)?;
+    assert!(rt; answer(rt, mirror, event) == reply && by_plain == reply);
     Ok(())
 }
 
@@ -73,7 +73,25 @@ fn have_run(mirror: &Mirror<LastCommand>, plain: &PlainMirror<LastCommand>, run:
     mirror.run_len(0) as usize == run.len()
 }
 
-// Makes the events on a mirror and on a plain one, and compares their answers, and their runs at the end.
+// Makes the events on both, and compares their answers, and their runs at the end.
+fn plays_on(
+    rt: &impl Abort,
+    alloc: Global,
+    mirror: &mut Mirror<LastCommand>,
+    plain: &mut PlainMirror<LastCommand>,
+    events: &[(Event, Reply)],
+    run: &[Item],
+) -> Result<(), Fail>
+    requires { mirror.old.length ≡ 4 }
+{
+    for (event, reply) in events {
+        answers_alike(rt, alloc, mirror, plain, event, *reply)?;
+    }
+    assert!(rt; have_run(mirror, plain, run));
+    Ok(())
+}
+
+// The same, on a mirror and on a plain one that are new.
 fn plays(
     rt: &impl Abort,
     alloc: Global,
@@ -82,11 +100,7 @@ fn plays(
 ) -> Result<(), Fail> {
     let mut mirror = opened(alloc)?;
     let mut plain = opened_plain(alloc)?;
-    for (event, reply) in events {
-        answers_alike(rt, alloc, &mut mirror, &mut plain, event, *reply)?;
-    }
-    assert!(rt; have_run(&mirror, &plain, run));
-    Ok(())
+    plays_on(rt, alloc, &mut mirror, &mut plain, events, run)
 }
 
 const TICKS: (Event, Reply) = (Event::Tick, Reply::Tick(Ticked::Moved));

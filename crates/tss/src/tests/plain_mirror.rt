@@ -31,7 +31,7 @@ fn answers(
 ) -> Result<(), Fail> {
     for (events, reply) in rows {
         let last = make_all(alloc, mirror, events)?;
-        assert_eq!(rt; last, Some(*reply));
+        assert!(rt; last == Some(*reply));
     }
     Ok(())
 }
@@ -49,24 +49,35 @@ fn has_repaired_twice(mirror: &PlainMirror<LastCommand>) -> bool {
         && mirror.accepted().len() == 1
 }
 
+// Makes five turns, a late arrival that the copy behind the leading one takes in time, and one turn more.
+fn repairs_twice(
+    rt: &impl Abort,
+    alloc: Global,
+    mirror: &mut PlainMirror<LastCommand>,
+) -> Result<(), Fail> {
+    let turn = [Event::Tick, Event::Step(0), Event::Step(1), Event::Step(2)];
+    let ran = Reply::Step(Stepped::Ran { repaired: 0 });
+    let taken = Reply::Arrive(Arrived::Taken { repaired: 1 });
+    let repaired = Reply::Step(Stepped::Ran { repaired: 2 });
+    let rows: [(&[Event], Reply); 7] = [
+        (&turn, Reply::Step(Stepped::Idle)),
+        (&turn, Reply::Step(Stepped::Idle)),
+        (&turn, Reply::Step(Stepped::Idle)),
+        (&turn, Reply::Step(Stepped::Idle)),
+        (&turn, ran),
+        (&[arrival(1, 7)], taken),
+        (&turn, repaired),
+    ];
+    answers(rt, alloc, mirror, &rows)?;
+    assert!(rt; has_repaired_twice(mirror));
+    Ok(())
+}
+
 #[test]
 #[tactic(auto, unfolding(sync_model::specs::Staggered::DelaysRise))]
 fn repaired_twice(rt: HostRuntime) -> Result<(), Fail> {
     let mut mirror = PlainMirror::new(rt.alloc(), &OPENING, 8, &[0, 2, 4], 2)?;
-    let turn = [Event::Tick, Event::Step(0), Event::Step(1), Event::Step(2)];
-    for _ in 0..5 {
-        make_all(rt.alloc(), &mut mirror, &turn)?;
-    }
-    let taken = Reply::Arrive(Arrived::Taken { repaired: 1 });
-    let ran = Reply::Step(Stepped::Ran { repaired: 2 });
-    answers(
-        &rt,
-        rt.alloc(),
-        &mut mirror,
-        &[(&[arrival(1, 7)], taken), (&turn, ran)],
-    )?;
-    assert!(rt; has_repaired_twice(&mirror));
-    Ok(())
+    repairs_twice(&rt, rt.alloc(), &mut mirror)
 }
 
 fn has_turned_one_away(mirror: &PlainMirror<LastCommand>) -> bool {
@@ -78,10 +89,12 @@ fn has_turned_one_away(mirror: &PlainMirror<LastCommand>) -> bool {
     mirror.turned() == turned.as_slice() && mirror.spare() == 0 && mirror.events().len() == 9
 }
 
-#[test]
-#[tactic(auto, unfolding(sync_model::specs::Staggered::DelaysRise))]
-fn repeat_and_late(rt: HostRuntime) -> Result<(), Fail> {
-    let mut mirror = PlainMirror::new(rt.alloc(), &OPENING, 4, &[0], 2)?;
+// Makes a command arrive twice, and another too late, in a match of four ticks with one copy without delay.
+fn turns_one_away(
+    rt: &impl Abort,
+    alloc: Global,
+    mirror: &mut PlainMirror<LastCommand>,
+) -> Result<(), Fail> {
     let three_turns = [
         Event::Tick,
         Event::Step(0),
@@ -90,22 +103,25 @@ fn repeat_and_late(rt: HostRuntime) -> Result<(), Fail> {
         Event::Tick,
         Event::Step(0),
     ];
-    answers(
-        &rt,
-        rt.alloc(),
-        &mut mirror,
-        &[
-            (
-                &[arrival(2, 7)],
-                Reply::Arrive(Arrived::Taken { repaired: 0 }),
-            ),
-            (&[arrival(2, 7)], Reply::Arrive(Arrived::Repeat)),
-            (&three_turns, Reply::Step(Stepped::Ran { repaired: 0 })),
-            (&[arrival(2, 8)], Reply::Arrive(Arrived::Late { bound: 3 })),
-            (&[Event::Step(0)], Reply::Step(Stepped::Idle)),
-            (&[Event::Tick, Event::Tick], Reply::Tick(Ticked::Over)),
-        ],
-    )?;
-    assert!(rt; has_turned_one_away(&mirror));
+    let rows: [(&[Event], Reply); 6] = [
+        (
+            &[arrival(2, 7)],
+            Reply::Arrive(Arrived::Taken { repaired: 0 }),
+        ),
+        (&[arrival(2, 7)], Reply::Arrive(Arrived::Repeat)),
+        (&three_turns, Reply::Step(Stepped::Ran { repaired: 0 })),
+        (&[arrival(2, 8)], Reply::Arrive(Arrived::Late { bound: 3 })),
+        (&[Event::Step(0)], Reply::Step(Stepped::Idle)),
+        (&[Event::Tick, Event::Tick], Reply::Tick(Ticked::Over)),
+    ];
+    answers(rt, alloc, mirror, &rows)?;
+    assert!(rt; has_turned_one_away(mirror));
     Ok(())
+}
+
+#[test]
+#[tactic(auto, unfolding(sync_model::specs::Staggered::DelaysRise))]
+fn repeat_and_late(rt: HostRuntime) -> Result<(), Fail> {
+    let mut mirror = PlainMirror::new(rt.alloc(), &OPENING, 4, &[0], 2)?;
+    turns_one_away(&rt, rt.alloc(), &mut mirror)
 }

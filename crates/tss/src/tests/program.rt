@@ -1,12 +1,6 @@
 //! Runs of the program.
 
-use arena_rules::{Arena, Roster, Shown};
-use game_trait::Event;
-use match_file::{Match, read_match};
 use std::alloc::Global;
-use std::process::Abort;
-use std::test::Fail;
-use sync_model::PlainMirror;
 use tss_io::{MemSink, MemSource, NoMemory};
 use tss_program::{Done, run_plain};
 
@@ -241,79 +235,4 @@ fn runs_end_as_they_have_to(rt: HostRuntime) {
     for (at, case) in CASES.iter().enumerate() {
         assert!(rt; does_end_as_due(rt.alloc(), case) == Ok(true), "case {at}");
     }
-}
-
-// Makes an event that has to fit.
-fn makes(
-    rt: &impl Abort,
-    alloc: Global,
-    plain: &mut PlainMirror<Arena>,
-    event: &Event,
-) -> Result<(), Fail> {
-    assert!(rt; plain.does_fit(event));
-    let _ = plain.make(alloc, event)?;
-    Ok(())
-}
-
-fn makes_two_turns(
-    rt: &impl Abort,
-    alloc: Global,
-    plain: &mut PlainMirror<Arena>,
-) -> Result<(), Fail> {
-    for _ in 0..2 {
-        makes(rt, alloc, plain, &Event::Tick)?;
-        makes(rt, alloc, plain, &Event::Step(0))?;
-    }
-    Ok(())
-}
-
-// Makes the events of the match that is just in time, and its draining.
-fn makes_just_in_time(
-    rt: &impl Abort,
-    alloc: Global,
-    plain: &mut PlainMirror<Arena>,
-    game: &Match,
-) -> Result<(), Fail> {
-    makes_two_turns(rt, alloc, plain)?;
-    for &x in game.commands.iter() {
-        makes(rt, alloc, plain, &Event::Arrive(x))?;
-    }
-    makes_two_turns(rt, alloc, plain)
-}
-
-fn does_show(
-    alloc: Global,
-    plain: &PlainMirror<Arena>,
-    roster: &Roster,
-    block: &str,
-) -> Result<bool, NoMemory> {
-    if plain.copies() != 1 {
-        return Ok(false);
-    }
-    let mut lines = Vec::new(alloc);
-    plain.world(0).block(roster, &mut lines)?;
-    Ok(lines.as_slice() == block.as_bytes())
-}
-
-// Whether a plain mirror along those events comes to this block.
-#[tactic(auto, unfolding(sync_model::specs::Staggered::DelaysRise))]
-fn plain_mirror_shows(
-    rt: &impl Abort,
-    alloc: Global,
-    game: &Match,
-    block: &str,
-) -> Result<bool, Fail> {
-    let opening = Arena::start(&game.setup);
-    let mut plain = PlainMirror::new(alloc, &opening, 4, &[0], 8)?;
-    makes_just_in_time(rt, alloc, &mut plain, game)?;
-    Ok(does_show(alloc, &plain, &game.roster, block)?)
-}
-
-// The plain mirror, along the events of the match that is just in time, comes to the world that `play` shows.
-#[test]
-fn plain_mirror_agrees_on_the_arena(rt: HostRuntime) -> Result<(), Fail> {
-    let game = read_match(rt.alloc(), JUST_IN_TIME.as_bytes())?;
-    let is_shown = plain_mirror_shows(&rt, rt.alloc(), &game, "live ann 1 0 e 3 5 0\n")?;
-    assert!(rt; is_shown);
-    Ok(())
 }
