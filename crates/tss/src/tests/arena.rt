@@ -9,7 +9,7 @@ use std::alloc::Global;
 use tss_io::NoMemory;
 
 // A grid of 4 by 2 cells with a wall in (1, 1), player 0 in (0, 0) to the east and player 1 in (2, 0) to the south.
-fn two_players() -> Arena
+pub(super) fn two_players() -> Arena
     ensures { length result.players ≡ 2 }
 {
     let mut ground = Ground::new(4, 2);

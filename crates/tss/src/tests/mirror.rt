@@ -2,8 +2,9 @@
 
 ghost use Rattle.std.specs.Prelude.{◌≡◌, IfOk};
 
+use super::arena::two_players;
 use super::counting_game::{LastCommand, OPENING, arrival, go};
-use game_trait::{Arrived, Event, Item, Reply, Stepped, Ticked};
+use game_trait::{Arrived, Event, Game, Item, Reply, Stepped, Ticked};
 use mirror_core::Mirror;
 use stagger_clock::Stagger;
 use std::alloc::Global;
@@ -13,20 +14,20 @@ use sync_model::PlainMirror;
 
 // A match of four ticks with one copy without delay, and room for eight arrivals.
 #[tactic(auto, unfolding(sync_model::specs::Staggered::DelaysRise))]
-fn opened(alloc: Global) -> Result<Mirror<LastCommand>, Fail>
+fn opened<G: Game>(alloc: Global, opening: &G) -> Result<Mirror<G>, Fail>
     ensures { IfOk result (λ m. m.length ≡ 4) }
 {
-    Ok(Mirror::new(alloc, &OPENING, Stagger::new(&[0], 4), 8)?)
+    Ok(Mirror::new(alloc, opening, Stagger::new(&[0], 4), 8)?)
 }
 
 // The plain mirror of the same match.
 #[tactic(auto, unfolding(sync_model::specs::Staggered::DelaysRise))]
-fn opened_plain(alloc: Global) -> Result<PlainMirror<LastCommand>, Fail> {
-    Ok(PlainMirror::new(alloc, &OPENING, 4, &[0], 8)?)
+fn opened_plain<G: Game>(alloc: Global, opening: &G) -> Result<PlainMirror<G>, Fail> {
+    Ok(PlainMirror::new(alloc, opening, 4, &[0], 8)?)
 }
 
 // Makes the event, once it is seen that it fits and finds room.
-fn answer(rt: &impl Abort, mirror: &mut Mirror<LastCommand>, event: &Event) -> Reply
+fn answer<G: Game>(rt: &impl Abort, mirror: &mut Mirror<G>, event: &Event) -> Reply
     requires { mirror.old.length ≡ 4 }
     ensures { mirror.new.length ≡ 4 }
 {
@@ -44,11 +45,11 @@ fn answer(rt: &impl Abort, mirror: &mut Mirror<LastCommand>, event: &Event) -> R
 }
 
 // Makes the event on both, and compares their answers.
-fn answers_alike(
+fn answers_alike<G: Game>(
     rt: &impl Abort,
     alloc: Global,
-    mirror: &mut Mirror<LastCommand>,
-    plain: &mut PlainMirror<LastCommand>,
+    mirror: &mut Mirror<G>,
+    plain: &mut PlainMirror<G>,
     event: &Event,
     reply: Reply,
 ) -> Result<(), Fail>
@@ -61,7 +62,7 @@ fn answers_alike(
     Ok(())
 }
 
-fn have_run(mirror: &Mirror<LastCommand>, plain: &PlainMirror<LastCommand>, run: &[Item]) -> bool {
+fn have_run<G: Game>(mirror: &Mirror<G>, plain: &PlainMirror<G>, run: &[Item]) -> bool {
     if mirror.copies() != 1 || plain.copies() != 1 || plain.run_of(0) != run {
         return false;
     }
@@ -74,11 +75,11 @@ fn have_run(mirror: &Mirror<LastCommand>, plain: &PlainMirror<LastCommand>, run:
 }
 
 // Makes the events on both, and compares their answers, and their runs at the end.
-fn plays_on(
+fn plays_on<G: Game>(
     rt: &impl Abort,
     alloc: Global,
-    mirror: &mut Mirror<LastCommand>,
-    plain: &mut PlainMirror<LastCommand>,
+    mirror: &mut Mirror<G>,
+    plain: &mut PlainMirror<G>,
     events: &[(Event, Reply)],
     run: &[Item],
 ) -> Result<(), Fail>
@@ -92,14 +93,15 @@ fn plays_on(
 }
 
 // The same, on a mirror and on a plain one that are new.
-fn plays(
+fn plays<G: Game>(
     rt: &impl Abort,
     alloc: Global,
+    opening: &G,
     events: &[(Event, Reply)],
     run: &[Item],
 ) -> Result<(), Fail> {
-    let mut mirror = opened(alloc)?;
-    let mut plain = opened_plain(alloc)?;
+    let mut mirror = opened(alloc, opening)?;
+    let mut plain = opened_plain(alloc, opening)?;
     plays_on(rt, alloc, &mut mirror, &mut plain, events, run)
 }
 
@@ -129,9 +131,15 @@ fn late_due_and_repeated(rt: HostRuntime) -> Result<(), Fail> {
         arrives(0, late),
     ];
     let executed = [Item::Beat, Item::Cmd(go(1, 1)), Item::Beat];
-    plays(&rt, rt.alloc(), &late_by_one, &[Item::Beat, Item::Beat])?;
-    plays(&rt, rt.alloc(), &just_in_time, &executed)?;
-    plays(&rt, rt.alloc(), &repeat_and_late_again, &executed)
+    plays(
+        &rt,
+        rt.alloc(),
+        &OPENING,
+        &late_by_one,
+        &[Item::Beat, Item::Beat],
+    )?;
+    plays(&rt, rt.alloc(), &two_players(), &just_in_time, &executed)?;
+    plays(&rt, rt.alloc(), &OPENING, &repeat_and_late_again, &executed)
 }
 
 // Runs the match to its end, with a command of tick 1, and tells whether each answer is as due.
@@ -176,7 +184,7 @@ fn shows_its_end(mirror: &Mirror<LastCommand>) -> bool {
 
 #[test]
 fn every_part_is_shown(rt: HostRuntime) -> Result<(), Fail> {
-    let mut mirror = opened(rt.alloc())?;
+    let mut mirror = opened(rt.alloc(), &OPENING)?;
     assert!(rt; runs_to_its_end(&rt, &mut mirror) && shows_its_end(&mirror));
     Ok(())
 }
