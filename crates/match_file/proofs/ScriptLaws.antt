@@ -28,6 +28,14 @@ is_end-lines_of (b ∷ bytes) =
       | false ↦ not_end b (lines_of bytes)
     ])
 
+-- ---- the last line
+
+-- a script ends with its last line, where no byte is behind that and the script has a line
+pub script_step-end : (commands : List Command) (so_far : List ScriptLine) (lines : Lines) (l : List ℕ) (rest : Lines)
+    → line_at lines ≡ Ok (l, rest) → bytes_eq l end_word ≡ true → (is_end rest && ltb 0 (length so_far)) ≡ true → script_step commands so_far lines ≡ Ok (so_far, None)
+unfolding script_step
+script_step-end commands so_far lines l rest e last whole = rw (e, script_line_step, last, whole) refl
+
 -- ---- a step, and the steps after it
 
 -- what a step gave, and what follows
