@@ -1,14 +1,14 @@
-pub mod Lines
-pub mod Steps
-pub mod CommandLaws
-pub mod Spaced
-pub mod LineLaws
-pub mod NameLaws
-pub mod CommandTexts
-pub mod ScriptLaws
-pub mod ScriptLines
-pub mod ScriptTexts
-pub mod ScriptData
-pub mod FaultLaws
+mod Lines
+mod Steps
+mod CommandLaws
+mod Spaced
+mod LineLaws
+mod NameLaws
+mod CommandTexts
+mod ScriptLaws
+mod ScriptLines
+mod ScriptTexts
+mod ScriptData
+mod FaultLaws
 pub mod MatchLaws
 pub mod TextLength

@@ -9,15 +9,17 @@ use Rattle.arena_rules.specs.declared.spot.Spot.{Spot}
 use Rattle.arena_rules.specs.Ground.{Grid, open_grid, is_walled, is_open}
 use Rattle.arena_rules.specs.Setup.{IsLayout}
 use Rattle.arena_rules.proofs.Walls.{is_walled-open_grid, IsGrid-open_grid}
-use Rattle.tss_io.proofs.Reading.{then}
+use Rattle.tss_io.specs.Reading.{◌>>=◌}
+use Rattle.tss_io.proofs.Reading.{then, then_err}
 use Rattle.match_file.specs.declared.fault.Refused.{Refused}
 use Rattle.match_file.specs.declared.fault.TextFault.{TextFault}
+use Rattle.match_file.specs.declared.fault.TextFault.TheVariants as faults
 use Rattle.match_file.specs.declared.opening.Opening.{Opening}
 use Rattle.match_file.specs.declared.script_line.ScriptLine.{ScriptLine}
 use Rattle.match_file.specs.Lines.{Lines, line, lines_of, text_of, spaced}
 use Rattle.match_file.specs.Data.{MatchData, IsCommand, IsScriptLine, IsMatch, IsPlain, Rises}
 use Rattle.match_file.specs.Text.{head_words, length_word, grid_word, mirrors_word, delays_word, pace_word, before, below, walls_of, player_lines, player_line, command_line, match_lines, match_text}
-use Rattle.match_file.specs.Reading.{Gives, IsShape, PlayerData, plain_match, opening_at, player_at, commands_at, closing_at, match_at, read_text}
+use Rattle.match_file.specs.Reading.{Gives, Fails, IsShape, PlayerData, plain_match, opening_at, player_at, commands_at, closing_at, events_at, match_at, read_text}
 use Rattle.match_file.proofs.Lines.{text_of-lines_of}
 use Rattle.match_file.proofs.Spaced.{AreWords, Lacks, Lacks-spaced, AreLines, AreLines-before, lines_of-text_of}
 use Rattle.match_file.proofs.LineLaws.{through, IsKeyword, length_keyword, grid_keyword, mirrors_keyword, delays_keyword, pace_keyword, number_word, player_fits, IsPlainCommand, IsPlaced, player_takes, player_again, IsOpening, opening_before, opening_takes, opening_again}
@@ -265,12 +267,41 @@ read_text-match_text m h = ap match_at (lines_of-text_of (match_lines m) (match_
 
 -- ---- what a call returned
 
-pub is_match : (lines : Lines) (o : Opening) (one : Lines) (p : PlayerData) (two : Lines) (commands : List Command) (three : Lines) (script : List ScriptLine)
-    → opening_at lines ≡ Ok (o, one) → player_at o.sides one ≡ Ok (p, two) → commands_at o.length [] two ≡ Ok (commands, three) → closing_at commands three ≡ Ok script → IsMatch (plain_match o p commands script)
-unfolding match_at
-is_match lines o one p two commands three script a b c d =
-    let read : match_at lines ≡ Ok (plain_match o p commands script) = then _ _ _ _ a (then _ _ _ _ b (then _ _ _ _ c (then _ _ _ _ d refl))) in
-    (match_takes lines (plain_match o p commands script) read).0.sound
+abbrev one_of : {A : Type 0} → A → Result A Refused
+one_of x = Ok x
+
+abbrev both : {A B : Type 0} → A → B → Result (A × B) Refused
+both a b = Ok (a, b)
+
+closing_on : (o : Opening) (p : PlayerData) (commands : List Command) (script : Result (List ScriptLine) Refused)
+    → (script >>= λ s. one_of (plain_match o p commands s)) ≡ ((script >>= λ s. both commands s) >>= λ x. one_of (plain_match o p x.0 x.1))
+closing_on o p commands (Ok s) = refl
+closing_on o p commands (Err e) = refl
+
+commands_on : (o : Opening) (p : PlayerData) (commands : Result (List Command × Lines) Refused)
+    → (commands >>= λ c. closing_at c.0 c.1 >>= λ s. one_of (plain_match o p c.0 s)) ≡ ((commands >>= λ c. closing_at c.0 c.1 >>= λ s. both c.0 s) >>= λ x. one_of (plain_match o p x.0 x.1))
+commands_on o p (Ok c) = closing_on o p c.0 (closing_at c.0 c.1)
+commands_on o p (Err e) = refl
+
+-- the match by its commands and script, behind the lines in front of them
+match_at-events : (lines : Lines) (o : Opening) (one : Lines) (p : PlayerData) (two : Lines)
+    → opening_at lines ≡ Ok (o, one) → player_at o.sides one ≡ Ok (p, two) → match_at lines ≡ (events_at o.length two >>= λ x. one_of (plain_match o p x.0 x.1))
+unfolding match_at events_at
+match_at-events lines o one p two a b = then _ _ _ _ a (then _ _ _ _ b (commands_on o p (commands_at o.length [] two)))
+
+pub events_read : (lines : Lines) (o : Opening) (one : Lines) (p : PlayerData) (two : Lines) (x : List Command × List ScriptLine)
+    → opening_at lines ≡ Ok (o, one) → player_at o.sides one ≡ Ok (p, two) → events_at o.length two ≡ Ok x → match_at lines ≡ Ok (plain_match o p x.0 x.1)
+events_read lines o one p two x a b e = match_at-events lines o one p two a b ∙ then _ _ _ _ e refl
+
+pub events_refused : (e : TextFault) (lines : Lines) (o : Opening) (one : Lines) (p : PlayerData) (two : Lines)
+    → opening_at lines ≡ Ok (o, one) → player_at o.sides one ≡ Ok (p, two) → Fails e (events_at o.length two) → Fails e (match_at lines)
+events_refused faults.NoMemory lines o one p two a b h = tt
+events_refused (faults.Refused d) lines o one p two a b h = match_at-events lines o one p two a b ∙ then_err _ _ _ h
+
+pub is_match : (lines : Lines) (o : Opening) (one : Lines) (p : PlayerData) (two : Lines) (x : List Command × List ScriptLine)
+    → opening_at lines ≡ Ok (o, one) → player_at o.sides one ≡ Ok (p, two) → events_at o.length two ≡ Ok x → IsMatch (plain_match o p x.0 x.1)
+is_match lines o one p two x a b e =
+    (match_takes lines (plain_match o p x.0 x.1) (events_read lines o one p two x a b e)).0.sound
 
 pub is_found : (text : List ℕ) (r : Result MatchData TextFault) → Gives (λ m. m) r (read_text text) → IfOk r (λ m. IsPlain m × (text ≡ match_text m))
 is_found text (Ok m) h = match_text-read_text text m h

@@ -8,9 +8,11 @@ use Rattle.match_file.specs.declared.fault.Refused.{Refused}
 use Rattle.match_file.specs.declared.fault.TextFault.{TextFault}
 use Rattle.match_file.specs.declared.fault.TextFault.TheVariants as faults
 use Rattle.match_file.specs.declared.script_line.ScriptLine.{ScriptLine}
+use Rattle.match_file.specs.declared.script_line.ScriptLine.TheVariants.{Arrive}
+use Rattle.match_file.specs.Names.{has_command}
 use Rattle.match_file.specs.Lines.{Lines, torn, line, onto, lines_of}
 use Rattle.match_file.specs.Text.{end_word}
-use Rattle.match_file.specs.Reading.{Fails, shape, is_end, line_at, script_line_at, lengthened, script_line_step, script_step, script_at}
+use Rattle.match_file.specs.Reading.{Fails, shape, is_end, line_at, front_number_in, last_number_in, arrive_at, script_line_at, lengthened, script_line_step, script_step, script_at}
 
 -- ---- the end of the text
 
@@ -27,6 +29,26 @@ is_end-lines_of (b ∷ bytes) =
       | true ↦ refl
       | false ↦ not_end b (lines_of bytes)
     ])
+
+-- ---- single lines
+
+-- a command that is there may arrive
+pub arrive_at-known : (commands : List Command) (words : List (List ℕ)) (mirror from number : ℕ) (more last : List (List ℕ))
+    → front_number_in 0 0 words ≡ Ok (mirror, more) → front_number_in 0 0 more ≡ Ok (from, last) → last_number_in 0 999999 last ≡ Ok number → has_command from number commands ≡ true → arrive_at commands words ≡ Ok (Arrive mirror from number)
+unfolding arrive_at
+arrive_at-known commands words mirror from number more last a b c known = rw (a, b, c, known) refl
+
+-- a command that isn't there may not
+pub arrive_at-unknown : (commands : List Command) (words : List (List ℕ)) (mirror from number : ℕ) (more last : List (List ℕ))
+    → front_number_in 0 0 words ≡ Ok (mirror, more) → front_number_in 0 0 more ≡ Ok (from, last) → last_number_in 0 999999 last ≡ Ok number → has_command from number commands ≡ false → arrive_at commands words ≡ Err shape
+unfolding arrive_at
+arrive_at-unknown commands words mirror from number more last a b c known = rw (a, b, c, known) refl
+
+-- a script ends with its last line, where no byte is behind that and the script has a line
+pub script_step-end : (commands : List Command) (so_far : List ScriptLine) (lines : Lines) (l : List ℕ) (rest : Lines)
+    → line_at lines ≡ Ok (l, rest) → bytes_eq l end_word ≡ true → (is_end rest && ltb 0 (length so_far)) ≡ true → script_step commands so_far lines ≡ Ok (so_far, None)
+unfolding script_step
+script_step-end commands so_far lines l rest e last whole = rw (e, script_line_step, last, whole) refl
 
 -- ---- a step, and the steps after it
 

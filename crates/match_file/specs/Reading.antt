@@ -292,6 +292,13 @@ closing_step commands l =
 unfoldable pub closing_at : List Command → Lines → Result (List ScriptLine) Refused
 closing_at commands lines = line_at lines >>= closing_step commands
 
+-- the commands and the script, up to the end of the text
+unfoldable pub events_at : ℕ → Lines → Result (List Command × List ScriptLine) Refused
+events_at ticks lines = do
+  commands ← commands_at ticks [] lines
+  script ← closing_at commands.0 commands.1
+  Ok (commands.0, script)
+
 -- the match of these parts
 abbrev pub plain_match : Opening → PlayerData → List Command → List ScriptLine → MatchData
 plain_match opening player commands script = record {

@@ -24,11 +24,14 @@ pub const GREATEST_NUMBER: u32 = 999999;
 fn act(word: &[u8]) -> Option<Act>
     ensures { Finds (λ x. x) result (act_of word.now) }
 {
-    match word {
-        b"go" => Some(Act::Go),
-        b"left" => Some(Act::Left),
-        b"right" => Some(Act::Right),
-        _ => None,
+    if word == b"go".as_slice() {
+        Some(Act::Go)
+    } else if word == b"left".as_slice() {
+        Some(Act::Left)
+    } else if word == b"right".as_slice() {
+        Some(Act::Right)
+    } else {
+        None
     }
 }
 

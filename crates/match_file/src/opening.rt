@@ -1,6 +1,6 @@
 //! The lines up to the pace: how long the match is, its grid, its mirrors and their delays. No call takes memory.
 
-ghost use Rattle.std.specs.Prelude.{◌≡◌, ◌≤◌, ◌<◌, IfOk, IfSome};
+ghost use Rattle.std.specs.Prelude.{◌≡◌, ◌≤◌, ◌<◌, IfSome};
 ghost use Rattle.match_file.specs.Lines.{lines_of};
 ghost use Rattle.match_file.specs.Reading.{Finds, Answers, head_at, number_at, grid_at, opening_at};
 
@@ -56,9 +56,7 @@ fn read_number<'a>(keyword: &[u8], least: u32, most: u32, text: &'a [u8]) -> Opt
 // The sides of the grid, and the text behind the line.
 #[tactic(auto, unfolding(crate::specs::Reading::grid_at, crate::specs::Text::grid_word))]
 fn read_grid(text: &[u8]) -> Option<(Sides, &[u8])>
-    ensures read { Finds (λ x. (x.0, lines_of x.1.now)) result (grid_at (lines_of text.now)) }
-    ensures width { IfSome result (λ x. (3 ≤ x.0.width) × (x.0.width ≤ 64)) }
-    ensures height { IfSome result (λ x. (1 ≤ x.0.height) × (x.0.height ≤ 64)) }
+    ensures { Finds (λ x. (x.0, lines_of x.1.now)) result (grid_at (lines_of text.now)) }
 {
     let (words, rest) = words::keyword_line(b"grid", text)?;
     let (width, words) = words::front_number(3, 64, words)?;
@@ -73,10 +71,7 @@ fn read_grid(text: &[u8]) -> Option<(Sides, &[u8])>
 /// What the lines up to the pace say, and the text behind them.
 #[tactic(auto, unfolding(crate::specs::Reading::opening_at, crate::specs::Text::length_word, crate::specs::Text::mirrors_word, crate::specs::Text::delays_word, crate::specs::Text::pace_word))]
 pub fn read_opening(text: &[u8]) -> Result<(Opening, &[u8]), Refused>
-    ensures read { Answers (λ x. (x.0, lines_of x.1.now)) result (opening_at (lines_of text.now)) }
-    ensures ticks { IfOk result (λ x. (1 ≤ x.0.length) × (x.0.length ≤ 8192)) }
-    ensures width { IfOk result (λ x. (3 ≤ x.0.sides.width) × (x.0.sides.width ≤ 64)) }
-    ensures height { IfOk result (λ x. (1 ≤ x.0.sides.height) × (x.0.sides.height ≤ 64)) }
+    ensures { Answers (λ x. (x.0, lines_of x.1.now)) result (opening_at (lines_of text.now)) }
 {
     let Some(rest) = read_head(text) else {
         return Err(SHAPE);

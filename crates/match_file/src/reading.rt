@@ -3,7 +3,7 @@ ghost use Rattle.arena_rules.specs.Ground.{open_grid};
 ghost use Rattle.match_file.specs.Lines.{lines_of};
 ghost use Rattle.match_file.specs.Data.{MatchData, IsMatch, IsPlain};
 ghost use Rattle.match_file.specs.Text.{match_text};
-ghost use Rattle.match_file.specs.Reading.{Gives, IsShape, player_seen, plain_match, read_text};
+ghost use Rattle.match_file.specs.Reading.{Gives, IsShape, player_seen, events_at, plain_match, read_text};
 
 use crate::commands::read_commands;
 use crate::fault::TextFault;
@@ -70,6 +70,21 @@ fn plain_match(
     }
 }
 
+// The commands and the script, up to the end of the text.
+#[tactic(auto, unfolding(crate::specs::Reading::events_at))]
+fn read_events(
+    alloc: Global,
+    ticks: u32,
+    text: &[u8],
+) -> Result<(Seq<Command>, Seq<ScriptLine>), TextFault>
+    requires { 1 ≤ ticks }
+    ensures { Gives (λ x. x) result (events_at ticks (lines_of text.now)) }
+{
+    let (commands, rest) = read_commands(alloc, ticks, text)?;
+    let script = read_script(alloc, &commands, rest)?;
+    Ok((commands.into_seq(), script))
+}
+
 // The match that the text says.
 #[tactic(auto, unfolding(crate::specs::Reading::read_text, crate::specs::Reading::match_at))]
 fn match_of(alloc: Global, text: &[u8]) -> Result<Match, TextFault>
@@ -77,10 +92,9 @@ fn match_of(alloc: Global, text: &[u8]) -> Result<Match, TextFault>
 {
     let (opening, rest) = read_opening(text)?;
     let (player, rest) = read_player(opening.sides, rest)?;
+    let (commands, script) = read_events(alloc, opening.length, rest)?;
     let roster = roster_of(alloc, player.name)?;
-    let (commands, rest) = read_commands(alloc, opening.length, rest)?;
-    let script = read_script(alloc, &commands, rest)?;
-    Ok(plain_match(opening, player, roster, commands.into_seq(), script))
+    Ok(plain_match(opening, player, roster, commands, script))
 }
 
 /// Reads a match text (this project's own form). Now it reads the plain form: one mirror, one delay, one player, no walls

@@ -1,6 +1,6 @@
 //! The lines of the script, and the end of the text.
 
-ghost use Rattle.std.specs.Prelude.{◌≡◌, ◌<◌, [], length, IfOk, IfSome, option_map};
+ghost use Rattle.std.specs.Prelude.{◌≡◌, ◌<◌, ◌&&◌, nat_lt, [], length, IfOk, IfSome, option_map};
 ghost use Rattle.match_file.specs.Lines.{lines_of, words_of};
 ghost use Rattle.match_file.specs.Reading.{Answers, Gives, tick_at, turn_at, arrive_at, step_at, kind_at, script_line_at, lengthened, is_end, script_step, script_at, closing_at};
 
@@ -118,6 +118,13 @@ fn at_end(text: &[u8]) -> bool
     text.is_empty()
 }
 
+// Whether a script of these lines ends here: it has a line, and no byte is left.
+fn is_whole(script: &Seq<ScriptLine>, text: &[u8]) -> bool
+    ensures { result ≡ (is_end (lines_of text.now) && nat_lt 0 (length script.now)) }
+{
+    at_end(text) && !script.is_empty()
+}
+
 // Puts the line last, where there is room.
 #[tactic(auto, unfolding(crate::specs::Reading::lengthened))]
 fn lengthen(script: &mut Seq<ScriptLine>, line: ScriptLine) -> Result<(), TextFault>
@@ -144,7 +151,7 @@ fn read_line<'a>(
         return Err(TextFault::Refused(SHAPE));
     };
     if line == b"end".as_slice() {
-        if !at_end(rest) || script.is_empty() {
+        if !is_whole(script, rest) {
             return Err(TextFault::Refused(SHAPE));
         }
         return Ok(None);
