@@ -3,6 +3,7 @@
 
 mod accepted;
 mod commands;
+mod lists;
 mod mirror;
 
 pub use mirror::{MOST_ROOM, Mirror};

@@ -10,6 +10,7 @@ ghost use Rattle.sync_model.specs.Turns.{is_drained};
 
 use crate::accepted::Accepted;
 use crate::commands::{place, run_tick};
+use crate::lists::Lists;
 use game_trait::{Arrived, Command, Event, Game, Item, Reply, Stepped, Tick, Ticked};
 use stagger_clock::Stagger;
 use std::alloc::Global;
@@ -90,18 +91,24 @@ impl<G: Game> Mirror<G> {
         let length = stagger.length() as usize;
         let longest = stagger.longest() as usize;
         let arrivals = room as usize;
+        let lists = Lists::new(
+            alloc,
+            arrivals,
+            length + arrivals,
+            length + longest + length + arrivals,
+        )?;
         Ok(Mirror {
-            accepted: Accepted::new(alloc, arrivals)?,
-            in_order: Vec::with_capacity(alloc, arrivals)?,
-            turned: Vec::with_capacity(alloc, arrivals)?,
-            run: Vec::with_capacity(alloc, length + arrivals)?,
-            history: Vec::with_capacity(alloc, length + longest + length + arrivals)?,
             opening: opening.twin(),
-            world: opening.twin(),
             stagger,
             clock: 0,
-            run_clock: 0,
+            accepted: lists.accepted,
+            turned: lists.turned,
+            history: lists.history,
             spare: room,
+            world: opening.twin(),
+            run: lists.run,
+            run_clock: 0,
+            in_order: lists.in_order,
         })
     }
 

@@ -192,6 +192,15 @@ pub ran_count :
 ran_count {W} s v c proposed n view p k =
     k ∙ ap (repaired s.accepted) p ∙ ap (λ (u : MirrorState W). repaired u.accepted (proposed_by_step u c)) view
 
+-- there are at most 8 runs
+pub few_runs : {W : Type 0} (xs : List (Vec Item Global)) (s : MirrorState W) → IsWellFormed s → s.runs ≡ runs_of xs → length xs ≤ 8
+few_runs xs s h e = (let same = ap (λ (rs : List (List Item)). length rs) e in omega (arith, h.few_copies, h.one_run_each, runs_length xs))
+
+-- and at least one
+pub some_runs :
+    {W : Type 0} (xs : List (Vec Item Global)) (s : MirrorState W) (n : ℕ) → IsWellFormed s → s.runs ≡ runs_of xs → {m : ℕ} → n ≡ m → m ≡ length xs → 0 < n
+some_runs xs s n h e f g = (let same = ap (λ (rs : List (List Item)). length rs) e in omega (arith, h.some_copy, h.one_run_each, runs_length xs))
+
 pub limit_first : {W : Type 0} (s : MirrorState W) (c n : ℕ) → c ≡ 0 → n ≡ min s.length (s.clock - get_or s.delays c 0) → n ≡ step_limit s c
 unfolding step_limit
 limit_first s zero n z e = e

@@ -10,9 +10,8 @@ ghost use Rattle.sync_model.specs.Settle.{repaired};
 ghost use Rattle.sync_model.specs.Staggered.{IsWellFormed};
 ghost use Rattle.sync_model.specs.Runs.{runs_of};
 
-use crate::plain::propose::{by_arrival, by_step};
 use crate::plain::runs::{beats_of, is_named};
-use crate::plain::settle::settle;
+use crate::plain::settle::{settled_arrival, settled_step};
 use crate::turned::Turned;
 use game_trait::{Arrived, Command, Event, Game, Item, Reply, Stepped, Tick, Ticked};
 use std::alloc::{AllocError, Global};
@@ -158,8 +157,7 @@ impl<G: Game> PlainMirror<G> {
     {
         let accepted = with_last(alloc, &self.accepted, *x)?;
         let history = with_last(alloc, &self.history, Event::Arrive(*x))?;
-        let proposed = by_arrival(alloc, &self.runs, x)?;
-        let settled = settle(alloc, &accepted, &proposed)?;
+        let settled = settled_arrival(alloc, &accepted, &self.runs, x)?;
         let repaired = settled.repaired as u8;
         self.accepted = accepted;
         self.history = history;
@@ -231,8 +229,7 @@ impl<G: Game> PlainMirror<G> {
         ensures kept { OnErr result (self.new ≡ self.old) }
     {
         let history = with_last(alloc, &self.history, Event::Step(copy))?;
-        let proposed = by_step(alloc, &self.accepted, &self.runs, copy as usize)?;
-        let settled = settle(alloc, &self.accepted, &proposed)?;
+        let settled = settled_step(alloc, &self.accepted, &self.runs, copy as usize)?;
         let repaired = settled.repaired as u8;
         self.history = history;
         self.runs = settled.runs;

@@ -1,9 +1,11 @@
 //! Settling over whole lists: from the last copy to the first.
 
-ghost use Rattle.std.specs.Prelude.{◌≡◌, ◌≤◌, not, if◌then◌else◌, length, OnOk, IfOk};
+ghost use Rattle.std.specs.Prelude.{◌≡◌, ◌<◌, ◌≤◌, not, if◌then◌else◌, [], map, length, slice_index_or, slice_set, OnOk, IfOk};
+ghost use Rattle.sync_model.specs.Change.{with_late, with_tick};
 ghost use Rattle.sync_model.specs.Settle.{begins_with, rebuilt, settle_one, settle, is_repaired, repaired};
 ghost use Rattle.sync_model.specs.Runs.{runs_of};
 
+use crate::plain::propose::{by_arrival, by_step};
 use crate::plain::runs::{beats_of, does_begin_with, push_ticks};
 use game_trait::{Command, Item};
 use std::alloc::{AllocError, Global};
@@ -96,4 +98,35 @@ pub fn settle(
         runs,
         repaired: count,
     })
+}
+
+/// The settled runs after an arrival. The command that arrived is among the accepted ones.
+pub fn settled_arrival(
+    alloc: Global,
+    accepted: &[Command],
+    runs: &[Vec<Item>],
+    x: &Command,
+) -> Result<Settled, AllocError>
+    ensures runs { IfOk result (λ s. runs_of s.runs.items ≡ settle accepted.now (map (with_late x.now) (runs_of runs.now))) }
+    ensures repaired { IfOk result (λ s. s.repaired ≡ repaired accepted.now (map (with_late x.now) (runs_of runs.now))) }
+    ensures few { IfOk result (λ s. s.repaired ≤ length runs.now) }
+{
+    let proposed = by_arrival(alloc, runs, x)?;
+    settle(alloc, accepted, &proposed)
+}
+
+/// The settled runs after a step of a copy.
+pub fn settled_step(
+    alloc: Global,
+    accepted: &[Command],
+    runs: &[Vec<Item>],
+    copy: usize,
+) -> Result<Settled, AllocError>
+    requires { copy < length runs.now }
+    ensures runs { IfOk result (λ s. runs_of s.runs.items ≡ settle accepted.now (slice_set (runs_of runs.now) copy (with_tick accepted.now (slice_index_or (runs_of runs.now) copy [])))) }
+    ensures repaired { IfOk result (λ s. s.repaired ≡ repaired accepted.now (slice_set (runs_of runs.now) copy (with_tick accepted.now (slice_index_or (runs_of runs.now) copy [])))) }
+    ensures few { IfOk result (λ s. s.repaired ≤ length runs.now) }
+{
+    let proposed = by_step(alloc, accepted, runs, copy)?;
+    settle(alloc, accepted, &proposed)
 }

@@ -3,7 +3,7 @@ use Rattle.std.proofs.lemmas.Bool.Decides.{nat_tests}
 use Rattle.game_trait.specs.declared.command.Act.TheVariants.{Go}
 use Rattle.game_trait.specs.declared.command.Command.{Command}
 use Rattle.game_trait.specs.declared.command.Item.{Item}
-use Rattle.game_trait.specs.declared.command.Item.TheVariants.{Cmd}
+use Rattle.game_trait.specs.declared.command.Item.TheVariants.{Cmd, Beat}
 use Rattle.game_trait.specs.Count.{times}
 use Rattle.game_trait.specs.Run.{world_of}
 use Rattle.game_trait.proofs.Runs.{world_of-command, world_of-beat}
@@ -72,3 +72,20 @@ returns-clause-world g c =
     c.beat.ensures
     ∙ ap (λ v. g.G.Game.rules.beat v) (c.loop-x.invariant.world ∙ ap (λ (ys : List Command). world_of g.G.Game.rules c.args.world.now (map Cmd (filter p ys))) all)
     ∙ sym (world_of-beat g.G.Game.rules c.args.world.now (map Cmd (filter p c.args.list.now)))
+
+pub push_reserved-requires : goal.push_reserved-requires
+push_reserved-requires g c = (let room = c.loop-x.invariant.room in omega arith)
+
+pub push_reserved-requires-2 : goal.push_reserved-requires-2
+push_reserved-requires-2 g c = (let room = c.loop-x.invariant.room in omega arith)
+
+pub returns-clause-run : goal.returns-clause-run
+returns-clause-run g c =
+    let p : Command → Bool = λ x. x.time == c.args.tick in
+    let all : take c.loop-x.x-index c.args.list.now ≡ c.args.list.now = take_all _ _ c.loop-x-test.false in
+    c.push_reserved-2.ensures.items
+    ∙ ap (λ (r : List Item). r ++ Beat ∷ []) (c.loop-x.invariant.items ∙ ap (λ (ys : List Command). c.args.run.now.items ++ map Cmd (filter p ys)) all)
+    ∙ append_assoc c.args.run.now.items (map Cmd (filter p c.args.list.now)) (Beat ∷ [])
+
+pub returns-clause-capacity : goal.returns-clause-capacity
+returns-clause-capacity g c = rw c.push_reserved-2.ensures.capacity c.loop-x.invariant.capacity

@@ -3,18 +3,21 @@ use Rattle.mirror_core.proofs.mirror.Mirror.new.Goals as goal
 
 pub invariant_of-result : goal.invariant_of-result
 invariant_of-result g c =
+    let empty = c.in_ok-lists.ensures.empty in
+    let room = c.in_ok-lists.ensures.room in
     rw (
       c.twin.ensures,
       c.twin-2.ensures,
-      c.in_ok-new.ensures,
-      c.in_ok-with_capacity.ensures.items,
-      c.in_ok-with_capacity-2.ensures.items,
-      c.in_ok-with_capacity-3.ensures.items,
-      c.in_ok-with_capacity-4.ensures.items,
-      c.in_ok-with_capacity.ensures.exact,
-      c.in_ok-with_capacity-2.ensures.exact,
-      c.in_ok-with_capacity-3.ensures.exact,
-      c.in_ok-with_capacity-4.ensures.exact,
+      empty.0,
+      empty.1,
+      empty.2,
+      empty.3,
+      empty.4,
+      room.0,
+      room.1,
+      room.2,
+      room.3,
+      room.4,
       c.length-length.ensures.length,
       c.longest-longest.ensures.longest,
     )
