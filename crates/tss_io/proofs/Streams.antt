@@ -19,11 +19,9 @@ pub Rose-counted : {A E : Type 0} (r : Result A E) (n m : ℕ) → m ≡ next_co
 Rose-counted (Ok x) n m is = tt
 Rose-counted (Err e) n m is = elim (cases_lt n m) [ inl more ↦ inl more | inr last ↦ inr (omega arith) ]
 
--- The bytes at a place, copied to the front of others, are given from there on.
-pub given-front : (bytes given others : List ℕ) (at n : ℕ) → given ≡ take n (drop at bytes) → length given ≡ n → drop at bytes ≡ take n (given ++ others) ++ drop (at + n) bytes
-given-front bytes given others at n is long =
-    let front : take n (given ++ others) ≡ given = rw (← long) (take-append_seam given others) in
-    rw (front, is, ← drop-drop n at bytes) (sym (take-append-drop n (drop at bytes)))
+-- The bytes at a place, which stand at the front of others now, are given from there on.
+pub given-front : (bytes others : List ℕ) (at n : ℕ) → take n others ≡ take n (drop at bytes) → drop at bytes ≡ take n others ++ drop (at + n) bytes
+given-front bytes others at n is = rw (is, ← drop-drop n at bytes) (sym (take-append-drop n (drop at bytes)))
 
 -- Nothing is given.
 pub Yields-none : (left : Option (List ℕ)) → Yields left [] left
