@@ -1,9 +1,10 @@
--- One fault is no other, and counts that rise.
+-- Which fault a reading met, and counts of faults that rise.
 use Rattle.std.proofs.Common.{◌≡◌, ℕ, ◌≤◌, inl, inr, Result, Err, arith}
 use Rattle.tss_io.specs.declared.read_fault.ReadFault.{ReadFault}
 use Rattle.tss_io.specs.declared.read_fault.ReadFault.TheVariants.{Failed, TooLong, NoMemory}
 use Rattle.tss_io.specs.Streams.{Rose}
 
+-- a result that is this fault
 abbrev fault : {A : Type 0} → ReadFault → Result A ReadFault
 fault e = Err e
 
@@ -11,11 +12,10 @@ fault e = Err e
 pub same_fault : {A B : Type 0} (r : Result A ReadFault) (d e : ReadFault) → (x : ReadFault) × (r ≡ Err x) × (x ≡ d) → r ≡ Err e → fault {A = B} d ≡ fault e
 same_fault r d e was other = cc (was.1, was.2, other)
 
--- A read that failed has this fault alone.
+-- A failed read isn't taken for too much text, and want of memory for neither of them.
 pub failed-not_too_long : {A P : Type 0} (r : Result A ReadFault) → (x : ReadFault) × (r ≡ Err x) × (x ≡ Failed) → r ≡ Err TooLong → P
 failed-not_too_long r was other = absurd (cc (was.1, was.2, other))
 
--- So does one that memory ran out in.
 pub no_memory-not_too_long : {A P : Type 0} (r : Result A ReadFault) → (x : ReadFault) × (r ≡ Err x) × (x ≡ NoMemory) → r ≡ Err TooLong → P
 no_memory-not_too_long r was other = absurd (cc (was.1, was.2, other))
 
