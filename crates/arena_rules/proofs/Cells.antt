@@ -1,14 +1,17 @@
 -- Lists of cells of which no two are the same.
-use Rattle.std.proofs.Common.{◌≡◌, ℕ, zero, suc, Bool, false, List, [], ◌∷◌, ◌++◌, set, ◌∙◌, arith}
+use Rattle.std.proofs.Common.{◌≡◌, ℕ, zero, suc, Bool, false, List, [], ◌∷◌, ◌++◌, set, ◌∙◌, ◌==◌, inl, inr, refl, sym}
 use Rattle.std.specs.List.{list_any, AllByRecursion, IsDistinct}
-use Rattle.std.proofs.lemmas.Bool.{or_parts}
-use Rattle.std.proofs.lemmas.Bool.Decides.{nat_tests}
+use Rattle.std.proofs.lemmas.Bool.{or_parts, cases_eq, ne_eqb}
 use Rattle.std.proofs.lemmas.Map.Keys.{IsDistinct-tail}
 use Rattle.arena_rules.specs.Setup.{Cell, same_cell}
 
--- the order in which two cells are compared doesn't matter
+-- the order in which two numbers are compared doesn't matter
+same_number-symm : (n m : ℕ) → (n == m) ≡ (m == n)
+same_number-symm n m = elim (cases_eq n m) [ inl same ↦ rw same refl | inr apart ↦ ne_eqb n m apart ∙ sym (ne_eqb m n (λ e. apart (sym e))) ]
+
+-- nor does that of two cells
 pub same_cell-symm : (a b : Cell) → same_cell a b ≡ same_cell b a
-same_cell-symm a b = grind (arith, nat_tests)
+same_cell-symm a b = rw (same_number-symm a.x b.x, same_number-symm a.y b.y) refl
 
 -- where no element passes a test, each fails it
 each_fails : {X : Type 0} (test : X → Bool) (xs : List X) → list_any test xs ≡ false → AllByRecursion (λ x. test x ≡ false) xs

@@ -1,3 +1,4 @@
 pub mod DecimalLaws
+pub mod Faults
 pub mod Reading
 pub mod Streams

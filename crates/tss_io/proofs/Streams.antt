@@ -1,7 +1,7 @@
 -- What a source gave and what a sink gained, piece after piece.
 use Rattle.std.proofs.Common.{◌≡◌, ℕ, ◌+◌, ◌<◌, ◌≤◌, ◌↔◌, List, [], ◌++◌, length, take, drop, Option, Some, None, Result, Ok, Err, inl, inr, refl, sym, ap, ◌∙◌, append_assoc, arith}
 use Rattle.std.specs.Prelude.{IfSome, OnErr}
-use Rattle.std.proofs.Math.Seq.{take-add, take-append_seam}
+use Rattle.std.proofs.Math.Seq.{take-add}
 use Rattle.std.proofs.lemmas.Bool.{cases_lt}
 use Rattle.std.proofs.lemmas.List.{append-nil, drop-drop, length-append, take_all, take-append-drop}
 use Rattle.tss_io.specs.Memory.{next_count}
@@ -19,11 +19,9 @@ pub Rose-counted : {A E : Type 0} (r : Result A E) (n m : ℕ) → m ≡ next_co
 Rose-counted (Ok x) n m is = tt
 Rose-counted (Err e) n m is = elim (cases_lt n m) [ inl more ↦ inl more | inr last ↦ inr (omega arith) ]
 
--- The bytes at a place, copied to the front of others, are given from there on.
-pub given-front : (bytes given others : List ℕ) (at n : ℕ) → given ≡ take n (drop at bytes) → length given ≡ n → drop at bytes ≡ take n (given ++ others) ++ drop (at + n) bytes
-given-front bytes given others at n is long =
-    let front : take n (given ++ others) ≡ given = rw (← long) (take-append_seam given others) in
-    rw (front, is, ← drop-drop n at bytes) (sym (take-append-drop n (drop at bytes)))
+-- The bytes at a place, which stand at the front of others now, are given from there on.
+pub given-front : (bytes others : List ℕ) (at n : ℕ) → take n others ≡ take n (drop at bytes) → drop at bytes ≡ take n others ++ drop (at + n) bytes
+given-front bytes others at n is = rw (is, ← drop-drop n at bytes) (sym (take-append-drop n (drop at bytes)))
 
 -- Nothing is given.
 pub Yields-none : (left : Option (List ℕ)) → Yields left [] left

@@ -86,11 +86,20 @@ impl Source for MemSource {
             return Err(Failed);
         }
         let (_, left) = self.bytes.split_at(self.at);
-        let count = out.len().min(self.piece).min(left.len());
-        let (piece, _) = left.split_at(count);
-        let (front, _) = out.split_at_mut(count);
-        front.copy_from_slice(piece);
+        let count = copy_front(left, self.piece, out);
         self.at += count;
         Ok(count)
     }
+}
+
+// Copies the first bytes, at most so many, to the front of `out`, and answers how many.
+fn copy_front(bytes: &[u8], most: usize, out: &mut [u8]) -> usize
+    ensures count { result ≡ min (min (length out.old) most) (length bytes.now) }
+    ensures copied { take result out.new ≡ take result bytes.now }
+{
+    let count = out.len().min(most).min(bytes.len());
+    let (piece, _) = bytes.split_at(count);
+    let (front, _) = out.split_at_mut(count);
+    front.copy_from_slice(piece);
+    count
 }

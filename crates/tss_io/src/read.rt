@@ -38,12 +38,36 @@ pub fn read_all<S: Source>(
 {
     let mut buffer = blank(alloc, PIECE)?;
     let mut text = Vec::new(alloc);
+    read_pieces(source, &mut buffer, limit, &mut text)?;
+    Ok(text)
+}
+
+// Reads to the source's end, piece by piece, and puts all of it into the empty text.
+fn read_pieces<S: Source>(
+    source: &mut S,
+    buffer: &mut [u8],
+    limit: usize,
+    text: &mut Vec<u8>,
+) -> Result<(), ReadFault>
+    requires buffer { length buffer.old ≡ 65536 }
+    requires empty { text.old.items ≡ [] }
+    ensures ok { OnOk result
+        ((length text.new.items ≤ limit) × Yields (S.left source.old) text.new.items (S.left source.new)
+        × IfSome (S.left source.new) (λ rest. rest ≡ [])) }
+    ensures rose { IsErrOf result ReadFault.Failed → Rose (S.faults source.old) (S.faults source.new) }
+    ensures too_long { IsErrOf result ReadFault.TooLong
+        → (length text.new.items ≡ limit + 1) × Yields (S.left source.old) text.new.items (S.left source.new) }
+    ensures front { OnErr result
+        ((front : List ℕ) × (length front ≤ limit + 1) × Yields (S.left source.old) front (S.left source.new)) }
+    ensures never_falls { S.faults source.old ≤ S.faults source.new }
+    ensures called { S.calls source.new ≤ S.calls source.old + (limit + 1) }
+{
     while text.len() <= limit {
         let room = (limit - text.len()).min(PIECE - 1) + 1;
         let (out, _) = buffer.split_at_mut(room);
         let count = source.read(out)?;
         if count == 0 {
-            return Ok(text);
+            return Ok(());
         }
         let (piece, _) = out.split_at(count);
         text.extend_from_slice(piece)?;

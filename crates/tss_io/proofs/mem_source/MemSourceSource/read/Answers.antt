@@ -1,4 +1,4 @@
-use Rattle.std.proofs.Common.{refl, ◌∙◌}
+use Rattle.std.proofs.Common.{refl}
 use Rattle.std.proofs.lemmas.List.{drop-drop}
 use Rattle.tss_io.proofs.Streams.{counted-le, same-le, given-front}
 use Rattle.tss_io.proofs.mem_source.MemSourceSource.read.Goals as goal
@@ -26,6 +26,5 @@ returns-clause-ok c = rw (← c.self.view_is, c.saturating_add-self-inside.ensur
 
 pub returns-clause-bytes : goal.returns-clause-bytes
 returns-clause-bytes c =
-    rw (← c.self.view_is) (given-front c.self.inside.bytes.items c.copy_from_slice.new.self _ c.self.inside.at c.min-count.result
-    (rw (← c.deref-2.ensures.value, ← c.split_at.ensures.back) (c.copy_from_slice.ensures.after ∙ c.split_at-2.ensures.front))
-    (rw c.copy_from_slice.ensures.after c.split_at-2.ensures.front_len))
+    rw (← c.self.view_is) (given-front c.self.inside.bytes.items c.copy_front-count.new.out c.self.inside.at c.copy_front-count.result
+    (rw (← c.deref-2.ensures.value, ← c.split_at.ensures.back) c.copy_front-count.ensures.copied))

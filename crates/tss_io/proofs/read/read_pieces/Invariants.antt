@@ -1,10 +1,9 @@
-use Rattle.std.proofs.Common.{◌≡◌, ◌≤◌, ◌+◌, ◌-◌, vec_len}
+use Rattle.std.proofs.Common.{◌≤◌, ◌+◌, ◌-◌, vec_len}
 use Rattle.tss_io.specs.Streams.{Yields}
-use Rattle.tss_io.proofs.read.read_all.Given as goal
+use Rattle.tss_io.proofs.read.read_pieces.Given as goal
 
 abbrev pub invariant-loop-text : goal.invariant-loop-text
 invariant-loop-text g l = record {
-  buffer : vec_len l.buffer ≡ 65536;
   within : vec_len l.text ≤ l.limit + 1;
   given : Yields (g.S.Source.left l.fn.source) l.text.items (g.S.Source.left l.source);
   never_falls : g.S.Source.faults l.fn.source ≤ g.S.Source.faults l.source;
