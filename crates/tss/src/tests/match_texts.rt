@@ -1,6 +1,6 @@
 //! Match texts, read or refused.
 
-use match_file::{Cause, Match, read_match};
+use match_file::{Match, read_match};
 use std::alloc::Global;
 use tss_io::NoMemory;
 
@@ -79,9 +79,4 @@ fn texts_are_read_or_refused(rt: HostRuntime) {
             "{ending}"
         );
     }
-}
-
-#[test]
-fn causes_are_printed(rt: HostRuntime) {
-    assert!(rt; Cause::Shape.number() == 2 && Cause::Shape.word() == "shape");
 }

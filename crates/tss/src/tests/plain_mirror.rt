@@ -5,7 +5,7 @@ use game_trait::{Arrived, Event, Reply, Stepped, Ticked};
 use std::alloc::{AllocError, Global};
 use std::process::Abort;
 use std::test::Fail;
-use sync_model::{PlainMirror, Turned};
+use sync_model::PlainMirror;
 
 // Makes the events that fit, and answers the last reply.
 fn make_all(
@@ -47,6 +47,9 @@ fn has_repaired_twice(mirror: &PlainMirror<LastCommand>) -> bool {
         && mirror.world(0) == leading
         && mirror.clock() == 6
         && mirror.accepted().len() == 1
+        && mirror.turned().is_empty()
+        && mirror.spare() == 1
+        && mirror.events().len() == 19
 }
 
 // Makes five turns, a late arrival that the copy behind the leading one takes in time, and one turn more.
@@ -78,50 +81,4 @@ fn repairs_twice(
 fn repaired_twice(rt: HostRuntime) -> Result<(), Fail> {
     let mut mirror = PlainMirror::new(rt.alloc(), &OPENING, 8, &[0, 2, 4], 2)?;
     repairs_twice(&rt, rt.alloc(), &mut mirror)
-}
-
-fn has_turned_one_away(mirror: &PlainMirror<LastCommand>) -> bool {
-    let turned = [Turned {
-        from: 0,
-        number: 8,
-        bound: 3,
-    }];
-    mirror.turned() == turned.as_slice() && mirror.spare() == 0 && mirror.events().len() == 9
-}
-
-// Makes a command arrive twice, and another too late, in a match of four ticks with one copy without delay.
-fn turns_one_away(
-    rt: &impl Abort,
-    alloc: Global,
-    mirror: &mut PlainMirror<LastCommand>,
-) -> Result<(), Fail> {
-    let three_turns = [
-        Event::Tick,
-        Event::Step(0),
-        Event::Tick,
-        Event::Step(0),
-        Event::Tick,
-        Event::Step(0),
-    ];
-    let rows: [(&[Event], Reply); 6] = [
-        (
-            &[arrival(2, 7)],
-            Reply::Arrive(Arrived::Taken { repaired: 0 }),
-        ),
-        (&[arrival(2, 7)], Reply::Arrive(Arrived::Repeat)),
-        (&three_turns, Reply::Step(Stepped::Ran { repaired: 0 })),
-        (&[arrival(2, 8)], Reply::Arrive(Arrived::Late { bound: 3 })),
-        (&[Event::Step(0)], Reply::Step(Stepped::Idle)),
-        (&[Event::Tick, Event::Tick], Reply::Tick(Ticked::Over)),
-    ];
-    answers(rt, alloc, mirror, &rows)?;
-    assert!(rt; has_turned_one_away(mirror));
-    Ok(())
-}
-
-#[test]
-#[tactic(auto, unfolding(sync_model::specs::Staggered::DelaysRise))]
-fn repeat_and_late(rt: HostRuntime) -> Result<(), Fail> {
-    let mut mirror = PlainMirror::new(rt.alloc(), &OPENING, 4, &[0], 2)?;
-    turns_one_away(&rt, rt.alloc(), &mut mirror)
 }
