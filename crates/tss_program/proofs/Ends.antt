@@ -3,6 +3,7 @@ use Rattle.std.proofs.Common.{◌≡◌, ℕ, ◌<◌, ◌≤◌, ◌⊎◌, fal
 use Rattle.std.specs.Prelude.{IfSome, nat_lt}
 use Rattle.std.proofs.lemmas.Bool.Decides.{nat_tests}
 use Rattle.tss_io.specs.Streams.{Gains}
+use Rattle.tss_io.proofs.Streams.{Gains-none}
 use Rattle.run_recorder.specs.declared.log.MirrorLog.{MirrorLog}
 use Rattle.match_file.specs.Data.{MatchData, IsPlain}
 use Rattle.match_file.specs.Text.{match_text}
@@ -12,7 +13,8 @@ use Rattle.match_file.proofs.TextLength.{length-match_text}
 use Rattle.tss_program.specs.declared.form.Form.{Form}
 use Rattle.tss_program.specs.declared.form.Form.TheVariants.{Play}
 use Rattle.tss_program.specs.declared.answer.Answer.{Answer}
-use Rattle.tss_program.specs.declared.status.Status.TheVariants.{Complete, WriteFault, Refusal}
+use Rattle.tss_program.specs.declared.status.Status.{Status}
+use Rattle.tss_program.specs.declared.status.Status.TheVariants.{Complete, NoMemory, WrongWords, ReadFault, WriteFault, Refusal}
 use Rattle.tss_program.specs.Answer.{IsAnswer}
 use Rattle.tss_program.specs.Words.{form_of}
 use Rattle.tss_program.specs.Play.{played}
@@ -33,6 +35,37 @@ pub Ends-wrong_words :
     → Ends (due_of words input) status kept read_fault write_fault old new
 Ends-wrong_words words status kept read_fault write_fault old new input none ended fault nothing front =
     subst (λ (o : Option Form). Ends (due_of_option o input) status kept read_fault write_fault old new) (sym none) (inr (inr (inl (ended, fault, nothing, front))))
+
+-- the usage line was put whole
+pub Ends-usage :
+    (words : List (List ℕ)) (status : ℕ) (kept : List MirrorLog) (read_fault write_fault : Type 0) (old new : Option (List ℕ)) (input : List ℕ)
+    → form_of words ≡ None → status ≡ code WrongWords → kept ≡ [] → Gains old usage_text new
+    → Ends (due_of words input) status kept read_fault write_fault old new
+Ends-usage words status kept read_fault write_fault old new input none ended nothing whole =
+    subst (λ (o : Option Form). Ends (due_of_option o input) status kept read_fault write_fault old new) (sym none) (inr (inr (inr (ended, nothing, whole))))
+
+-- nothing was put, since memory ran out or a read failed
+pub told-stopped :
+    (left : Option (List ℕ)) (words : List (List ℕ)) (stop : Status) (status : ℕ) (kept : List MirrorLog) (read_fault write_fault : Type 0) (taken : Option (List ℕ))
+    → (stop ≡ NoMemory) ⊎ ((stop ≡ ReadFault) × read_fault) → status ≡ code stop → kept ≡ []
+    → IfSome left (λ input. Ends (due_of words input) status kept read_fault write_fault taken taken)
+told-stopped left words stop status kept read_fault write_fault taken why ended nothing = IfSome-each left _ (λ input. stopped (due_of words input) why)
+  where
+    stopped : (due : Due) → (stop ≡ NoMemory) ⊎ ((stop ≡ ReadFault) × read_fault) → Ends due status kept read_fault write_fault taken taken
+    stopped due (inl out) = inl (ended ∙ ap code out, nothing, Gains-none taken)
+    stopped due (inr unread) = inr (inl (ended ∙ ap code unread.0, unread.1, nothing, Gains-none taken))
+
+-- what was due could not be put whole
+pub told-broken :
+    (left : Option (List ℕ)) (words : List (List ℕ)) (form : Form) (answer : Answer) (status : ℕ) (kept : List MirrorLog) (read_fault write_fault : Type 0) (old new : Option (List ℕ))
+    → form_of words ≡ Some form → IfSome left (λ input. IsAnswer (due_of_form form input) answer)
+    → status ≡ code WriteFault → kept ≡ answer.kept → write_fault
+    → ((n : ℕ) × (n < length answer.text.items) × Gains old (take n answer.text.items) new)
+    → IfSome left (λ input. Ends (due_of words input) status kept read_fault write_fault old new)
+told-broken None words form answer status kept read_fault write_fault old new of due ended log fault front = tt
+told-broken (Some input) words form answer status kept read_fault write_fault old new of due ended log fault front =
+    subst (λ (o : Option Form). Ends (due_of_option o input) status kept read_fault write_fault old new) (sym of)
+    (inr (inr (inl (ended, fault, log ∙ due.2, subst (λ (l : List ℕ). (n : ℕ) × (n < length l) × Gains old (take n l) new) due.1 front))))
 
 -- what was due was put whole
 pub told-whole :

@@ -1,8 +1,13 @@
-use Rattle.std.proofs.Common.{ℕ, List, sym, subst, ◌∙◌, arith}
+use Rattle.std.proofs.Common.{ℕ, ◌<◌, List, length, take, sym, subst, ◌∙◌, arith}
 use Rattle.tss_io.specs.Streams.{Gains}
-use Rattle.tss_program.proofs.Ends.{IfSome-each, Ends-wrong_words, told-whole, no_fault}
+use Rattle.tss_program.proofs.Ends.{IfSome-each, Ends-usage, Ends-wrong_words, told-whole, told-broken, told-stopped, no_fault}
 use Rattle.tss_program.specs.Due.{usage_text}
 use Rattle.tss_program.proofs.run.run_words.Goals as goal
+
+pub returns-in-Ok-clause-ends : goal.returns-in-Ok-clause-ends
+unfolding usage_text
+returns-in-Ok-clause-ends g c =
+    IfSome-each _ _ (λ input. Ends-usage _ _ _ _ _ _ _ input (sym c.of.ensures ∙ c.in_default.is) c.of-in-Ok.ensures.status (c.of-in-Ok.ensures.kept ∙ c.new.ensures) c.in-Ok.ensures.whole)
 
 pub returns-in-Err-clause-ends : goal.returns-in-Err-clause-ends
 unfolding usage_text
@@ -19,3 +24,14 @@ returns-in-Ok-put_all-clause-read_fault g c = no_fault 3 _ c.in-Ok-respond.answe
 
 pub returns-in-Ok-put_all-clause-write_fault : goal.returns-in-Ok-put_all-clause-write_fault
 returns-in-Ok-put_all-clause-write_fault g c = no_fault 4 _ c.in-Ok-respond.answer (omega arith) (omega arith) c.in-Ok-respond.ensures.answered c.of-in-Ok-put_all.ensures.status
+
+pub returns-in-Ok-respond-clause-ends : goal.returns-in-Ok-respond-clause-ends
+returns-in-Ok-respond-clause-ends g c =
+    told-broken _ _ _ c.in-Ok-respond.answer _ _ _ _ _ _ (sym c.of.ensures ∙ c.in-Some.is) c.in-Ok-respond.ensures.due c.of-in-Err-put_all.ensures.status c.of-in-Err-put_all.ensures.kept
+    c.in-Err-put_all.ensures.rose
+    (subst (λ (l : List ℕ). (n : ℕ) × (n < length l) × Gains (g.K.Sink.taken c.args.sink.now) (take n l) (g.K.Sink.taken c.put_all-in-Ok-respond.new.sink)) c.as_slice.ensures.value
+    c.in-Err-put_all.ensures.proper_prefix)
+
+pub returns-clause-ends : goal.returns-clause-ends
+returns-clause-ends g c =
+    told-stopped _ _ _ _ _ _ _ _ c.in-Err-respond.ensures.why c.of-in-Err-respond.ensures.status (c.of-in-Err-respond.ensures.kept ∙ c.new-in-Err-respond.ensures)
