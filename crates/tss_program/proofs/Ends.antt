@@ -1,9 +1,9 @@
 -- How a run may end.
-use Rattle.std.proofs.Common.{◌≡◌, ℕ, ◌<◌, ◌≤◌, ◌⊎◌, false, List, [], Option, Some, None, Ok, length, take, inl, inr, sym, ap, subst, ◌∙◌, arith}
-use Rattle.std.specs.Prelude.{IfSome, nat_lt}
+use Rattle.std.proofs.Common.{◌≡◌, ℕ, ◌+◌, ◌<◌, ◌≤◌, ◌⊎◌, false, List, [], Option, Some, None, Ok, length, take, inl, inr, sym, ap, subst, refl, ◌∙◌, arith}
+use Rattle.std.specs.Prelude.{IfSome, nat_eq, nat_lt}
 use Rattle.std.proofs.lemmas.Bool.Decides.{nat_tests}
-use Rattle.tss_io.specs.Streams.{Gains}
-use Rattle.tss_io.proofs.Streams.{Gains-none}
+use Rattle.tss_io.specs.Streams.{Gains, Yields}
+use Rattle.tss_io.proofs.Streams.{Gains-none, Yields-none}
 use Rattle.run_recorder.specs.declared.log.MirrorLog.{MirrorLog}
 use Rattle.match_file.specs.Data.{MatchData, IsPlain}
 use Rattle.match_file.specs.Text.{match_text}
@@ -84,6 +84,52 @@ pub no_fault :
     → (answer.status ≡ Complete) ⊎ ((answer.status ≡ Refusal) × (answer.kept ≡ [])) → status ≡ code answer.status → status ≡ n → P
 no_fault n status answer above below (inl done) is fault = let zero : status ≡ 0 = is ∙ ap code done in absurd (omega arith)
 no_fault n status answer above below (inr refused) is fault = let five : status ≡ 5 = is ∙ ap code refused.0 in absurd (omega arith)
+
+-- a status is one number
+pub no_status : {P : Type 0} (n m status : ℕ) → nat_eq n m ≡ false → status ≡ n → status ≡ m → P
+no_status n m status apart is other = absurd (let same : n ≡ m = sym is ∙ other in grind (arith, nat_tests))
+
+pub no_stop : {P : Type 0} (n status : ℕ) → nat_eq n 1 ≡ false → nat_eq n 3 ≡ false → status ≡ n → (status ≡ 1) ⊎ (status ≡ 3) → P
+no_stop n status no_memory no_read is (inl out) = no_status n 1 status no_memory is out
+no_stop n status no_memory no_read is (inr unread) = no_status n 3 status no_read is unread
+
+-- an answer ends the program with no other status, and keeps nothing at status 5
+pub answered-no_stop :
+    {P : Type 0} (status : ℕ) (answer : Answer) → (answer.status ≡ Complete) ⊎ ((answer.status ≡ Refusal) × (answer.kept ≡ [])) → status ≡ code answer.status
+    → (status ≡ 1) ⊎ (status ≡ 3) → P
+answered-no_stop status answer answered is (inl out) = no_fault 1 status answer (omega arith) (omega arith) answered is out
+answered-no_stop status answer answered is (inr unread) = no_fault 3 status answer (omega arith) (omega arith) answered is unread
+
+pub answered-nothing_kept :
+    (status : ℕ) (answer : Answer) (kept : List MirrorLog) → (answer.status ≡ Complete) ⊎ ((answer.status ≡ Refusal) × (answer.kept ≡ [])) → status ≡ code answer.status
+    → kept ≡ answer.kept → (status ≡ 1) ⊎ (status ≡ 2) ⊎ (status ≡ 3) ⊎ (status ≡ 5) → kept ≡ []
+answered-nothing_kept status answer kept (inl done) is log (inl e) = no_fault 1 status answer (omega arith) (omega arith) (inl done) is e
+answered-nothing_kept status answer kept (inl done) is log (inr (inl e)) = no_fault 2 status answer (omega arith) (omega arith) (inl done) is e
+answered-nothing_kept status answer kept (inl done) is log (inr (inr (inl e))) = no_fault 3 status answer (omega arith) (omega arith) (inl done) is e
+answered-nothing_kept status answer kept (inl done) is log (inr (inr (inr e))) = no_status 0 5 status refl (is ∙ ap code done) e
+answered-nothing_kept status answer kept (inr refused) is log when = log ∙ refused.1
+
+-- a write that failed ends it with status 4
+pub broken-no_status : {P : Type 0} (status : ℕ) → status ≡ 4 → (status ≡ 1) ⊎ (status ≡ 2) ⊎ (status ≡ 3) ⊎ (status ≡ 5) → P
+broken-no_status status is (inl e) = no_status 4 1 status refl is e
+broken-no_status status is (inr (inl e)) = no_status 4 2 status refl is e
+broken-no_status status is (inr (inr (inl e))) = no_status 4 3 status refl is e
+broken-no_status status is (inr (inr (inr e))) = no_status 4 5 status refl is e
+
+-- a stop ends it with status 1 or 3
+pub stopped-read_fault :
+    {R : Type 0} (status : ℕ) (stop : Status) → (stop ≡ NoMemory) ⊎ ((stop ≡ ReadFault) × R) → status ≡ code stop → status ≡ 3 → R
+stopped-read_fault status stop (inl out) is three = no_status 1 3 status refl (is ∙ ap code out) three
+stopped-read_fault status stop (inr unread) is three = unread.1
+
+pub stopped-no_status :
+    {P R : Type 0} (status : ℕ) (stop : Status) → (stop ≡ NoMemory) ⊎ ((stop ≡ ReadFault) × R) → status ≡ code stop → status ≡ 4 → P
+stopped-no_status status stop (inl out) is four = no_status 1 4 status refl (is ∙ ap code out) four
+stopped-no_status status stop (inr unread) is four = no_status 3 4 status refl (is ∙ ap code unread.0) four
+
+-- nothing was read
+pub front-none : (left : Option (List ℕ)) → (front : List ℕ) × (length front ≤ text_limit + 1) × Yields left front left
+front-none left = ([], omega arith, Yields-none left)
 
 -- what is due for the text of a match is what the match decides
 pub due-of_match :
