@@ -2,6 +2,7 @@
 use Rattle.std.proofs.Common.{◌≡◌, ℕ, ◌+◌, ◌<◌, ◌≤◌, cond, List, [], ◌∷◌, ◌++◌, length, get_or, drop, codes, decimal, sym, ap, ◌∙◌, append_assoc, arith}
 use Rattle.std.proofs.lemmas.List.{append-nil, drop_more, drop_all}
 use Rattle.game_trait.specs.declared.command.Item.{Item}
+use Rattle.game_trait.specs.declared.event.Event.{Event}
 use Rattle.game_trait.specs.Count.{times}
 use Rattle.game_trait.specs.Run.{beats, world_of}
 use Rattle.arena_rules.specs.World.{World, arena_rules}
@@ -11,6 +12,7 @@ use Rattle.stagger_clock.specs.Schedule.{IsSchedule}
 use Rattle.sync_model.specs.State.{MirrorState}
 use Rattle.sync_model.specs.History.{repairs}
 use Rattle.sync_model.specs.Turns.{drain_bound}
+use Rattle.run_recorder.specs.declared.log.MirrorLog.{MirrorLog}
 use Rattle.tss_program.specs.Blocks.{block_text, done_line}
 use Rattle.tss_program.specs.Script.{script_text}
 use Rattle.tss_program.specs.Play.{is_arrive, opening_mirror, scripted, played, drain_text, events_text, mirror_line, copy_block, copy_blocks, final_text, play_text}
@@ -118,3 +120,11 @@ play-parts m s old events final all end p q r =
   where
     regroup : (old a b c : List ℕ) → ((old ++ a) ++ b) ++ c ≡ old ++ ((a ++ b) ++ c)
     regroup old a b c = simp append_assoc
+
+-- one log of a mirror, alone in a list
+pub log-alone :
+    (number : ℕ) (history told events : List Event) (log : MirrorLog) (none all : List MirrorLog)
+    → all ≡ none ++ log ∷ [] → none ≡ [] → log.mirror ≡ number → log.events ≡ events → events ≡ told → told ≡ history
+    → all ≡ record { mirror = number; events = history } ∷ []
+log-alone number history told events log none all put empty of holds copied is =
+    put ∙ ap (λ (l : List MirrorLog). l ++ log ∷ []) empty ∙ (λ i. record { mirror = of i; events = (holds ∙ copied ∙ is) i } ∷ [])

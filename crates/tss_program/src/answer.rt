@@ -75,7 +75,6 @@ fn ordered_text(
 }
 
 // The answer of `order`, of a match's commands, which it puts in key order.
-#[tactic(auto, unfolding(crate::specs::Blocks::order_text))]
 fn ordered_answer(
     alloc: Global,
     length: Tick,
@@ -107,8 +106,13 @@ fn order_answer(alloc: Global, game: Match) -> Result<Answer, NoMemory>
     ensures { IfOk result (IsAnswer (due_of_match Form.Order (Ok game))) }
 {
     let mut commands = game.commands.into_vec();
-    let commands = commands.as_mut_slice();
-    ordered_answer(alloc, game.length, &game.setup, &game.roster, commands)
+    ordered_answer(
+        alloc,
+        game.length,
+        &game.setup,
+        &game.roster,
+        commands.as_mut_slice(),
+    )
 }
 
 // The answer of `play`.
