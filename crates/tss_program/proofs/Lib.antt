@@ -9,3 +9,5 @@ pub mod Named
 pub mod LineMade
 pub mod ScriptLoop
 pub mod PlayText
+pub mod NumberLine
+pub mod Succeeds

@@ -1,17 +1,21 @@
 -- The blocks of copies one after the other, and the arrivals of a script.
-use Rattle.std.proofs.Common.{◌≡◌, ℕ, ◌+◌, ◌<◌, ◌≤◌, cond, List, [], ◌++◌, length, get_or, drop, sym, ap, ◌∙◌, append_assoc, arith}
+use Rattle.std.proofs.Common.{◌≡◌, ℕ, ◌+◌, ◌<◌, ◌≤◌, cond, List, [], ◌∷◌, ◌++◌, length, get_or, drop, codes, decimal, sym, ap, ◌∙◌, append_assoc, arith}
 use Rattle.std.proofs.lemmas.List.{append-nil, drop_more, drop_all}
 use Rattle.game_trait.specs.declared.command.Item.{Item}
+use Rattle.game_trait.specs.declared.event.Event.{Event}
 use Rattle.game_trait.specs.Count.{times}
-use Rattle.arena_rules.specs.World.{World}
+use Rattle.game_trait.specs.Run.{beats, world_of}
+use Rattle.arena_rules.specs.World.{World, arena_rules}
 use Rattle.match_file.specs.declared.script_line.ScriptLine.{ScriptLine}
 use Rattle.match_file.specs.Data.{MatchData, IsMatch}
 use Rattle.stagger_clock.specs.Schedule.{IsSchedule}
 use Rattle.sync_model.specs.State.{MirrorState}
+use Rattle.sync_model.specs.History.{repairs}
 use Rattle.sync_model.specs.Turns.{drain_bound}
+use Rattle.run_recorder.specs.declared.log.MirrorLog.{MirrorLog}
 use Rattle.tss_program.specs.Blocks.{block_text, done_line}
 use Rattle.tss_program.specs.Script.{script_text}
-use Rattle.tss_program.specs.Play.{is_arrive, opening_mirror, scripted, played, drain_text, events_text, copy_block, copy_blocks, final_text, play_text}
+use Rattle.tss_program.specs.Play.{is_arrive, opening_mirror, scripted, played, drain_text, events_text, mirror_line, copy_block, copy_blocks, final_text, play_text}
 use Rattle.tss_program.proofs.Headline.{DelaysRise-from_next}
 
 -- a block behind other text
@@ -71,11 +75,56 @@ events-parts m turns old script drained enough p q =
     ∙ ap (λ (l : List ℕ). l ++ drain_text 0 (drain_bound (scripted m)) (scripted m)) p
     ∙ append_assoc old (script_text m (opening_mirror m) m.script) (drain_text 0 (drain_bound (scripted m)) (scripted m))
 
+-- a mirror's line, number by number
+pub mirror-parts :
+    {W : Type 0} (number first accepted turned repaired : ℕ) (s : MirrorState W) (old one two three four all : List ℕ)
+    → first ≡ number → accepted ≡ length s.accepted → turned ≡ length s.turned → repaired ≡ repairs s
+    → one ≡ old ++ (codes "mirror " ++ decimal first) → two ≡ one ++ (codes " accepted " ++ decimal accepted)
+    → three ≡ two ++ (codes " turned " ++ decimal turned) → four ≡ three ++ (codes " repairs " ++ decimal repaired) → all ≡ four ++ 10 ∷ []
+    → all ≡ old ++ mirror_line number s
+unfolding mirror_line
+mirror-parts number first accepted turned repaired s old one two three four all n a t r p q u v w =
+    rw (w, v, u, q, p, n, a, t, r)
+    (regroup old (codes "mirror ") (decimal number) (codes " accepted ") (decimal (length s.accepted)) (codes " turned ") (decimal (length s.turned)) (codes " repairs ") (decimal (repairs s)) (10 ∷ []))
+  where
+    regroup : (old a b c d e f g h i : List ℕ) → ((((old ++ (a ++ b)) ++ (c ++ d)) ++ (e ++ f)) ++ (g ++ h)) ++ i ≡ old ++ (a ++ (b ++ (c ++ (d ++ (e ++ (f ++ (g ++ (h ++ i))))))))
+    regroup old a b c d e f g h i = simp append_assoc
+
+-- a copy's block, number by number
+pub copy-parts :
+    (number first copy second time : ℕ) (world : World) (names : List (List ℕ)) (opening : World) (run : List Item) (old one two three all : List ℕ)
+    → first ≡ number → second ≡ copy → time ≡ beats run → world ≡ world_of arena_rules opening run
+    → one ≡ old ++ (codes "world " ++ decimal first) → two ≡ one ++ (codes " " ++ decimal second) → three ≡ two ++ 32 ∷ []
+    → all ≡ block_text three time world names → all ≡ old ++ copy_block number names opening copy run
+unfolding copy_block
+copy-parts number first copy second time world names opening run old one two three all n c t w p q r block =
+    block
+    ∙ rw (r, q, p, n, c, t, w)
+    (ap (λ (l : List ℕ). block_text l (beats run) (world_of arena_rules opening run) names) (regroup old (codes "world ") (decimal number) (codes " ") (decimal copy) (codes " "))
+    ∙ block_text-behind old (codes "world " ++ (decimal number ++ (codes " " ++ (decimal copy ++ codes " ")))) (beats run) (world_of arena_rules opening run) names)
+  where
+    regroup : (old a b c d e : List ℕ) → ((old ++ (a ++ b)) ++ (c ++ d)) ++ e ≡ old ++ (a ++ (b ++ (c ++ (d ++ e))))
+    regroup old a b c d e = simp append_assoc
+
 -- the parts of what is printed, one after the other
 pub play-parts :
-    (m : MatchData) (s : MirrorState World) (events final all : List ℕ)
-    → s ≡ played m → events ≡ [] ++ events_text m → final ≡ events ++ final_text 0 m.names s → all ≡ final ++ done_line
-    → all ≡ play_text m
+    (m : MatchData) (s : MirrorState World) (old events final all : List ℕ)
+    → s ≡ played m → events ≡ old ++ events_text m → final ≡ events ++ final_text 0 m.names s → all ≡ final ++ done_line
+    → all ≡ old ++ play_text m
 unfolding play_text
-play-parts m s events final all end p q r =
-    r ∙ ap (λ (l : List ℕ). l ++ done_line) (q ∙ ap (λ (l : List ℕ). l ++ final_text 0 m.names s) p ∙ ap (λ (v : MirrorState World). events_text m ++ final_text 0 m.names v) end)
+play-parts m s old events final all end p q r =
+    r
+    ∙ ap (λ (l : List ℕ). l ++ done_line)
+    (q ∙ ap (λ (l : List ℕ). l ++ final_text 0 m.names s) p ∙ ap (λ (v : MirrorState World). (old ++ events_text m) ++ final_text 0 m.names v) end)
+    ∙ regroup old (events_text m) (final_text 0 m.names (played m)) done_line
+  where
+    regroup : (old a b c : List ℕ) → ((old ++ a) ++ b) ++ c ≡ old ++ ((a ++ b) ++ c)
+    regroup old a b c = simp append_assoc
+
+-- one log of a mirror, alone in a list
+pub log-alone :
+    (number : ℕ) (history told events : List Event) (log : MirrorLog) (none all : List MirrorLog)
+    → all ≡ none ++ log ∷ [] → none ≡ [] → log.mirror ≡ number → log.events ≡ events → events ≡ told → told ≡ history
+    → all ≡ record { mirror = number; events = history } ∷ []
+log-alone number history told events log none all put empty of holds copied is =
+    put ∙ ap (λ (l : List MirrorLog). l ++ log ∷ []) empty ∙ (λ i. record { mirror = of i; events = (holds ∙ copied ∙ is) i } ∷ [])

@@ -129,6 +129,19 @@ ready-whole m (l ∷ ls) s sound here ready = ready-whole m ls (after s (events_
 pub scripted-ready : (m : MatchData) → IsMatch m → IsReady m [] (scripted m)
 scripted-ready m sound = ready-whole m m.script (opening_mirror m) sound sound.script (ready-opening m)
 
+-- a script changes neither the length nor the delays
+after_script-fixed : {W : Type 0} (m : MatchData) (s : MirrorState W) (ls : List ScriptLine)
+    → ((after_script m s ls).length ≡ s.length) × ((after_script m s ls).delays ≡ s.delays)
+unfolding after_script
+after_script-fixed m s [] = (refl, refl)
+after_script-fixed m s (l ∷ ls) =
+    let same = after-fixed (events_of m l) s in
+    let behind = after_script-fixed m (after s (events_of m l)) ls in
+    (behind.0 ∙ same.length, behind.1 ∙ same.delays)
+
+pub scripted-fixed : (m : MatchData) → ((scripted m).length ≡ m.length) × ((scripted m).delays ≡ m.delays)
+scripted-fixed m = let ready = ready-opening m in let same = after_script-fixed m (opening_mirror m) m.script in (same.0 ∙ ready.ticks, same.1 ∙ ready.delays)
+
 -- a turn of all copies fits any mirror, and needs no room
 pub turn-fits : {W : Type 0} (s : MirrorState W) → AllByRecursion (Fits s) (turn_events (length s.runs))
 turn-fits s = all-weaker (NamesWhatIsThere [] s) (Fits s) (turn_events (length s.runs)) (λ e n. named-fits [] s tt e n) (named-turn [] s (length s.runs) (omega arith))

@@ -2,7 +2,7 @@
 
 ghost use Rattle.std.specs.Prelude.{◌≡◌, map};
 ghost use Rattle.std.specs.String.{string_bytes};
-ghost use Rattle.tss_program.specs.Words.{form_of};
+ghost use Rattle.tss_program.specs.Words.{form_of, form_of_word};
 
 /// What the program is asked to do.
 #[derive(Clone, Copy, Debug, PartialEq, Eq)]
@@ -14,14 +14,25 @@ pub enum Form {
 }
 
 impl Form {
+    // The form of a command line of one word.
+    #[tactic(auto, unfolding(crate::specs::Words::form_of_word))]
+    fn of_word(word: &str) -> Option<Form>
+        ensures { result ≡ form_of_word word.now }
+    {
+        match word {
+            "order" => Some(Form::Order),
+            "play" => Some(Form::Play),
+            _ => None,
+        }
+    }
+
     /// The form of a command line, or `None` where it has none of the forms that are built. It takes no memory.
-    #[tactic(auto, unfolding(crate::specs::Words::form_of, crate::specs::Words::form_of_word))]
+    #[tactic(auto, unfolding(crate::specs::Words::form_of))]
     pub fn of(words: &[String]) -> Option<Form>
         ensures { result ≡ form_of (map string_bytes words.now) }
     {
         match words {
-            [word] if word.as_str() == "order" => Some(Form::Order),
-            [word] if word.as_str() == "play" => Some(Form::Play),
+            [word] => Form::of_word(word.as_str()),
             _ => None,
         }
     }

@@ -1,6 +1,6 @@
 //! The lines that are printed.
 
-ghost use Rattle.std.specs.Prelude.{◌≡◌, ◌++◌, OnOk};
+ghost use Rattle.std.specs.Prelude.{◌≡◌, ◌++◌, OnOk, decimal};
 ghost use Rattle.tss_program.specs.Blocks.{block_text};
 ghost use Rattle.tss_program.specs.Script.{number_line, repair_line, tick_line, arrival_line, step_line, turn_line};
 
@@ -23,15 +23,21 @@ pub fn push_block(
     world.block(roster, out)
 }
 
+/// Puts a word and a number.
+pub fn push_number(out: &mut Vec<u8>, word: &str, number: u64) -> Result<(), NoMemory>
+    ensures { OnOk result (out.new.items ≡ out.old.items ++ (word.now ++ decimal number)) }
+{
+    out.extend_from_slice(word.as_bytes())?;
+    push_decimal(out, i128::from(number))
+}
+
 // Puts a line of a word and numbers.
-#[tactic(auto, unfolding(crate::specs::Script::number_words))]
 fn push_line(out: &mut Vec<u8>, word: &str, numbers: &[u32]) -> Result<(), NoMemory>
     ensures { OnOk result (out.new.items ≡ out.old.items ++ number_line word.now numbers.now) }
 {
     out.extend_from_slice(word.as_bytes())?;
     for &number in numbers {
-        out.push(b' ')?;
-        push_decimal(out, i128::from(number))?;
+        push_number(out, " ", u64::from(number))?;
     }
     out.push(b'\n')?;
     Ok(())

@@ -13,8 +13,7 @@ ghost use Rattle.tss_program.specs.Answer.{IsAnswer};
 
 use crate::answer::Answer;
 use crate::form::Form;
-use crate::lines::push_block;
-use crate::names::CommandNames;
+use crate::lines::{push_block, push_number};
 use crate::script::{drain_mirror, make_script};
 use crate::status::Status;
 use arena_rules::{Arena, Roster};
@@ -24,30 +23,26 @@ use mirror_core::Mirror;
 use run_recorder::MirrorLog;
 use stagger_clock::Stagger;
 use std::alloc::Global;
-use tss_io::{NoMemory, Seq, push_decimal};
+use tss_io::{NoMemory, Seq};
 
 // Puts a mirror's line: how many commands it accepted, how many arrivals it turned away, how many copies it repaired.
 fn push_mirror<G: Game>(
-    alloc: Global,
     out: &mut Vec<u8>,
     number: MirrorId,
     mirror: &Mirror<G>,
 ) -> Result<(), NoMemory>
     ensures { OnOk result (out.new.items ≡ out.old.items ++ mirror_line number mirror.now) }
 {
-    let accepted = mirror.accepted().len();
-    let turned = mirror.turned().len();
-    let repairs = mirror.repairs();
-    let line = format!(in alloc;
-        "mirror {number} accepted {accepted} turned {turned} repairs {repairs}\n"
-    )?;
-    out.extend_from_slice(line.as_bytes())?;
+    push_number(out, "mirror ", u64::from(number))?;
+    push_number(out, " accepted ", mirror.accepted().len() as u64)?;
+    push_number(out, " turned ", mirror.turned().len() as u64)?;
+    push_number(out, " repairs ", mirror.repairs())?;
+    out.push(b'\n')?;
     Ok(())
 }
 
 // Puts the block of a copy.
 fn push_copy(
-    alloc: Global,
     out: &mut Vec<u8>,
     number: MirrorId,
     mirror: &Mirror<Arena>,
@@ -57,16 +52,14 @@ fn push_copy(
     requires { copy < length mirror.now.runs }
     ensures { OnOk result (out.new.items ≡ out.old.items ++ copy_block number roster.now mirror.now.opening copy (slice_index_or mirror.now.runs copy [])) }
 {
-    let head = format!(in alloc; "world {number} {copy} ")?;
-    out.extend_from_slice(head.as_bytes())?;
-    let world = mirror.world(copy);
-    push_block(out, mirror.copy_clock(copy), world, roster)?;
-    Ok(())
+    push_number(out, "world ", u64::from(number))?;
+    push_number(out, " ", u64::from(copy))?;
+    out.push(b' ')?;
+    push_block(out, mirror.copy_clock(copy), mirror.world(copy), roster)
 }
 
 // Puts the blocks of a mirror's copies.
 fn push_copies(
-    alloc: Global,
     out: &mut Vec<u8>,
     number: MirrorId,
     mirror: &Mirror<Arena>,
@@ -75,7 +68,7 @@ fn push_copies(
     ensures { OnOk result (out.new.items ≡ out.old.items ++ copy_blocks number roster.now mirror.now.opening 0 mirror.now.runs) }
 {
     for copy in 0..mirror.copies() {
-        push_copy(alloc, out, number, mirror, copy, roster)?;
+        push_copy(out, number, mirror, copy, roster)?;
     }
     Ok(())
 }
@@ -131,23 +124,24 @@ fn new_mirror(alloc: Global, game: &Match) -> Result<Mirror<Arena>, NoMemory>
     Mirror::new(alloc, &opening, schedule(game), room)
 }
 
-// The mirror of a match after its script and draining, which print so much.
-fn drained_mirror(alloc: Global, game: &Match, out: &mut Vec<u8>) -> Result<Mirror<Arena>, NoMemory>
-    requires { length game.now.delays ≡ 1 }
-    ensures state { IfOk result (λ mirror. mirror ≡ played game.now) }
+// Makes the match's script on its mirror and drains it, and puts what they print.
+fn play_script(
+    alloc: Global,
+    game: &Match,
+    mirror: &mut Mirror<Arena>,
+    out: &mut Vec<u8>,
+) -> Result<(), NoMemory>
+    requires { mirror.old ≡ opening_mirror game.now }
+    ensures state { OnOk result (mirror.new ≡ played game.now) }
     ensures text { OnOk result (out.new.items ≡ out.old.items ++ events_text game.now) }
 {
-    let mut mirror = new_mirror(alloc, game)?;
-    let names = CommandNames::of(alloc, game.commands.as_slice())?;
-    make_script(&mut mirror, game, &names, out)?;
-    let turns = turns_to_drain(&mirror, &schedule(game));
-    drain_mirror(&mut mirror, 0, turns, out)?;
-    Ok(mirror)
+    make_script(alloc, mirror, game, out)?;
+    let turns = turns_to_drain(mirror, &schedule(game));
+    drain_mirror(mirror, 0, turns, out)
 }
 
 // Puts the line of a drained mirror and the blocks of its copies.
 fn push_final(
-    alloc: Global,
     out: &mut Vec<u8>,
     number: MirrorId,
     mirror: &Mirror<Arena>,
@@ -155,8 +149,8 @@ fn push_final(
 ) -> Result<(), NoMemory>
     ensures { OnOk result (out.new.items ≡ out.old.items ++ final_text number roster.now mirror.now) }
 {
-    push_mirror(alloc, out, number, mirror)?;
-    push_copies(alloc, out, number, mirror, roster)
+    push_mirror(out, number, mirror)?;
+    push_copies(out, number, mirror, roster)
 }
 
 // The log of a mirror, alone in a list.
@@ -173,16 +167,40 @@ fn log_of<G: Game>(
     Ok(kept)
 }
 
+// Plays a match on its mirror, puts all that is due, and hands back the mirror's log.
+fn play_on(
+    alloc: Global,
+    game: &Match,
+    mirror: &mut Mirror<Arena>,
+    out: &mut Vec<u8>,
+) -> Result<Seq<MirrorLog>, NoMemory>
+    requires { mirror.old ≡ opening_mirror game.now }
+    ensures text { OnOk result (out.new.items ≡ out.old.items ++ play_text game.now) }
+    ensures kept { IfOk result (λ kept. kept ≡ record { mirror = 0; events = (played game.now).history } ∷ []) }
+{
+    play_script(alloc, game, mirror, out)?;
+    push_final(out, 0, mirror, &game.roster)?;
+    out.extend_from_slice(b"done\n")?;
+    log_of(alloc, 0, mirror)
+}
+
+// Plays a match, puts all that is due, and hands back the mirror's log.
+fn play_match(alloc: Global, game: &Match, out: &mut Vec<u8>) -> Result<Seq<MirrorLog>, NoMemory>
+    requires { length game.now.delays ≡ 1 }
+    ensures text { OnOk result (out.new.items ≡ out.old.items ++ play_text game.now) }
+    ensures kept { IfOk result (λ kept. kept ≡ record { mirror = 0; events = (played game.now).history } ∷ []) }
+{
+    let mut mirror = new_mirror(alloc, game)?;
+    play_on(alloc, game, &mut mirror, out)
+}
+
 /// The text of `play`, and the mirror's log.
 pub fn play_answer(alloc: Global, game: &Match) -> Result<Answer, NoMemory>
     requires { length game.now.delays ≡ 1 }
     ensures { IfOk result (IsAnswer (due_of_match Form.Play (Ok game.now))) }
 {
     let mut text = Vec::new(alloc);
-    let mirror = drained_mirror(alloc, game, &mut text)?;
-    push_final(alloc, &mut text, 0, &mirror, &game.roster)?;
-    text.extend_from_slice(b"done\n")?;
-    let kept = log_of(alloc, 0, &mirror)?;
+    let kept = play_match(alloc, game, &mut text)?;
     Ok(Answer {
         status: Status::Complete,
         text,

@@ -15,6 +15,7 @@ use arena_rules::Arena;
 use game_trait::{Game, MirrorId};
 use match_file::{Match, ScriptLine};
 use mirror_core::Mirror;
+use std::alloc::Global;
 use tss_io::NoMemory;
 
 // Makes a step of each copy, from copy 0 on, and puts a line for each that repairs.
@@ -43,8 +44,7 @@ fn make_turn<G: Game>(
     ensures text { OnOk result (out.new.items ≡ out.old.items ++ turn_lines number (answers mirror.old (turn_events (length mirror.old.runs)))) }
 {
     let _moved = mirror.tick();
-    make_steps(mirror, number, out)?;
-    Ok(())
+    make_steps(mirror, number, out)
 }
 
 /// Makes turns until the mirror is drained, at most so many, and puts a line for each step that repairs.
@@ -83,29 +83,27 @@ fn make_line<G: Game>(
 {
     let _ = &game.length;
     match *line {
-        ScriptLine::Tick { mirror: number } => push_ticked(out, number, mirror.tick())?,
-        ScriptLine::Turn { mirror: number } => make_turn(mirror, number, out)?,
+        ScriptLine::Tick { mirror: number } => push_ticked(out, number, mirror.tick()),
+        ScriptLine::Turn { mirror: number } => make_turn(mirror, number, out),
         ScriptLine::Arrive {
             mirror: number,
             from,
             number: of_command,
-        } => {
-            if let Some(x) = names.find(from, of_command) {
-                push_arrived(out, number, from, of_command, mirror.arrive(&x))?;
-            }
-        }
+        } => match names.find(from, of_command) {
+            Some(x) => push_arrived(out, number, from, of_command, mirror.arrive(&x)),
+            None => Ok(()),
+        },
         ScriptLine::Step {
             mirror: number,
             copy,
-        } => push_stepped(out, number, copy, mirror.step(copy))?,
-        ScriptLine::World { .. } => {}
-        ScriptLine::Run { .. } => {}
+        } => push_stepped(out, number, copy, mirror.step(copy)),
+        ScriptLine::World { .. } => Ok(()),
+        ScriptLine::Run { .. } => Ok(()),
     }
-    Ok(())
 }
 
-/// Makes the events of a match's script on its mirror, and puts what they print.
-pub fn make_script(
+// Makes the events of a match's script on its mirror, by the names of its commands, and puts what they print.
+fn make_lines(
     mirror: &mut Mirror<Arena>,
     game: &Match,
     names: &CommandNames,
@@ -121,4 +119,19 @@ pub fn make_script(
         make_line(mirror, game, names, line, out)?;
     }
     Ok(())
+}
+
+/// Makes the events of a match's script on its mirror, and puts what they print.
+pub fn make_script(
+    alloc: Global,
+    mirror: &mut Mirror<Arena>,
+    game: &Match,
+    out: &mut Vec<u8>,
+) -> Result<(), NoMemory>
+    requires { mirror.old ≡ opening_mirror game.now }
+    ensures state { OnOk result (mirror.new ≡ scripted game.now) }
+    ensures text { OnOk result (out.new.items ≡ out.old.items ++ script_text game.now (opening_mirror game.now) game.now.script) }
+{
+    let names = CommandNames::of(alloc, game.commands.as_slice())?;
+    make_lines(mirror, game, &names, out)
 }

@@ -1,10 +1,9 @@
-use Rattle.std.proofs.Common.{◌∙◌}
-use Rattle.tss_program.specs.Play.{copy_block}
-use Rattle.tss_program.proofs.PlayText.{block_text-behind}
+use Rattle.std.proofs.lemmas.Result.{on_ok_weaker}
+use Rattle.tss_program.proofs.PlayText.{copy-parts}
 use Rattle.tss_program.proofs.play.push_copy.Goals as goal
 
 pub returns : goal.returns
-unfolding copy_block
 returns c =
-    c.in_ok-push_block.ensures
-    ∙ rw (c.in_ok-extend_from_slice.ensures.items, c.as_bytes.ensures.value, c.in_ok-head.ensures.ok, c.copy_clock.ensures, c.world-world.ensures) (block_text-behind _ _ _ _ _)
+    on_ok_weaker c.push_block.result
+    (copy-parts c.args.number _ c.args.copy _ _ _ _ _ _ _ _ _ _ _ c.from.ensures c.from-2.ensures c.copy_clock.ensures c.world.ensures c.in_ok-push_number.ensures c.in_ok-push_number-2.ensures c.in_ok-push.ensures.items)
+    c.push_block.ensures

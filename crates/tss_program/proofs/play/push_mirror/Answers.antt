@@ -1,9 +1,8 @@
-use Rattle.std.proofs.Common.{refl, ◌∙◌}
-use Rattle.tss_program.specs.Play.{mirror_line}
+use Rattle.std.proofs.Common.{List, length, ap}
+use Rattle.tss_program.proofs.PlayText.{mirror-parts}
 use Rattle.tss_program.proofs.play.push_mirror.Goals as goal
 
 pub returns : goal.returns
-unfolding mirror_line
 returns g c =
-    c.in_ok-extend_from_slice.ensures.items
-    ∙ rw (c.as_bytes.ensures.value, c.in_ok-line.ensures.ok, c.accepted.ensures, c.turned.ensures, c.repairs-repairs.ensures) refl
+    mirror-parts c.args.number _ _ _ _ c.args.mirror.now _ _ _ _ _ _ c.from.ensures (ap (λ (l : List _). length l) c.accepted.ensures) (ap (λ (l : List _). length l) c.turned.ensures) c.repairs.ensures
+    c.in_ok-push_number.ensures c.in_ok-push_number-2.ensures c.in_ok-push_number-3.ensures c.in_ok-push_number-4.ensures c.in_ok-push.ensures.items

@@ -1,7 +1,10 @@
-use Rattle.std.proofs.Common.{ℕ, ◌-◌, List, ◌++◌, ap, sym, ◌∙◌, arith}
+use Rattle.std.proofs.Common.{◌≡◌, ℕ, ◌-◌, List, ◌++◌, refl, ap, sym, ◌∙◌, arith}
 use Rattle.std.proofs.lemmas.List.{append-nil}
 use Rattle.tss_program.proofs.Steps.{drained-state, drained-text, no-turns-state, no-turns-text, drain-state, drain-text}
 use Rattle.tss_program.proofs.script.drain_mirror.Goals as goal
+
+pub loop-init : goal.loop-init
+loop-init g c = (let all : c.args.turns - 0 ≡ c.args.turns = omega arith in rw all (record { state = refl; text = refl }))
 
 pub returns-then-drained-clause-state : goal.returns-then-drained-clause-state
 returns-then-drained-clause-state g c =

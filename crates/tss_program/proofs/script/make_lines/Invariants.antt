@@ -2,7 +2,7 @@ use Rattle.std.proofs.Common.{◌++◌}
 use Rattle.tss_program.specs.Script.{script_text}
 use Rattle.tss_program.specs.Play.{opening_mirror, scripted}
 use Rattle.tss_program.proofs.ScriptLoop.{IsMadeTo}
-use Rattle.tss_program.proofs.script.make_script.Given as goal
+use Rattle.tss_program.proofs.script.make_lines.Given as goal
 
 abbrev pub invariant-loop-line : goal.invariant-loop-line
 invariant-loop-line l =
