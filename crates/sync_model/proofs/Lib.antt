@@ -1,6 +1,7 @@
 pub mod Settle
 pub mod Proposals
 pub mod Lists
+pub mod Trailing
 pub mod Staggered
 pub mod Cases
 pub mod Clocks
