@@ -11,6 +11,7 @@ pub mod Played
 pub mod History
 pub mod Repairs
 pub mod Arrivals
-pub mod Answers
+pub mod Rebuilt
+pub mod Replies
 pub mod Computing
 pub mod Kept

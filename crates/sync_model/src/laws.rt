@@ -14,7 +14,10 @@ pub use history::{
     late_exactly, opening_from_history, repairs_add_up, room_spent, unchanged_exactly,
 };
 pub use settling::{
-    arrival_repairs, arrival_repairs_first, settled_chained, step_repairs, step_repairs_first,
+    arrival_count, arrival_early, arrival_late, arrival_late_count, arrival_repairs,
+    arrival_repairs_first, begins_with_prefix, last_late, rebuilt_level, rebuilt_twice,
+    settled_chained, step_apart, step_count, step_first, step_front, step_repairs,
+    step_repairs_first,
 };
 pub use staggered::{
     fits_kept, opening_staggered, staggered_along, staggered_kept, well_formed_kept,
