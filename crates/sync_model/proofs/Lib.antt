@@ -9,8 +9,9 @@ pub mod Along
 pub mod Drain
 pub mod Played
 pub mod History
+pub mod Room
+pub mod Legal
 pub mod Repairs
 pub mod Arrivals
 pub mod Answers
 pub mod Computing
-pub mod Kept

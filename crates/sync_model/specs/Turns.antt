@@ -59,5 +59,5 @@ pub record SameArrivals {W : Type 0} (s t : MirrorState W) : Type 0 where
 -- what draining comes to: every copy has run the whole match, and its run is the ordered part of what was accepted before
 pub record EndsInOrder {W : Type 0} (s : MirrorState W) : Type 0 where
   pub drained : IsDrained (drain s)
-  pub accepted : (drain s).accepted ≡ s.accepted
+  pub arrivals : SameArrivals s (drain s)
   pub in_order : AllByRecursion (λ run. run ≡ ordered s.accepted 0 s.length) (drain s).runs
