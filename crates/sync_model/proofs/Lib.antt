@@ -9,9 +9,10 @@ pub mod Along
 pub mod Drain
 pub mod Played
 pub mod History
+pub mod Room
+pub mod Legal
 pub mod Repairs
 pub mod Arrivals
 pub mod Rebuilt
 pub mod Replies
 pub mod Computing
-pub mod Kept
