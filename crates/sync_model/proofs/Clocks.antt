@@ -105,7 +105,6 @@ clocks-never_fall s (Arrive x) i here =
     omega arith)
 clocks-never_fall s (Step c) i here =
     step-cases s c (λ t r. copy_clock s.runs i ≤ copy_clock t.runs i) (λ e. omega arith) (λ e. ran-never_falls s c i here e)
-
 clocks-never_fall s (Restagger p) i here = restagger-cases s p (λ t r. copy_clock s.runs i ≤ copy_clock t.runs i) (omega arith)
 
 -- a tick brings the clock one nearer to its end, and no event turns it back

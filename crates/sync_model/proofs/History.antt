@@ -116,4 +116,3 @@ late-exactly s x bound =
     (λ e. (λ h. absurd cc, λ h. absurd (both_ways (is_repeat s x) h.0 e)))
     (λ e l. (λ h. (e, ltb-true x.time (last_clock s.runs) l, cc), λ h. ap (λ (n : ℕ). ToArrive (Late n)) (sym h.2)))
     (λ e l. (λ h. absurd cc, λ h. absurd (let k = ltb-false x.time (last_clock s.runs) l in let m = h.1 in omega arith)))
-

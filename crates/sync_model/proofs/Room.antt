@@ -184,9 +184,9 @@ opening_of-next s e room h =
     let grown : (next s e).history ≡ s.history ++ e ∷ [] = rw h at (history-next s e) in
     let spent : (next s e).spare ≡ s.spare - cond (is_arrival e && true) 1 0 = rw h at (spare-next s e) in
     let sum = room-sum s e room (next s e).spare (times is_arrival (next s e).history) (times is_arrival s.history)
-        (next s e).plan_spare (times is_restagger (next s e).history) (times is_restagger s.history)
-        spent (ap (times is_arrival) grown ∙ one-more is_arrival s.history e)
-        (plan_spare-next s e) (ap (times is_restagger) grown ∙ one-more is_restagger s.history e) in
+    (next s e).plan_spare (times is_restagger (next s e).history) (times is_restagger s.history)
+    spent (ap (times is_arrival) grown ∙ one-more is_arrival s.history e)
+    (plan_spare-next s e) (ap (times is_restagger) grown ∙ one-more is_restagger s.history e) in
     λ i. opening_state (same.opening i) (same.length i) (same.plans i) (sum.0 i) (sum.1 i)
 
 -- an event that finds room leaves a state that its history leads to

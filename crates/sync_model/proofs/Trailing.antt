@@ -167,7 +167,6 @@ opening-never_early (d ∷ ds) = (tt, opening-never_early ds)
 opening-last : (delays : List ℕ) → last_of {X = List Item} [] (map (λ delay. []) delays) ≡ []
 opening-last delays = last-map {X = ℕ} {Y = List Item} (λ delay. []) 0 delays
 
-
 pub trailing-opening : (delays : List ℕ) → IsTrailing [] (map (λ delay. []) delays)
 unfolding ticks beats
 trailing-opening delays =
