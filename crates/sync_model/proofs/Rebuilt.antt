@@ -16,8 +16,9 @@ use Rattle.sync_model.specs.Change.{with_late, with_tick, proposed_by_arrival, p
 use Rattle.sync_model.specs.Staggered.{IsAhead, IsChained, IsComplete}
 use Rattle.sync_model.specs.Repairs.{is_late_at, last_late_clock, rebuild, IsLastLate}
 use Rattle.sync_model.proofs.Settle.{NeverRises, beats-rebuilt}
-use Rattle.sync_model.proofs.Proposals.{beats-with_late, beats-with_tick, with_late-past, beats-command, equal_clocks}
+use Rattle.sync_model.proofs.Proposals.{beats-with_late, beats-with_tick, with_late-past, beats-command}
 use Rattle.sync_model.proofs.Trailing.{beats-front, chained-falls, IsBehindAhead, step-beats, set-falls}
+use Rattle.sync_model.proofs.Drain.{equal_clocks}
 use Rattle.sync_model.proofs.Repairs.{ahead-front, chained-settled, chained-unrepaired, no-marks, count-first, unrepaired-same, none-marked, step-marks, step-chained, front-chained}
 use Rattle.sync_model.proofs.Arrivals.{arrival-marks, count-marks, none-late, falls-all, head-late, last_late-alone, last_late-behind}
 
