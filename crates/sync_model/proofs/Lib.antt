@@ -13,5 +13,6 @@ pub mod Room
 pub mod Legal
 pub mod Repairs
 pub mod Arrivals
-pub mod Answers
+pub mod Rebuilt
+pub mod Replies
 pub mod Computing
