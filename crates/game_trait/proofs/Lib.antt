@@ -1,6 +1,11 @@
+pub mod Lists
 pub mod Runs
 pub mod Items
 pub mod Counts
 pub mod KeyOrder
 pub mod OrderedParts
 pub mod Sorting
+pub mod CommandLists
+pub mod Places
+pub mod Due
+pub mod Lengths
