@@ -1,9 +1,6 @@
 -- What contracts see of the source and the sink in memory, and what stands after a call.
-use Rattle.std.specs.Prelude.{ℕ, ◌+◌, ◌-◌, ◌^◌, List, ◌++◌, drop, length, min}
-
--- A counter of 64 bits after one more: it stays at its last value.
-abbrev pub next_count : ℕ → ℕ
-next_count n = min (n + 1) (2 ^ 64 - 1)
+use Rattle.std.specs.Prelude.{ℕ, ◌-◌, List, ◌++◌, drop, length}
+use Rattle.tss_io.specs.Streams.{next_count}
 
 -- A source: the bytes that are left, how many a call gives at most, the numbers of the calls that fail,
 -- the number of the next call, and how many failed.

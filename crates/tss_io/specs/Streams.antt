@@ -1,5 +1,9 @@
 -- What sources give and sinks take, and how their counts of faults rise.
-use Rattle.std.specs.Prelude.{◌≡◌, ◌<◌, ◌-◌, ◌^◌, ◌⊎◌, ◌++◌, ℕ, List, Option, Some, None}
+use Rattle.std.specs.Prelude.{◌≡◌, ◌<◌, ◌+◌, ◌-◌, ◌^◌, ◌⊎◌, ◌++◌, ℕ, List, Option, Some, None, min}
+
+-- A counter of 64 bits after one more: it stays at its last value.
+abbrev pub next_count : ℕ → ℕ
+next_count n = min (n + 1) (2 ^ 64 - 1)
 
 -- A count is greater than before, or stands at the last value of its counter.
 abbrev pub Rose : ℕ → ℕ → Type 0
@@ -19,7 +23,9 @@ Gains (Some old) piece None = ⊥
 Gains None piece (Some new) = ⊥
 Gains None piece None = Unit {0}
 
--- What contracts see of a source or a sink that tells no bytes: how many calls were made, and how many of them failed.
-pub record Counts : Type 0 where
+-- What contracts see of a source or a sink over a stream of std's: the stream, how many calls were made, and how
+-- many of them failed.
+pub record Counted (S : Type 0) : Type 0 where
+  pub stream : S
   pub calls : ℕ
   pub faults : ℕ
