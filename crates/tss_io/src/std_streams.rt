@@ -1,6 +1,6 @@
-//! A source and a sink over std's `Read` and `Write`: the edge to files, pipes and terminals. They tell no bytes; what std says
-//! of the reader's and the writer's bytes, their clauses say of a call. An interrupted call is made again, at most 16 times in a
-//! row, and then fails.
+//! A source and a sink over std's `Read` and `Write`: the edge to files, pipes and terminals. They tell no bytes; what
+//! std says of the reader's and the writer's bytes, their clauses say of a call. An interrupted call is made again, at
+//! most 16 times in a row, and then fails.
 ghost use Rattle.std.specs.Io.KnownBytes.{Appends, Keeps, ReadConsumes, WriteAppends};
 ghost use Rattle.std.specs.IoError.{error_kind};
 ghost use Rattle.std.specs.Prelude.{◌≡◌, ◌≤◌, ◌<◌, ◌↔◌, ℕ, None, length, take, IsTrue, IfOk, OnOk, OnErr, MatchResult};
@@ -144,8 +144,8 @@ impl<W: Write> Sink for StdSink<W> {
         ensures within { IfOk result (λ n. n ≤ length piece.now) }
         ensures never_falls { self.old.faults ≤ self.new.faults }
 
-        // Beyond the trait: what the writer took, on `Failed` a front of the piece, since the flush may have failed; and the
-        // exact counts.
+        // Beyond the trait: what the writer took, on `Failed` a front of the piece, since the flush may have failed; and
+        // the exact counts.
         ensures gained { IfOk result (λ n.
             Appends (W.contents self.old.stream) (W.contents self.new.stream) (take n piece.now)) }
         ensures front { OnErr result ((n : ℕ)

@@ -1,5 +1,5 @@
 use Rattle.std.proofs.Common.{inl, inr, refl, arith}
-use Rattle.tss_io.proofs.Streams.{counted-le, same-le}
+use Rattle.tss_io.proofs.Streams.{same-le}
 use Rattle.tss_io.proofs.memory.MemSinkSink.put.Goals as goal
 
 pub returns-then-is_listed-clause-err : goal.returns-then-is_listed-clause-err

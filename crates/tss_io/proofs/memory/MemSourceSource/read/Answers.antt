@@ -1,6 +1,6 @@
 use Rattle.std.proofs.Common.{refl}
 use Rattle.std.proofs.lemmas.List.{drop-drop}
-use Rattle.tss_io.proofs.Streams.{counted-le, same-le, given-front}
+use Rattle.tss_io.proofs.Streams.{same-le, given-front}
 use Rattle.tss_io.proofs.memory.MemSourceSource.read.Goals as goal
 
 pub returns-then-is_listed-clause-err : goal.returns-then-is_listed-clause-err
