@@ -1,4 +1,4 @@
 pub mod DecimalLaws
-pub mod Faults
+pub mod ReadFaults
 pub mod Reading
 pub mod Streams
