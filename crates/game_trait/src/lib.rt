@@ -4,6 +4,7 @@
 mod command;
 mod event;
 mod game;
+pub mod limits;
 
 pub use command::{Act, Command, Item, Key, MirrorId, Number, Tick, order_by_key};
 pub use event::{Arrived, Event, Note, Reply, Stepped, Ticked};
