@@ -1,5 +1,14 @@
 pub mod DecimalLaws
 pub mod Faults
+pub mod FormLaws
+pub mod KindLaws
+pub mod LineLaws
+pub mod LineSteps
+pub mod OverLaws
 pub mod Printing
 pub mod Results
+pub mod RunLaws
+pub mod RunToLaws
+pub mod Spaced
 pub mod Streams
+pub mod WordLists
