@@ -1,17 +1,18 @@
 -- Forms both ways: what is read by a form is written so, and what is written by it is read.
-use Rattle.std.proofs.Common.{◌≡◌, ℕ, ◌+◌, ◌*◌, ◌^◌, ◌%◌, ◌<◌, ◌≤◌, Bool, true, false, cond, ltb, ◌&&◌, List, [], ◌∷◌, length, map, Option, Some, None, Result, Ok, Err, refl, sym, ap, subst, ◌∙◌, arith, length-append}
+use Rattle.std.proofs.Common.{◌≡◌, ℕ, ◌+◌, ◌*◌, ◌^◌, ◌%◌, ◌<◌, ◌≤◌, Bool, true, false, cond, eqb, ltb, ◌&&◌, List, [], ◌∷◌, length, map, Option, Some, None, Result, Ok, Err, refl, sym, ap, subst, ◌∙◌, arith, length-append}
 use Rattle.std.specs.Prelude.{bytes_eq, decimal}
 use Rattle.std.specs.List.{AllByRecursion, list_all}
-use Rattle.std.proofs.lemmas.Bool.{ltb-false, ltb-true, le-ltb, lt-ltb, and_parts}
+use Rattle.std.proofs.lemmas.Bool.{eqb-true, eq-eqb, ltb-false, ltb-true, le-ltb, lt-ltb, and_parts}
+use Rattle.std.proofs.lemmas.List.{length-map}
 use Rattle.std.proofs.lemmas.Slice.Eq.{bytes_eq-Decides}
 use Rattle.std.proofs.lemmas.Fmt.{length-decimal-le, decimal_by_steps}
 use Rattle.tss_io.specs.Decimals.{number_of}
 use Rattle.tss_io.specs.Results.{◌>>=◌}
-use Rattle.tss_io.proofs.Results.{bind_ok, then, guard_ok, unless_ok}
+use Rattle.tss_io.proofs.Results.{bind_ok, then, guard_ok, unless_ok, unless_then}
 use Rattle.tss_io.proofs.DecimalLaws.{number_of-some, number_of-decimal}
 use Rattle.tss_io.specs.declared.cause.Cause.{Cause}
 use Rattle.tss_io.specs.declared.cause.Cause.TheVariants.{Shape, Number}
-use Rattle.tss_io.specs.Forms.{is_word, front_at, last_at, Field, at_least, number_in, number, any_word, picked, choice, Form, only, ◌&◌, made, each_word, numbers_in, numbers, InRange, AreNumbers}
+use Rattle.tss_io.specs.Forms.{is_word, front_at, last_at, Field, at_least, number_in, number, so_many_words, numbers_of, any_word, picked, choice, Form, only, ◌&◌, made, each_word, numbers_in, numbers, InRange, AreNumbers}
 use Rattle.tss_io.proofs.Spaced.{AreWords, IsWord-decimal, is_word-some}
 
 pub same_words : (a b : List ℕ) → bytes_eq a b ≡ true → a ≡ b
@@ -112,11 +113,20 @@ picked_err word (b ∷ values) w c e =
       | false ↦ λ e. picked_err word values w c e
     ] e
 
-pub choice_exact : {A : Type 0} (word : A → List ℕ) (values : List A) (longest : ℕ) → ((a : A) → Chosen word values a) → ((a : A) → length (word a) ≤ longest) → ExactField (choice word values) (λ _. Unit {0}) (λ _. longest)
-choice_exact word values longest all short = record {
-  takes = λ w r a _ see e. (picked_takes word values w a (see ∙ e), tt);
-  again = λ a h. (a, (all a).0, refl);
-  fit = λ a h. (all a).1;
+picked_fits : {A : Type 0} (P : A → Type 0) (word : A → List ℕ) (values : List A) (w : List ℕ) (a : A) → AllByRecursion P values → picked word values w ≡ Ok a → P a
+picked_fits P word [] w a all e = absurd cc
+picked_fits P word (b ∷ values) w a all e =
+    elim (bytes_eq w (word b)) as (λ t. cond t (Ok b) (picked word values w) ≡ Ok a → P a) [
+      | true ↦ λ e. subst P (same_ok b a e) all.0
+      | false ↦ λ e. picked_fits P word values w a all.1 e
+    ] e
+
+-- one of the values, which are told apart by their words
+pub choice_exact : {A : Type 0} {P : A → Type 0} (word : A → List ℕ) (values : List A) (longest : ℕ) → AllByRecursion P values → ((a : A) → P a → Chosen word values a) → ((a : A) → length (word a) ≤ longest) → ExactField (choice word values) P (λ _. longest)
+choice_exact {P = P} word values longest fits all short = record {
+  takes = λ w r a _ see e. let same = see ∙ e in (picked_takes word values w a same, picked_fits P word values w a fits same);
+  again = λ a h. (a, (all a h).0, refl);
+  fit = λ a h. (all a h).1;
   short = λ a h. short a;
   shape = λ w c e. picked_err word values w c e;
   number = λ r c e. absurd cc;
@@ -323,3 +333,24 @@ numbers_exact least most small = record {
   shape = λ ws c e. each_err ws c e;
   number = λ r c e. numbers_err least most r c e;
 }
+
+-- as many numbers as wanted
+pub numbers_of_exact : (count least most : ℕ) → most < 10 ^ 10 → ExactForm (numbers_of count least most) (λ ns. AreNumbers least most ns × (length ns ≡ count)) (λ ns. 11 * length ns)
+unfolding so_many_words
+numbers_of_exact count least most small =
+    let x = numbers_exact least most small in
+    record {
+      takes = λ ws r a see e.
+          let g = unless_then (eqb (length ws) count) Shape (each_word ws) r see in
+          let t = x.takes ws r a g.1 e in
+          (t.0, (t.1, sym (length-map a decimal) ∙ ap length (sym t.0) ∙ eqb-true (length ws) count g.0));
+      again = λ a h.
+          let k = x.again a h.0 in
+          let e : eqb (length (map decimal a)) count ≡ true = rw (length-map a decimal, h.1) (eq-eqb count count refl) in
+          (k.0, rw e k.1, k.2);
+      fit = λ a h. x.fit a h.0;
+      some = λ a h. x.some a h.0;
+      short = λ a h. x.short a h.0;
+      shape = λ ws c e. elim (eqb (length ws) count) as (λ t. cond t (each_word ws) (Err Shape) ≡ Err c → c ≡ Shape) [ true ↦ λ e. x.shape ws c e | false ↦ λ e. cc ] e;
+      number = λ r c e. x.number r c e;
+    }

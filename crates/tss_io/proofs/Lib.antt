@@ -5,10 +5,12 @@ pub mod KindLaws
 pub mod LineLaws
 pub mod LineSteps
 pub mod OverLaws
+pub mod Pairs
 pub mod Printing
 pub mod Results
 pub mod RunLaws
 pub mod RunToLaws
 pub mod Spaced
 pub mod Streams
+pub mod WalkLaws
 pub mod WordLists

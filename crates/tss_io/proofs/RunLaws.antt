@@ -9,7 +9,7 @@ use Rattle.tss_io.specs.declared.cause.Cause.TheVariants.{End, Long}
 use Rattle.tss_io.specs.declared.fault.Refused.{Refused}
 use Rattle.tss_io.specs.Lines.{Lines, torn, line, onto, lines_of}
 use Rattle.tss_io.specs.Kinds.{line_at, is_long, fault_of, EachAfter}
-use Rattle.tss_io.specs.Runs.{is_end, at, run, ahead, Follows, stop_at, FirstFault}
+use Rattle.tss_io.specs.Runs.{is_end, at, run, ahead, Follows, stop_at, StopsAt}
 use Rattle.tss_io.specs.Reading.{refused_at}
 
 -- what both branches of a test lead to
@@ -58,13 +58,13 @@ run_again take is_last n s (l ∷ front) t good last = rw (good.0, good.1, good.
 
 -- ---- the first fault
 
-pub first : {S : Type 0} (take : S → List ℕ → Result S Cause) (is_last : S → Bool) (n : ℕ) (s : S) (lines : Lines) (refused : Refused) (cause : Cause) → ◌≡◌ {A = Result S Refused} (Err (refused_at n cause)) (Err refused) → stop_at take is_last s lines ≡ Some cause → FirstFault take is_last n s lines refused
+pub first : {S : Type 0} (take : S → List ℕ → Result S Cause) (is_last : S → Bool) (n : ℕ) (s : S) (lines : Lines) (refused : Refused) (cause : Cause) → ◌≡◌ {A = Result S Refused} (Err (refused_at n cause)) (Err refused) → stop_at take is_last s lines ≡ Some cause → StopsAt take is_last n s lines refused
 unfolding ahead Follows
 first take is_last n s lines refused cause e stop =
     let same : refused_at n cause ≡ refused = cc in
     record { front = []; met = s; rest = lines; whole = refl; good = refl; number = omega (arith, ap (λ (r : Refused). r.line) same); cause = stop ∙ ap (λ (r : Refused). Some r.cause) same }
 
-pub run_fault : {S : Type 0} (take : S → List ℕ → Result S Cause) (is_last : S → Bool) (n : ℕ) (s : S) (lines : Lines) (refused : Refused) → run take is_last n s lines ≡ Err refused → FirstFault take is_last n s lines refused
+pub run_fault : {S : Type 0} (take : S → List ℕ → Result S Cause) (is_last : S → Bool) (n : ℕ) (s : S) (lines : Lines) (refused : Refused) → run take is_last n s lines ≡ Err refused → StopsAt take is_last n s lines refused
 unfolding run ahead Follows
 run_fault take is_last n s (torn bytes) refused e =
     either (is_last s) _ _ _
@@ -175,7 +175,7 @@ at_takes n (Err c) s e = absurd cc
 
 -- ---- the first fault of a text whose lines come one by one
 
-pub later : {S : Type 0} (take : S → List ℕ → Result S Cause) (is_last : S → Bool) (n : ℕ) (s m : S) (l : List ℕ) (rest : Lines) (refused : Refused) → is_last s ≡ false → is_long l ≡ false → take s l ≡ Ok m → FirstFault take is_last (n + 1) m rest refused → FirstFault take is_last n s (line l rest) refused
+pub later : {S : Type 0} (take : S → List ℕ → Result S Cause) (is_last : S → Bool) (n : ℕ) (s m : S) (l : List ℕ) (rest : Lines) (refused : Refused) → is_last s ≡ false → is_long l ≡ false → take s l ≡ Ok m → StopsAt take is_last (n + 1) m rest refused → StopsAt take is_last n s (line l rest) refused
 unfolding ahead Follows
 later take is_last n s m l rest refused last short e r =
     let counted = r.number in
@@ -183,18 +183,18 @@ later take is_last n s m l rest refused last short e r =
 
 -- a line that must come once, and what follows it
 pub line_first : {S T A : Type 0} (take : S → List ℕ → Result S Cause) (is_last : S → Bool) (n : ℕ) (s : S) (g : List ℕ → Result T Cause) (next : T → S) (lines : Lines) (f : T × Lines → Result A Refused) (refused : Refused)
-    → is_last s ≡ false → ((l : List ℕ) → take s l ≡ (g l >>= λ t. Ok (next t))) → ((t : T) (rest : Lines) → f (t, rest) ≡ Err refused → FirstFault take is_last (n + 1) (next t) rest refused)
-    → (at n (line_at lines >>= λ l. g l.0 >>= λ t. Ok (t, l.1)) >>= f) ≡ Err refused → FirstFault take is_last n s lines refused
+    → is_last s ≡ false → ((l : List ℕ) → take s l ≡ (g l >>= λ t. Ok (next t))) → ((t : T) (rest : Lines) → f (t, rest) ≡ Err refused → StopsAt take is_last (n + 1) (next t) rest refused)
+    → (at n (line_at lines >>= λ l. g l.0 >>= λ t. Ok (t, l.1)) >>= f) ≡ Err refused → StopsAt take is_last n s lines refused
 unfolding line_at
 line_first {T = T} take is_last n s g next (torn bytes) f refused last same on e =
-    elim (is_long bytes) as (λ b. is_long bytes ≡ b → (at n (cond b (Err Long) (Err End) >>= λ (l : List ℕ × Lines). g l.0 >>= λ t. Ok (t, l.1)) >>= f) ≡ Err refused → FirstFault take is_last n s (torn bytes) refused) [
+    elim (is_long bytes) as (λ b. is_long bytes ≡ b → (at n (cond b (Err Long) (Err End) >>= λ (l : List ℕ × Lines). g l.0 >>= λ t. Ok (t, l.1)) >>= f) ≡ Err refused → StopsAt take is_last n s (torn bytes) refused) [
       | true ↦ λ long e. first take is_last n s (torn bytes) refused Long (cc) (rw (last, long) refl)
       | false ↦ λ short e. first take is_last n s (torn bytes) refused End (cc) (rw (last, short) refl)
     ] refl e
 line_first {T = T} take is_last n s g next (line l rest) f refused last same on e =
-    elim (is_long l) as (λ b. is_long l ≡ b → (at n (cond b (Err Long) (Ok (l, rest)) >>= λ (l : List ℕ × Lines). g l.0 >>= λ t. Ok (t, l.1)) >>= f) ≡ Err refused → FirstFault take is_last n s (line l rest) refused) [
+    elim (is_long l) as (λ b. is_long l ≡ b → (at n (cond b (Err Long) (Ok (l, rest)) >>= λ (l : List ℕ × Lines). g l.0 >>= λ t. Ok (t, l.1)) >>= f) ≡ Err refused → StopsAt take is_last n s (line l rest) refused) [
       | true ↦ λ long e. first take is_last n s (line l rest) refused Long (cc) (rw (last, long) refl)
-      | false ↦ λ short e. elim (g l) as (λ r. g l ≡ r → (at n (r >>= λ t. Ok (t, rest)) >>= f) ≡ Err refused → FirstFault take is_last n s (line l rest) refused) [
+      | false ↦ λ short e. elim (g l) as (λ r. g l ≡ r → (at n (r >>= λ t. Ok (t, rest)) >>= f) ≡ Err refused → StopsAt take is_last n s (line l rest) refused) [
         | Ok t ↦ λ read e. later take is_last n s (next t) l rest refused last short (same l ∙ rw read refl) (on t rest e)
         | Err c ↦ λ bad e. first take is_last n s (line l rest) refused c (cc) (rw (last, short, same l, bad) refl)
       ] refl e

@@ -1,5 +1,6 @@
 -- A run inside a longer text, both ways, and its first fault.
-use Rattle.std.proofs.Common.{◌≡◌, ℕ, ◌+◌, Bool, true, false, cond, List, [], ◌∷◌, length, Result, Ok, Err, refl, sym, ap, subst, ◌∙◌, arith}
+use Rattle.std.proofs.Common.{◌≡◌, ℕ, ◌+◌, Bool, true, false, cond, List, [], ◌∷◌, length, Some, None, Result, Ok, Err, refl, sym, ap, subst, ◌∙◌, arith}
+use Rattle.std.specs.Prelude.{not}
 use Rattle.tss_io.specs.Results.{◌>>=◌}
 use Rattle.tss_io.specs.declared.cause.Cause.{Cause}
 use Rattle.tss_io.specs.declared.cause.Cause.TheVariants.{End, Long}
@@ -8,8 +9,8 @@ use Rattle.tss_io.specs.declared.fault.LineFault.{LineFault}
 use Rattle.tss_io.specs.declared.fault.LineFault.TheVariants as line_faults
 use Rattle.tss_io.specs.Lines.{Lines, torn, line}
 use Rattle.tss_io.specs.Reading.{FailsLine, FailsAt, refused_at}
-use Rattle.tss_io.specs.Kinds.{line_at, is_long}
-use Rattle.tss_io.specs.Runs.{line_step, is_end, at, run, ahead, Follows, FirstFault, Stop, run_to, ended, RanTo}
+use Rattle.tss_io.specs.Kinds.{line_at, is_long, fault_of, first_failing}
+use Rattle.tss_io.specs.Runs.{line_step, is_end, at, run, ahead, Follows, StopsAt, Stop, run_to, ended, RanTo, stop_at, line_checks, FirstFault}
 use Rattle.tss_io.proofs.RunLaws.{either, at_cases, run_fault}
 
 -- a run over a whole text ends where nothing stands behind
@@ -46,7 +47,7 @@ to_again take is_last n m s [] t (torn bytes) good last e = let k : m ≡ n = om
 to_again take is_last n m s [] t (line l rest) good last e = let k : m ≡ n = omega arith in rw (good, last, k) refl
 to_again take is_last n m s (l ∷ front) t rest good last e = rw (good.0, good.1, good.3) (to_again take is_last (n + 1) m good.2 front t rest good.4 last (omega arith))
 
-pub to_fault : {S : Type 0} (take : S → List ℕ → Result S Cause) (is_last : S → Bool) (n : ℕ) (s : S) (lines : Lines) (refused : Refused) → run_to take is_last n s lines ≡ Err refused → FirstFault take is_last n s lines refused
+pub to_fault : {S : Type 0} (take : S → List ℕ → Result S Cause) (is_last : S → Bool) (n : ℕ) (s : S) (lines : Lines) (refused : Refused) → run_to take is_last n s lines ≡ Err refused → StopsAt take is_last n s lines refused
 to_fault take is_last n s lines refused e = run_fault take is_last n s lines refused (run_is take is_last n s lines ∙ rw e refl)
 
 -- ---- the loop
@@ -73,3 +74,33 @@ pub to_end : {S : Type 0} (take : S → List ℕ → Result S Cause) (is_last : 
 unfolding run_to
 to_end take is_last n s (torn bytes) all last h = sym h ∙ rw last refl
 to_end take is_last n s (line l rest) all last h = sym h ∙ rw last refl
+
+-- ---- the first fault, by the checks
+
+stop_checks : {S : Type 0} (take : S → List ℕ → Result S Cause) (checks : S → List ℕ → List (Bool × Cause)) (is_last : S → Bool) (s : S) (lines : Lines)
+    → ((l : List ℕ) → fault_of (take s l) ≡ first_failing (checks s l)) → stop_at take is_last s lines ≡ first_failing (line_checks checks is_last s lines)
+stop_checks take checks is_last s (torn []) same = elim (is_last s) as (λ b. cond b None (Some End) ≡ cond b None (Some End)) [ true ↦ refl | false ↦ refl ]
+stop_checks take checks is_last s (torn (b ∷ bytes)) same =
+    elim (is_last s) as (λ t. cond t (Some End) (Some (cond (is_long (b ∷ bytes)) Long End)) ≡ cond (not t) (cond (not (is_long (b ∷ bytes))) (Some End) (Some Long)) (Some End)) [
+      | true ↦ refl
+      | false ↦ elim (is_long (b ∷ bytes)) as (λ t. Some (cond t Long End) ≡ cond (not t) (Some End) (Some Long)) [ true ↦ refl | false ↦ refl ]
+    ]
+stop_checks take checks is_last s (line l rest) same =
+    elim (is_last s) as (λ t. cond t (Some End) (cond (is_long l) (Some Long) (fault_of (take s l))) ≡ cond (not t) (cond (not (is_long l)) (first_failing (checks s l)) (Some Long)) (Some End)) [
+      | true ↦ refl
+      | false ↦ elim (is_long l) as (λ t. cond t (Some Long) (fault_of (take s l)) ≡ cond (not t) (first_failing (checks s l)) (Some Long)) [ true ↦ refl | false ↦ same l ]
+    ]
+
+-- The fault of the line at which reading stops is its first failing check.
+pub first_checked : {S : Type 0} (take : S → List ℕ → Result S Cause) (checks : S → List ℕ → List (Bool × Cause)) (is_last : S → Bool) (Is : S → Type 0)
+    → ((s : S) (l : List ℕ) → Is s → fault_of (take s l) ≡ first_failing (checks s l)) → (n : ℕ) (s : S) (lines : Lines) (refused : Refused)
+    → ((front : List (List ℕ)) (t : S) → Follows take is_last s front t → Is t) → StopsAt take is_last n s lines refused → FirstFault take checks is_last n s lines refused
+first_checked take checks is_last Is same n s lines refused keeps h = record {
+  front = h.front;
+  met = h.met;
+  rest = h.rest;
+  whole = h.whole;
+  good = h.good;
+  number = h.number;
+  cause = sym (stop_checks take checks is_last h.met h.rest (λ l. same h.met l (keeps h.front h.met h.good))) ∙ h.cause;
+}

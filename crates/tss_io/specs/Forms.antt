@@ -1,5 +1,5 @@
 -- Fields and forms of lines, as data, and how words are read by them.
-use Rattle.std.specs.Prelude.{Bool, Err, List, None, Ok, Option, Result, Some, [], bytes_eq, decimal, false, if◌then◌else◌, length, map, nat_le, nat_lt, not, true, ℕ, ◌&&◌, ◌++◌, ◌+◌, ◌<◌, ◌==◌, ◌∷◌, ◌≤◌}
+use Rattle.std.specs.Prelude.{Bool, Err, List, None, Ok, Option, Result, Some, [], bytes_eq, decimal, false, if◌then◌else◌, length, map, nat_le, nat_lt, not, true, ℕ, ◌&&◌, ◌++◌, ◌<◌, ◌==◌, ◌∷◌, ◌≤◌}
 use Rattle.std.specs.List.{list_all, AllByRecursion}
 use Rattle.tss_io.specs.declared.cause.Cause.{Cause}
 use Rattle.tss_io.specs.declared.cause.Cause.TheVariants.{Shape, Number}
@@ -97,6 +97,14 @@ pushed_number so_far least most word = number_in least most word >>= λ n. Ok (s
 -- one number or more, each in a range
 abbrev pub numbers : ℕ → ℕ → Form (List (List ℕ)) (List ℕ)
 numbers least most = record { see = each_word; value = numbers_in least most; words = map decimal }
+
+-- as many words as this, each of which is one
+unfoldable pub so_many_words : ℕ → List (List ℕ) → Result (List (List ℕ)) Cause
+so_many_words count words = if length words == count then each_word words else Err Shape
+
+-- as many numbers as this, each in a range
+abbrev pub numbers_of : ℕ → ℕ → ℕ → Form (List (List ℕ)) (List ℕ)
+numbers_of count least most = record { see = so_many_words count; value = numbers_in least most; words = map decimal }
 
 -- a number from least to most
 abbrev pub InRange : ℕ → ℕ → ℕ → Type 0

@@ -1,9 +1,9 @@
 -- Kinds of lines, as data: how a line is read, and every check of a line in its order.
-use Rattle.std.specs.Prelude.{Bool, Err, List, None, Ok, Option, Result, Some, [], bytes_eq, false, if◌then◌else◌, length, nat_lt, true, ℕ, ◌&&◌, ◌++◌, ◌+◌, ◌∷◌, ◌≡◌}
+use Rattle.std.specs.Prelude.{Bool, Err, List, None, Ok, Option, Result, Some, [], bytes_eq, false, if◌then◌else◌, length, nat_lt, true, ℕ, ◌&&◌, ◌++◌, ◌∷◌, ◌≡◌}
 use Rattle.std.specs.List.{AllByRecursion}
 use Rattle.tss_io.specs.declared.cause.Cause.{Cause}
 use Rattle.tss_io.specs.declared.cause.Cause.TheVariants.{Shape, Number, Many, End, Long}
-use Rattle.tss_io.specs.Forms.{front_at, Form, ◌&◌}
+use Rattle.tss_io.specs.Forms.{front_at, Form}
 use Rattle.tss_io.specs.Lines.{Lines, torn, line, words_of}
 use Rattle.tss_io.specs.Results.{◌>>=◌}
 

@@ -9,4 +9,5 @@ pub mod Reading
 pub mod Results
 pub mod Runs
 pub mod Streams
+pub mod Walks
 pub mod Words

@@ -6,7 +6,6 @@ use Rattle.tss_io.specs.declared.fault.LineFault.{LineFault}
 use Rattle.tss_io.specs.declared.fault.LineFault.TheVariants as line_faults
 use Rattle.tss_io.specs.declared.fault.TextFault.{TextFault}
 use Rattle.tss_io.specs.declared.fault.TextFault.TheVariants as text_faults
-use Rattle.tss_io.specs.Lines.{line}
 
 -- what a function returned, seen by view, is what reading gives
 abbrev pub Answers : {X Y E : Type 0} → (X → Y) → Result X E → Result Y E → Type 0

@@ -1,11 +1,10 @@
 -- Line after line, and the first fault of a text.
-use Rattle.std.specs.Prelude.{Bool, Err, List, None, Ok, Option, Result, Some, [], false, if◌then◌else◌, length, true, ℕ, ◌+◌, ◌∷◌, ◌≡◌}
+use Rattle.std.specs.Prelude.{Bool, Err, List, None, Ok, Option, Result, Some, [], false, not, if◌then◌else◌, length, true, ℕ, ◌+◌, ◌∷◌, ◌≡◌}
 use Rattle.tss_io.specs.declared.cause.Cause.{Cause}
 use Rattle.tss_io.specs.declared.cause.Cause.TheVariants.{End, Long}
 use Rattle.tss_io.specs.declared.fault.Refused.{Refused}
 use Rattle.tss_io.specs.Reading.{refused_at}
-use Rattle.tss_io.specs.Forms.{number}
-use Rattle.tss_io.specs.Kinds.{fault_of, is_long, line_at}
+use Rattle.tss_io.specs.Kinds.{first_failing, fault_of, is_long, line_at}
 use Rattle.tss_io.specs.Lines.{Lines, torn, line}
 use Rattle.tss_io.specs.Results.{◌>>=◌}
 
@@ -54,8 +53,8 @@ stop_at take is_last s (line l rest) =
     else (if is_long l then Some Long
     else fault_of (take s l))
 
--- A refusal names the first line with a fault, and that line's fault.
-pub record FirstFault {S : Type 0} (take : S → List ℕ → Result S Cause) (is_last : S → Bool) (n : ℕ) (s : S) (lines : Lines) (refused : Refused) : Type 0 where
+-- where line after line stops: behind these good lines, at a line with this fault
+pub record StopsAt {S : Type 0} (take : S → List ℕ → Result S Cause) (is_last : S → Bool) (n : ℕ) (s : S) (lines : Lines) (refused : Refused) : Type 0 where
   pub front : List (List ℕ)
   pub met : S
   pub rest : Lines
@@ -93,3 +92,20 @@ pub record RanTo {S : Type 0} (take : S → List ℕ → Result S Cause) (is_las
   pub good : Follows take is_last s front x.state
   pub last : is_last x.state ≡ true
   pub number : x.next ≡ n + length front
+
+-- Every check of the line that comes after s, in its order: that it is there, that it isn't too long, that a newline closes it, and
+-- those of its kind.
+abbrev pub line_checks : {S : Type 0} → (S → List ℕ → List (Bool × Cause)) → (S → Bool) → S → Lines → List (Bool × Cause)
+line_checks checks is_last s (torn []) = (is_last s, End) ∷ []
+line_checks checks is_last s (torn (b ∷ bytes)) = (not (is_last s), End) ∷ (not (is_long (b ∷ bytes)), Long) ∷ (false, End) ∷ []
+line_checks checks is_last s (line l rest) = (not (is_last s), End) ∷ (not (is_long l), Long) ∷ checks s l
+
+-- A refusal names the first line that is wrong behind the good lines before it, and that line's first failing check.
+pub record FirstFault {S : Type 0} (take : S → List ℕ → Result S Cause) (checks : S → List ℕ → List (Bool × Cause)) (is_last : S → Bool) (n : ℕ) (s : S) (lines : Lines) (refused : Refused) : Type 0 where
+  pub front : List (List ℕ)
+  pub met : S
+  pub rest : Lines
+  pub whole : lines ≡ ahead front rest
+  pub good : Follows take is_last s front met
+  pub number : refused.line ≡ n + length front
+  pub cause : first_failing (line_checks checks is_last met rest) ≡ Some refused.cause

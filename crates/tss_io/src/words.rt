@@ -4,7 +4,7 @@ ghost use Rattle.std.specs.Prelude.{◌≡◌, ◌≤◌, ◌<◌, length, ◌==
 ghost use Rattle.std.specs.List.{list_all};
 ghost use Rattle.tss_io.specs.Lines.{cut_at, lines_of, words_of};
 ghost use Rattle.tss_io.specs.Reading.{Answers, GivesLine};
-ghost use Rattle.tss_io.specs.Forms.{numbers_in, pushed_number, each_word, is_word_byte, is_word, front_at, last_at, number_in};
+ghost use Rattle.tss_io.specs.Forms.{so_many_words, numbers_in, pushed_number, each_word, is_word_byte, is_word, front_at, last_at, number_in};
 ghost use Rattle.tss_io.specs.Kinds.{line_at, keyword_line_at};
 
 use crate::cause::Cause;
@@ -191,4 +191,15 @@ pub fn numbers(alloc: Global, least: u32, most: u32, words: &[u8]) -> Result<Seq
     }
     push_number(&mut numbers, least, most, rest)?;
     Ok(numbers)
+}
+
+/// That there are as many words as wanted, and each of them is one.
+#[tactic(auto, unfolding(crate::specs::Forms::so_many_words))]
+pub fn so_many_words(wanted: usize, words: &[u8]) -> Result<(), Cause>
+    ensures { Answers (λ _. words_of words.now) result (so_many_words wanted (words_of words.now)) }
+{
+    if count(words) != wanted {
+        return Err(Cause::Shape);
+    }
+    each_word(words)
 }
