@@ -4,3 +4,4 @@ pub mod Run
 pub mod Ordered
 pub mod Count
 pub mod Events
+pub mod CommandList

@@ -15,17 +15,17 @@ use Rattle.sync_model.proofs.Arrivals.{arrival-repairs}
 
 pub arrival-said :
     {W : Type 0} (s : MirrorState W) (x : Command) → IsStaggered s
-    → said s (Arrive x) ≡ ToArrive (cond (is_repeat s x) Repeat (cond (is_late s x) (Late (last_clock s)) (Taken (repaired_by_arrival s x))))
+    → said s (Arrive x) ≡ ToArrive (cond (is_repeat s x) Repeat (cond (is_late s x) (Late (last_clock s.runs)) (Taken (repaired_by_arrival x s.runs))))
 arrival-said s x here =
-    arrive-cases s x (λ t r. r ≡ ToArrive (cond (is_repeat s x) Repeat (cond (is_late s x) (Late (last_clock s)) (Taken (repaired_by_arrival s x)))))
+    arrive-cases s x (λ t r. r ≡ ToArrive (cond (is_repeat s x) Repeat (cond (is_late s x) (Late (last_clock s.runs)) (Taken (repaired_by_arrival x s.runs)))))
     (λ e. rw e refl)
     (λ e l. rw (e, l) refl)
     (λ e l. rw (e, l) (ap (λ (n : ℕ). ToArrive (Taken n)) (arrival-repairs s x here e).0))
 
 pub step-said :
     {W : Type 0} (s : MirrorState W) (c : ℕ) → IsStaggered s → c < length s.runs
-    → said s (Step c) ≡ ToStep (cond (is_idle s c) Idle (Ran (repaired_by_step s c)))
+    → said s (Step c) ≡ ToStep (cond (is_idle s c) Idle (Ran (repaired_by_step s.accepted s.runs c)))
 step-said s c here there =
-    step-cases s c (λ t r. r ≡ ToStep (cond (is_idle s c) Idle (Ran (repaired_by_step s c))))
+    step-cases s c (λ t r. r ≡ ToStep (cond (is_idle s c) Idle (Ran (repaired_by_step s.accepted s.runs c))))
     (λ e. rw e refl)
     (λ e. rw e (ap (λ (n : ℕ). ToStep (Ran n)) (step-repairs s c here e there).0))

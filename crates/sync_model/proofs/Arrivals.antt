@@ -13,7 +13,8 @@ use Rattle.game_trait.proofs.Items.{same_command-Decides}
 use Rattle.game_trait.proofs.Runs.{commands_of-append}
 use Rattle.game_trait.proofs.Counts.{times-append}
 use Rattle.game_trait.proofs.KeyOrder.{all-weaker}
-use Rattle.sync_model.specs.State.{MirrorState, last_of}
+use Rattle.sync_model.specs.Lists.{last_of}
+use Rattle.sync_model.specs.State.{MirrorState}
 use Rattle.sync_model.specs.Settle.{begins_with, settle_one, settle, is_repaired, which_repaired, repaired}
 use Rattle.sync_model.specs.Change.{is_repeat, with_late, proposed_by_arrival}
 use Rattle.sync_model.specs.Staggered.{IsAhead, IsChained, IsComplete, IsStaggered}
@@ -287,18 +288,18 @@ further-first n (run ∷ behind) h =
 -- what an arrival repairs
 pub arrival-repairs :
     {W : Type 0} (s : MirrorState W) (x : Command) → IsStaggered s → is_repeat s x ≡ false
-    → (repaired (s.accepted ++ x ∷ []) (proposed_by_arrival s x) ≡ repaired_by_arrival s x) × AreFirst (which_repaired (s.accepted ++ x ∷ []) (proposed_by_arrival s x))
+    → (repaired (s.accepted ++ x ∷ []) (proposed_by_arrival x s.runs) ≡ repaired_by_arrival x s.runs) × AreFirst (which_repaired (s.accepted ++ x ∷ []) (proposed_by_arrival x s.runs))
 arrival-repairs s x here new =
     let all = s.accepted ++ x ∷ [] in
-    let which = which_repaired (s.accepted ++ x ∷ []) (proposed_by_arrival s x) in
-    elim (list_any (is_late_at x) s.runs) as (λ v. list_any (is_late_at x) s.runs ≡ v → (repaired (s.accepted ++ x ∷ []) (proposed_by_arrival s x) ≡ cond v (times (λ run. ltb (last_late_clock x s.runs) (beats run)) s.runs) 0) × AreFirst (which_repaired (s.accepted ++ x ∷ []) (proposed_by_arrival s x))) [
+    let which = which_repaired (s.accepted ++ x ∷ []) (proposed_by_arrival x s.runs) in
+    elim (list_any (is_late_at x) s.runs) as (λ v. list_any (is_late_at x) s.runs ≡ v → (repaired (s.accepted ++ x ∷ []) (proposed_by_arrival x s.runs) ≡ cond v (times (λ run. ltb (last_late_clock x s.runs) (beats run)) s.runs) 0) × AreFirst (which_repaired (s.accepted ++ x ∷ []) (proposed_by_arrival x s.runs))) [
       | true ↦ λ late.
-          let marks = arrival-marks s.accepted x s.runs new here.chained here.complete late in
-          let first = further-first (last_late_clock x s.runs) s.runs here.chained in
+          let marks = arrival-marks s.accepted x s.runs new here.trailing.chained here.trailing.complete late in
+          let first = further-first (last_late_clock x s.runs) s.runs here.trailing.chained in
           (ap (times (λ (b : Bool). b)) marks ∙ count-marks (λ run. ltb (last_late_clock x s.runs) (beats run)) s.runs, marks-first which first.0 first.1 (marks ∙ first.2))
       | false ↦ λ none.
           let same = none-late x s.runs none in
-          let marks = ap (which_repaired all) same ∙ chained-unrepaired all s.runs here.chained in
+          let marks = ap (which_repaired all) same ∙ chained-unrepaired all s.runs here.trailing.chained in
           (ap (times (λ (b : Bool). b)) marks ∙ no-marks s.runs, marks-first which 0 (length s.runs) (marks ∙ none-marked s.runs))
     ]
     refl

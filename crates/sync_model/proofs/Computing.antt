@@ -4,7 +4,8 @@ use Rattle.game_trait.specs.Run.{beats, same_item, same_command, commands_of}
 use Rattle.game_trait.specs.Keys.{same_name, key_lt, in_key_order, placed}
 use Rattle.game_trait.specs.Count.{times}
 use Rattle.game_trait.specs.Ordered.{ticks}
-use Rattle.sync_model.specs.State.{last_of, step_limit}
+use Rattle.sync_model.specs.Lists.{last_of}
+use Rattle.sync_model.specs.State.{step_limit}
 use Rattle.sync_model.specs.Settle.{settle, settle_one, which_repaired, is_repaired}
 use Rattle.sync_model.specs.Change.{next, said, after, answers, with_late, with_tick}
 use Rattle.sync_model.specs.Turns.{steps_from, turns_of, drain_within}

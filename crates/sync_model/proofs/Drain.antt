@@ -15,7 +15,9 @@ use Rattle.game_trait.proofs.Runs.{beats-append, commands_of-append}
 use Rattle.game_trait.proofs.Counts.{times-append}
 use Rattle.game_trait.proofs.KeyOrder.{all-weaker}
 use Rattle.std.specs.Prelude.{◌==◌}
-use Rattle.sync_model.specs.State.{MirrorState, last_of, longest_delay, copy_clock, step_limit}
+use Rattle.sync_model.specs.Lists.{last_of}
+use Rattle.sync_model.specs.Schedule.{longest_delay}
+use Rattle.sync_model.specs.State.{MirrorState, copy_clock, step_limit, delays_of}
 use Rattle.sync_model.specs.Change.{next, is_idle, after}
 use Rattle.sync_model.specs.Staggered.{IsAhead, IsChained, IsComplete, IsBehindClock, IsStaggered, DelaysRise}
 use Rattle.sync_model.specs.Turns.{steps_from, turn_events, turns_of, turn, IsDrained, is_drained, drain_within, drain_bound, drain}
@@ -80,7 +82,7 @@ all-ordered accepted n (run ∷ behind) chained complete clocks last =
 pub drained-ordered :
     {W : Type 0} (s : MirrorState W) → IsStaggered s → IsDrained s
     → AllByRecursion (λ run. run ≡ ordered s.accepted 0 s.length) s.runs
-drained-ordered s here drained = all-ordered s.accepted s.length s.runs here.chained here.complete drained here.last_ordered
+drained-ordered s here drained = all-ordered s.accepted s.length s.runs here.trailing.chained here.trailing.complete drained here.trailing.last_ordered
 
 -- no delay is longer than the last
 last-above : (n d : ℕ) (ds : List ℕ) → n ≤ d → AllByRecursion (λ e. n < e) ds → n ≤ last_of d ds
@@ -117,16 +119,16 @@ at_end-step l ds n s c h =
 -- an idle copy is at the match's end or level with the copy ahead
 idle-done :
     {W : Type 0} (l : ℕ) (ds : List ℕ) (n : ℕ) (s : MirrorState W) (c j : ℕ) → AtEnd l ds n s → DelaysRise ds → is_idle s c ≡ true
-    → ((i : ℕ) → i < c → l ≤ copy_clock s i + j) → l ≤ copy_clock s c + j
+    → ((i : ℕ) → i < c → l ≤ copy_clock s.runs i + j) → l ≤ copy_clock s.runs c + j
 unfolding step_limit
 idle-done l ds n s zero j h rise idle ahead =
-    let k = leb-true (step_limit s zero) (copy_clock s zero) idle in
+    let k = leb-true (step_limit s zero) (copy_clock s.runs zero) idle in
     let d : get_or s.delays zero 0 ≤ last_of 0 ds = subst (λ (es : List ℕ). get_or es zero 0 ≤ last_of 0 ds) (sym h.delays_are) (delay-longest ds zero rise) in
     let t = h.clock in
     let e = h.length_is in
     omega arith
 idle-done l ds n s (suc c) j h rise idle ahead =
-    let k = leb-true (step_limit s (suc c)) (copy_clock s (suc c)) idle in
+    let k = leb-true (step_limit s (suc c)) (copy_clock s.runs (suc c)) idle in
     let d : get_or s.delays (suc c) 0 ≤ last_of 0 ds = subst (λ (es : List ℕ). get_or es (suc c) 0 ≤ last_of 0 ds) (sym h.delays_are) (delay-longest ds (suc c) rise) in
     let t = h.clock in
     let e = h.length_is in
@@ -136,33 +138,33 @@ idle-done l ds n s (suc c) j h rise idle ahead =
 -- after its step at the end a copy is one tick nearer to the match's end
 step-nearer :
     {W : Type 0} (l : ℕ) (ds : List ℕ) (n : ℕ) (s : MirrorState W) (c j : ℕ) → AtEnd l ds n s → DelaysRise ds → c < n
-    → ((i : ℕ) → i < c → l ≤ copy_clock s i + j) → l ≤ copy_clock s c + suc j → l ≤ copy_clock (next s (Step c)) c + j
+    → ((i : ℕ) → i < c → l ≤ copy_clock s.runs i + j) → l ≤ copy_clock s.runs c + suc j → l ≤ copy_clock (next s (Step c)).runs c + j
 step-nearer l ds n s c j h rise there ahead here =
-    step-cases s c (λ t r. l ≤ copy_clock t c + j)
+    step-cases s c (λ t r. l ≤ copy_clock t.runs c + j)
     (λ e. idle-done l ds n s c j h rise e ahead)
     (λ e. (let k = ran-moves s c h.staggered e (let m = h.copies_are in omega arith) in omega arith))
 
 -- the steps of a turn at the end bring each copy one tick nearer
 steps-nearer :
     {W : Type 0} (l : ℕ) (ds : List ℕ) (n j k c : ℕ) (s : MirrorState W) → AtEnd l ds n s → DelaysRise ds → c + k ≡ n
-    → ((i : ℕ) → i < c → l ≤ copy_clock s i + j) → ((i : ℕ) → i < n → l ≤ copy_clock s i + suc j)
-    → (i : ℕ) → i < n → l ≤ copy_clock (after s (steps_from c k)) i + j
+    → ((i : ℕ) → i < c → l ≤ copy_clock s.runs i + j) → ((i : ℕ) → i < n → l ≤ copy_clock s.runs i + suc j)
+    → (i : ℕ) → i < n → l ≤ copy_clock (after s (steps_from c k)).runs i + j
 unfolding after steps_from
 steps-nearer l ds n j zero c s h rise all near far i there = near i (omega arith)
 steps-nearer l ds n j (suc k) c s h rise all near far i there =
     steps-nearer l ds n j k (c + 1) (next s (Step c)) (at_end-step l ds n s c h) rise (omega arith)
     (λ i below.
     ⊎_elim
-    (λ (e : i ≡ c). subst (λ (m : ℕ). l ≤ copy_clock (next s (Step c)) m + j) (sym e) (step-nearer l ds n s c j h rise (omega arith) near (far c (omega arith))))
+    (λ (e : i ≡ c). subst (λ (m : ℕ). l ≤ copy_clock (next s (Step c)).runs m + j) (sym e) (step-nearer l ds n s c j h rise (omega arith) near (far c (omega arith))))
     (λ (e : i ≡ c → ⊥). (let a = near i (grind arith) in let b = clocks-never_fall s (Step c) i h.staggered in omega arith))
     (cases_eq i c))
     (λ i below. (let a = far i below in let b = clocks-never_fall s (Step c) i h.staggered in omega arith))
     i there
 
 -- no turn turns a copy's clock back
-turn-never_falls : {W : Type 0} (s : MirrorState W) (i : ℕ) → IsStaggered s → copy_clock s i ≤ copy_clock (turn s) i
+turn-never_falls : {W : Type 0} (s : MirrorState W) (i : ℕ) → IsStaggered s → copy_clock s.runs i ≤ copy_clock (turn s).runs i
 turn-never_falls s i here =
-    (turn-keeps (λ t. record { staggered : IsStaggered t; up : copy_clock s i ≤ copy_clock t i })
+    (turn-keeps (λ t. record { staggered : IsStaggered t; up : copy_clock s.runs i ≤ copy_clock t.runs i })
     (λ t h. record { staggered = staggered-tick t h.staggered; up = (let a = h.up in let b = clocks-never_fall t Tick i h.staggered in omega arith) })
     (λ t c h. record { staggered = staggered-step t c h.staggered; up = (let a = h.up in let b = clocks-never_fall t (Step c) i h.staggered in omega arith) })
     s (record { staggered = here; up = omega arith })).up
@@ -174,7 +176,7 @@ record IsNear {W : Type 0} (l : ℕ) (ds : List ℕ) (n m j : ℕ) (s : MirrorSt
   pub copies_are : copies_of s ≡ n
   pub clock : l + last_of 0 ds ≤ s.clock + m
   pub staggered : IsStaggered s
-  pub near : (i : ℕ) → i < n → l ≤ copy_clock s i + j
+  pub near : (i : ℕ) → i < n → l ≤ copy_clock s.runs i + j
 
 pub staggered-turn : {W : Type 0} (s : MirrorState W) → IsStaggered s → IsStaggered (turn s)
 staggered-turn s here = turn-keeps IsStaggered (λ t h. staggered-tick t h) (λ t c h. staggered-step t c h) s here
@@ -199,7 +201,7 @@ turn-ticks l ds n m j s h =
 
 nearer :
     {W : Type 0} (l : ℕ) (ds : List ℕ) (n j : ℕ) (s : MirrorState W) → DelaysRise ds → IsNear l ds n 0 (suc j) s
-    → (i : ℕ) → i < n → l ≤ copy_clock (turn s) i + j
+    → (i : ℕ) → i < n → l ≤ copy_clock (turn s).runs i + j
 unfolding after
 nearer l ds n j s rise h =
     let same = next-fixed s Tick in
@@ -276,7 +278,7 @@ drain_within-ends l ds n rise (suc k) (suc m) j s sum h =
 
 pub drain-ends : {W : Type 0} (s : MirrorState W) → DelaysRise s.delays → IsStaggered s → IsDrained (drain s)
 drain-ends s rise here =
-    drain_within-ends s.length s.delays (copies_of s) rise (drain_bound s) (s.length + longest_delay s - s.clock) s.length s refl
+    drain_within-ends s.length s.delays (copies_of s) rise (drain_bound s) (s.length + longest_delay (delays_of s) - s.clock) s.length s refl
     (record { length_is = refl; delays_are = refl; copies_are = refl; clock = omega arith; staggered = here; near = λ i there. omega arith })
 
 -- what ticks and steps keep, draining keeps

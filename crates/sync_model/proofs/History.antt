@@ -97,12 +97,12 @@ spare-next s (Step c) = step-cases s c (λ t r. t.spare ≡ s.spare - cond (is_a
 -- Late exactly where a new command is older than the last copy's clock
 pub late-exactly :
     {W : Type 0} (s : MirrorState W) (x : Command) (bound : ℕ)
-    → (said s (Arrive x) ≡ ToArrive (Late bound)) ↔ ((is_repeat s x ≡ false) × (x.time < last_clock s) × (bound ≡ last_clock s))
+    → (said s (Arrive x) ≡ ToArrive (Late bound)) ↔ ((is_repeat s x ≡ false) × (x.time < last_clock s.runs) × (bound ≡ last_clock s.runs))
 late-exactly s x bound =
-    arrive-cases s x (λ t r. (r ≡ ToArrive (Late bound)) ↔ ((is_repeat s x ≡ false) × (x.time < last_clock s) × (bound ≡ last_clock s)))
+    arrive-cases s x (λ t r. (r ≡ ToArrive (Late bound)) ↔ ((is_repeat s x ≡ false) × (x.time < last_clock s.runs) × (bound ≡ last_clock s.runs)))
     (λ e. (λ h. absurd cc, λ h. absurd (both_ways (is_repeat s x) h.0 e)))
-    (λ e l. (λ h. (e, ltb-true x.time (last_clock s) l, cc), λ h. ap (λ (n : ℕ). ToArrive (Late n)) (sym h.2)))
-    (λ e l. (λ h. absurd cc, λ h. absurd (let k = ltb-false x.time (last_clock s) l in let m = h.1 in omega arith)))
+    (λ e l. (λ h. (e, ltb-true x.time (last_clock s.runs) l, cc), λ h. ap (λ (n : ℕ). ToArrive (Late n)) (sym h.2)))
+    (λ e l. (λ h. absurd cc, λ h. absurd (let k = ltb-false x.time (last_clock s.runs) l in let m = h.1 in omega arith)))
 
 -- a state from its history
 same-opening : {W : Type 0} (s t : MirrorState W) → t.opening ≡ s.opening → t.length ≡ s.length → t.delays ≡ s.delays → t.spare + times is_arrival t.history ≡ s.spare + times is_arrival s.history → opening_of t ≡ opening_of s

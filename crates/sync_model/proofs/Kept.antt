@@ -11,7 +11,9 @@ use Rattle.game_trait.specs.declared.event.Arrived.TheVariants.{Taken, Repeat, L
 use Rattle.game_trait.specs.declared.event.Stepped.TheVariants.{Ran, Idle}
 use Rattle.game_trait.specs.Run.{beats}
 use Rattle.sync_model.specs.declared.turned.Turned.{Turned}
-use Rattle.sync_model.specs.State.{MirrorState, opening_state, last_of, longest_delay, last_clock, step_limit}
+use Rattle.sync_model.specs.Lists.{last_of}
+use Rattle.sync_model.specs.Schedule.{longest_delay}
+use Rattle.sync_model.specs.State.{MirrorState, opening_state, last_clock, step_limit, delays_of}
 use Rattle.sync_model.specs.Change.{next, said, is_over, is_repeat, is_late, is_idle, with_late, with_tick, proposed_by_arrival, proposed_by_step, Fits}
 use Rattle.sync_model.specs.Settle.{settle, repaired}
 use Rattle.sync_model.specs.Staggered.{IsWellFormed, IsBehindClock}
@@ -37,7 +39,7 @@ unfolding last_of
 last-all P d [] here h = here
 last-all P d (x ∷ xs) here h = last-all P x xs h.0 h.1
 
-pub longest_small : {W : Type 0} (s : MirrorState W) → IsWellFormed s → longest_delay s ≤ 1024
+pub longest_small : {W : Type 0} (s : MirrorState W) → IsWellFormed s → longest_delay (delays_of s) ≤ 1024
 longest_small s h = last-all (λ delay. delay ≤ 1024) 0 s.delays (omega arith) h.short_delays
 
 -- the cases of the next state and its answer
@@ -69,7 +71,7 @@ pub next_late : {W : Type 0} (s : MirrorState W) (x : Command) → is_repeat s x
 unfolding next
 next_late s x e l = rw (e, l) refl
 
-pub said_late : {W : Type 0} (s : MirrorState W) (x : Command) → is_repeat s x ≡ false → is_late s x ≡ true → said s (Arrive x) ≡ ToArrive (Late (last_clock s))
+pub said_late : {W : Type 0} (s : MirrorState W) (x : Command) → is_repeat s x ≡ false → is_late s x ≡ true → said s (Arrive x) ≡ ToArrive (Late (last_clock s.runs))
 unfolding said
 said_late s x e l = rw (e, l) refl
 
@@ -116,7 +118,7 @@ last-behind s d [] delays here h = here
 last-behind s d (r ∷ rs) [] here h = absurd h
 last-behind s d (r ∷ rs) (e ∷ es) here h = last-behind s r rs es h.0.0 h.1
 
-pub last_clock_small : {W : Type 0} (s : MirrorState W) → IsSound s → last_clock s ≤ 8192
+pub last_clock_small : {W : Type 0} (s : MirrorState W) → IsSound s → last_clock s.runs ≤ 8192
 unfolding beats
 last_clock_small s here =
     let most = last-behind s [] s.runs s.delays (omega arith) here.staggered.clocks.copies in
@@ -151,11 +153,11 @@ last_from xs d x n e some here = last_at xs d x some (here ∙ ap (λ (k : ℕ).
 pub away_view :
     {W : Type 0} (s v : MirrorState W) (x : Command) (turned : List Turned) (history : List Event) (spare : ℕ)
     → s ≡ v → is_repeat v x ≡ false → is_late v x ≡ true
-    → turned ≡ s.turned ++ record { from = x.from; number = x.number; bound = last_clock v } ∷ []
+    → turned ≡ s.turned ++ record { from = x.from; number = x.number; bound = last_clock v.runs } ∷ []
     → history ≡ s.history ++ Arrive x ∷ [] → spare ≡ s.spare - 1
     → record s { turned = turned; history = history; spare = spare } ≡ next v (Arrive x)
 away_view {W} s v x turned history spare view e l t h n =
-    same_state (away s x) (record s { turned = turned; history = history; spare = spare }) refl refl refl refl refl (t ∙ ap (λ (u : MirrorState W). s.turned ++ record { from = x.from; number = x.number; bound = last_clock u } ∷ []) (sym view)) refl h n
+    same_state (away s x) (record s { turned = turned; history = history; spare = spare }) refl refl refl refl refl (t ∙ ap (λ (u : MirrorState W). s.turned ++ record { from = x.from; number = x.number; bound = last_clock u.runs } ∷ []) (sym view)) refl h n
     ∙ ap (λ (u : MirrorState W). away u x) view ∙ sym (next_late v x e l)
 
 pub taken_view :
@@ -172,9 +174,9 @@ taken_view {W} s v x accepted proposed runs history spare view e l a p r h n =
 pub taken_count :
     {W : Type 0} (s v : MirrorState W) (x : Command) (accepted : List Command) (proposed : List (List Item)) (n : ℕ)
     → s ≡ v → accepted ≡ s.accepted ++ x ∷ [] → proposed ≡ map (with_late x) s.runs → n ≡ repaired accepted proposed
-    → n ≡ repaired (v.accepted ++ x ∷ []) (proposed_by_arrival v x)
+    → n ≡ repaired (v.accepted ++ x ∷ []) (proposed_by_arrival x v.runs)
 taken_count {W} s v x accepted proposed n view a p k =
-    k ∙ ap (λ (all : List Command). repaired all proposed) a ∙ ap (repaired (s.accepted ++ x ∷ [])) p ∙ ap (λ (u : MirrorState W). repaired (u.accepted ++ x ∷ []) (proposed_by_arrival u x)) view
+    k ∙ ap (λ (all : List Command). repaired all proposed) a ∙ ap (repaired (s.accepted ++ x ∷ [])) p ∙ ap (λ (u : MirrorState W). repaired (u.accepted ++ x ∷ []) (proposed_by_arrival x u.runs)) view
 
 pub ran_view :
     {W : Type 0} (s v : MirrorState W) (c : ℕ) (proposed runs : List (List Item)) (history : List Event)
@@ -188,9 +190,9 @@ ran_view {W} s v c proposed runs history view e p r h =
 pub ran_count :
     {W : Type 0} (s v : MirrorState W) (c : ℕ) (proposed : List (List Item)) (n : ℕ)
     → s ≡ v → proposed ≡ set s.runs c (with_tick s.accepted (get_or s.runs c [])) → n ≡ repaired s.accepted proposed
-    → n ≡ repaired v.accepted (proposed_by_step v c)
+    → n ≡ repaired v.accepted (proposed_by_step v.accepted v.runs c)
 ran_count {W} s v c proposed n view p k =
-    k ∙ ap (repaired s.accepted) p ∙ ap (λ (u : MirrorState W). repaired u.accepted (proposed_by_step u c)) view
+    k ∙ ap (repaired s.accepted) p ∙ ap (λ (u : MirrorState W). repaired u.accepted (proposed_by_step u.accepted u.runs c)) view
 
 -- there are at most 8 runs
 pub few_runs : {W : Type 0} (xs : List (Vec Item Global)) (s : MirrorState W) → IsWellFormed s → s.runs ≡ runs_of xs → length xs ≤ 8
@@ -233,13 +235,13 @@ last_run_at xs q n e some here =
     get_or-any (x ∷ xs) zero d e below = refl
     get_or-any (x ∷ xs) (suc i) d e below = get_or-any xs i d e (omega arith)
 
-pub late_answer : {W : Type 0} (v : MirrorState W) (x : Command) (bound : ℕ) → is_repeat v x ≡ false → is_late v x ≡ true → bound ≡ last_clock v → ToArrive (Late bound) ≡ said v (Arrive x)
+pub late_answer : {W : Type 0} (v : MirrorState W) (x : Command) (bound : ℕ) → is_repeat v x ≡ false → is_late v x ≡ true → bound ≡ last_clock v.runs → ToArrive (Late bound) ≡ said v (Arrive x)
 late_answer v x bound e l b = ap (λ (n : ℕ). ToArrive (Late n)) b ∙ sym (said_late v x e l)
 
-pub taken_answer : {W : Type 0} (v : MirrorState W) (x : Command) (n : ℕ) → is_repeat v x ≡ false → is_late v x ≡ false → n ≡ repaired (v.accepted ++ x ∷ []) (proposed_by_arrival v x) → ToArrive (Taken n) ≡ said v (Arrive x)
+pub taken_answer : {W : Type 0} (v : MirrorState W) (x : Command) (n : ℕ) → is_repeat v x ≡ false → is_late v x ≡ false → n ≡ repaired (v.accepted ++ x ∷ []) (proposed_by_arrival x v.runs) → ToArrive (Taken n) ≡ said v (Arrive x)
 taken_answer v x n e l k = ap (λ (m : ℕ). ToArrive (Taken m)) k ∙ sym (said_taken_at v x e l)
 
-pub ran_answer : {W : Type 0} (v : MirrorState W) (c n : ℕ) → is_idle v c ≡ false → n ≡ repaired v.accepted (proposed_by_step v c) → ToStep (Ran n) ≡ said v (Step c)
+pub ran_answer : {W : Type 0} (v : MirrorState W) (c n : ℕ) → is_idle v c ≡ false → n ≡ repaired v.accepted (proposed_by_step v.accepted v.runs c) → ToStep (Ran n) ≡ said v (Step c)
 ran_answer v c n e k = ap (λ (m : ℕ). ToStep (Ran m)) k ∙ sym (said_ran_at v c e)
 
 -- an opening state is sound, and so are fields that make it up

@@ -12,6 +12,4 @@ pub mod Repairs
 pub mod Arrivals
 pub mod Answers
 pub mod Computing
-pub mod Same
-pub mod Loops
 pub mod Kept

@@ -5,7 +5,8 @@ use Rattle.std.proofs.lemmas.Bool.{or_parts}
 use Rattle.std.proofs.lemmas.Bool.Decides.{nat_tests}
 use Rattle.game_trait.specs.declared.command.Command.{Command}
 use Rattle.game_trait.specs.Keys.{same_name, NamesDiffer}
-use Rattle.sync_model.specs.State.{last_of}
+use Rattle.game_trait.proofs.KeyOrder.{same_name-sym}
+use Rattle.sync_model.specs.Lists.{last_of}
 
 pub all-map :
     {X Y : Type 0} (P : X → Type 0) (Q : Y → Type 0) (f : X → Y) → ((x : X) → P x → Q (f x))
@@ -81,10 +82,6 @@ zip-length P (x ∷ xs) [] h = absurd h
 zip-length P (x ∷ xs) (y ∷ ys) h = ap suc (zip-length P xs ys h.1)
 
 -- one command more, of a new name
-same_name-sym : (x y : Command) → same_name x y ≡ false → same_name y x ≡ false
-unfolding same_name
-same_name-sym x y h = grind (arith, nat_tests)
-
 pub names-push : (xs : List Command) (x : Command) → NamesDiffer xs → list_any (same_name x) xs ≡ false → NamesDiffer (xs ++ x ∷ [])
 unfolding NamesDiffer
 names-push [] x differ new = (tt, tt)

@@ -193,23 +193,23 @@ marks-first marks n m e =
 -- what a step repairs
 pub step-repairs :
     {W : Type 0} (s : MirrorState W) (c : ℕ) → IsStaggered s → is_idle s c ≡ false → c < length s.runs
-    → (repaired s.accepted (proposed_by_step s c) ≡ repaired_by_step s c) × AreFirst (which_repaired s.accepted (proposed_by_step s c))
+    → (repaired s.accepted (proposed_by_step s.accepted s.runs c) ≡ repaired_by_step s.accepted s.runs c) × AreFirst (which_repaired s.accepted (proposed_by_step s.accepted s.runs c))
 unfolding repaired_by_step
 step-repairs s zero here e there =
-    let chained = first-chained (with_tick s.accepted (get_or s.runs zero [])) s.runs here.chained (ticked-front s.accepted (get_or s.runs zero [])) in
-    let marks = chained-unrepaired s.accepted (proposed_by_step s zero) chained ∙ none-marked (proposed_by_step s zero) in
-    (ap (times (λ (b : Bool). b)) marks ∙ count-first 0 (length (proposed_by_step s zero)), marks-first (which_repaired s.accepted (proposed_by_step s zero)) 0 (length (proposed_by_step s zero)) marks)
+    let chained = first-chained (with_tick s.accepted (get_or s.runs zero [])) s.runs here.trailing.chained (ticked-front s.accepted (get_or s.runs zero [])) in
+    let marks = chained-unrepaired s.accepted (proposed_by_step s.accepted s.runs zero) chained ∙ none-marked (proposed_by_step s.accepted s.runs zero) in
+    (ap (times (λ (b : Bool). b)) marks ∙ count-first 0 (length (proposed_by_step s.accepted s.runs zero)), marks-first (which_repaired s.accepted (proposed_by_step s.accepted s.runs zero)) 0 (length (proposed_by_step s.accepted s.runs zero)) marks)
 step-repairs s (suc c) here e there =
     let q = with_tick s.accepted (get_or s.runs (suc c) []) in
-    let which = which_repaired s.accepted (proposed_by_step s (suc c)) in
-    elim (begins_with (get_or s.runs c []) (with_tick s.accepted (get_or s.runs (suc c) []))) as (λ v. begins_with (get_or s.runs c []) (with_tick s.accepted (get_or s.runs (suc c) [])) ≡ v → (repaired s.accepted (proposed_by_step s (suc c)) ≡ cond v 0 (suc c)) × AreFirst (which_repaired s.accepted (proposed_by_step s (suc c)))) [
+    let which = which_repaired s.accepted (proposed_by_step s.accepted s.runs (suc c)) in
+    elim (begins_with (get_or s.runs c []) (with_tick s.accepted (get_or s.runs (suc c) []))) as (λ v. begins_with (get_or s.runs c []) (with_tick s.accepted (get_or s.runs (suc c) [])) ≡ v → (repaired s.accepted (proposed_by_step s.accepted s.runs (suc c)) ≡ cond v 0 (suc c)) × AreFirst (which_repaired s.accepted (proposed_by_step s.accepted s.runs (suc c)))) [
       | true ↦ λ front.
-          let chained = set-chained q s.runs c here.chained (ticked-front s.accepted (get_or s.runs (suc c) [])) ((begins_with-Decides (get_or s.runs c []) q).0 front) in
-          let marks = chained-unrepaired s.accepted (proposed_by_step s (suc c)) chained ∙ none-marked (proposed_by_step s (suc c)) in
-          (ap (times (λ (b : Bool). b)) marks ∙ count-first 0 (length (proposed_by_step s (suc c))), marks-first which 0 (length (proposed_by_step s (suc c))) marks)
+          let chained = set-chained q s.runs c here.trailing.chained (ticked-front s.accepted (get_or s.runs (suc c) [])) ((begins_with-Decides (get_or s.runs c []) q).0 front) in
+          let marks = chained-unrepaired s.accepted (proposed_by_step s.accepted s.runs (suc c)) chained ∙ none-marked (proposed_by_step s.accepted s.runs (suc c)) in
+          (ap (times (λ (b : Bool). b)) marks ∙ count-first 0 (length (proposed_by_step s.accepted s.runs (suc c))), marks-first which 0 (length (proposed_by_step s.accepted s.runs (suc c))) marks)
       | false ↦ λ apart.
           let marks =
-          step-marks s.accepted s.runs c here.chained here.complete (below_limit s (suc c) e).0 there apart
+          step-marks s.accepted s.runs c here.trailing.chained here.trailing.complete (below_limit s (suc c) e).0 there apart
           ∙ ap (λ (l : List Bool). replicate (suc c) true ++ l) (none-marked (drop (suc c) s.runs)) in
           (ap (times (λ (b : Bool). b)) marks ∙ count-first (suc c) (length (drop (suc c) s.runs)), marks-first which (suc c) (length (drop (suc c) s.runs)) marks)
     ]

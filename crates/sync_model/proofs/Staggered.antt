@@ -13,7 +13,9 @@ use Rattle.game_trait.specs.Count.{times}
 use Rattle.game_trait.proofs.Runs.{beats-append}
 use Rattle.game_trait.proofs.KeyOrder.{all-weaker}
 use Rattle.game_trait.proofs.OrderedParts.{ordered-more}
-use Rattle.sync_model.specs.State.{MirrorState, opening_state, last_of, longest_delay, last_clock, copy_clock, step_limit}
+use Rattle.sync_model.specs.Lists.{last_of}
+use Rattle.sync_model.specs.Schedule.{longest_delay}
+use Rattle.sync_model.specs.State.{MirrorState, opening_state, last_clock, copy_clock, step_limit, delays_of}
 use Rattle.sync_model.specs.Settle.{settle}
 use Rattle.sync_model.specs.Change.{next, is_over, is_repeat, is_late, is_idle, with_late, with_tick, proposed_by_arrival, proposed_by_step, turned_away, Fits}
 use Rattle.sync_model.specs.Staggered.{IsAhead, IsChained, IsComplete, IsNeverEarly, IsBehindClock, IsStaggered}
@@ -73,13 +75,13 @@ moved :
     → IsStaggered (record s { clock = s.clock + 1; history = s.history ++ Tick ∷ [] })
 moved s here e =
     record {
-      chained = here.chained;
-      complete = here.complete;
-      last_ordered = here.last_ordered;
-      never_early = here.never_early;
+      chained = here.trailing.chained;
+      complete = here.trailing.complete;
+      last_ordered = here.trailing.last_ordered;
+      never_early = here.trailing.never_early;
       clocks = record {
         copies = zip-weaker (IsBehindClock s) (λ run delay. (beats run ≤ s.length) × (beats run ≤ (s.clock + 1) - delay)) (λ run delay h. (h.0, omega arith)) s.runs s.delays here.clocks.copies;
-        mirror = (let apart = eqb-false s.clock (s.length + longest_delay s) e in let most = here.clocks.mirror in grind arith);
+        mirror = (let apart = eqb-false s.clock (s.length + longest_delay (delays_of s)) e in let most = here.clocks.mirror in grind arith);
       };
       commands = record { names = here.commands.names; times = here.commands.times; bounds = here.commands.bounds };
     }
@@ -97,15 +99,15 @@ turned-away :
     → IsStaggered (record s { turned = s.turned ++ turned_away s x ∷ []; history = s.history ++ Arrive x ∷ []; spare = s.spare - 1 })
 turned-away s x here =
     record {
-      chained = here.chained;
-      complete = here.complete;
-      last_ordered = here.last_ordered;
-      never_early = here.never_early;
+      chained = here.trailing.chained;
+      complete = here.trailing.complete;
+      last_ordered = here.trailing.last_ordered;
+      never_early = here.trailing.never_early;
       clocks = record { copies = here.clocks.copies; mirror = here.clocks.mirror };
       commands = record {
         names = here.commands.names;
         times = here.commands.times;
-        bounds = all-push (λ away. away.bound ≤ last_clock s) s.turned (turned_away s x) here.commands.bounds (omega arith);
+        bounds = all-push (λ away. away.bound ≤ last_clock s.runs) s.turned (turned_away s x) here.commands.bounds (omega arith);
       };
     }
 
@@ -125,22 +127,22 @@ taken :
     {W : Type 0} (s : MirrorState W) (x : Command) → x.time < s.length → IsStaggered s → is_repeat s x ≡ false → is_late s x ≡ false
     → IsStaggered (record s {
       accepted = s.accepted ++ x ∷ [];
-      runs = settle (s.accepted ++ x ∷ []) (proposed_by_arrival s x);
+      runs = settle (s.accepted ++ x ∷ []) (proposed_by_arrival x s.runs);
       history = s.history ++ Arrive x ∷ [];
       spare = s.spare - 1;
     })
 taken s x within here new due =
     let all = s.accepted ++ x ∷ [] in
     let same = late-beats x s.runs in
-    let falls = subst NeverRises (sym same) (chained-falls s.runs here.chained) in
+    let falls = subst NeverRises (sym same) (chained-falls s.runs here.trailing.chained) in
     let clocks = settle-beats all (map (with_late x) s.runs) falls ∙ same in
-    let older = ltb-false x.time (last_clock s) due in
+    let older = ltb-false x.time (last_clock s.runs) due in
     let last = last-arrival s.accepted x s.runs older in
     record {
       chained = settle-chained all (map (with_late x) s.runs);
-      complete = settle-each all (IsComplete all) (complete-rebuilt all) (map (with_late x) s.runs) falls (all-map (IsComplete s.accepted) (IsComplete all) (with_late x) (complete-late s.accepted x) s.runs here.complete);
-      last_ordered = last ∙ here.last_ordered ∙ sym (ticks-later s.accepted x 0 (last_clock s - 0) (omega arith)) ∙ ap (λ (run : List Item). ordered all 0 (beats run)) (sym last);
-      never_early = settle-each all (IsNeverEarly zero) (never_early-rebuilt all) (map (with_late x) s.runs) falls (all-map (IsNeverEarly zero) (IsNeverEarly zero) (with_late x) (never_early-late x) s.runs here.never_early);
+      complete = settle-each all (IsComplete all) (complete-rebuilt all) (map (with_late x) s.runs) falls (all-map (IsComplete s.accepted) (IsComplete all) (with_late x) (complete-late s.accepted x) s.runs here.trailing.complete);
+      last_ordered = last ∙ here.trailing.last_ordered ∙ sym (ticks-later s.accepted x 0 (last_clock s.runs - 0) (omega arith)) ∙ ap (λ (run : List Item). ordered all 0 (beats run)) (sym last);
+      never_early = settle-each all (IsNeverEarly zero) (never_early-rebuilt all) (map (with_late x) s.runs) falls (all-map (IsNeverEarly zero) (IsNeverEarly zero) (with_late x) (never_early-late x) s.runs here.trailing.never_early);
       clocks = record {
         copies = zip-from_map (λ k delay. (k ≤ s.length) × (k ≤ s.clock - delay)) beats (settle all (map (with_late x) s.runs)) s.delays (subst (λ (ks : List ℕ). AllZip (λ k delay. (k ≤ s.length) × (k ≤ s.clock - delay)) ks s.delays) (sym clocks) (zip-to_map (λ k delay. (k ≤ s.length) × (k ≤ s.clock - delay)) beats s.runs s.delays here.clocks.copies));
         mirror = here.clocks.mirror;
@@ -156,7 +158,7 @@ pub staggered-arrive : {W : Type 0} (s : MirrorState W) (x : Command) → x.time
 unfolding next
 staggered-arrive s x within here =
     let late = record s { turned = s.turned ++ turned_away s x ∷ []; history = s.history ++ Arrive x ∷ []; spare = s.spare - 1 } in
-    let more = record s { accepted = s.accepted ++ x ∷ []; runs = settle (s.accepted ++ x ∷ []) (proposed_by_arrival s x); history = s.history ++ Arrive x ∷ []; spare = s.spare - 1 } in
+    let more = record s { accepted = s.accepted ++ x ∷ []; runs = settle (s.accepted ++ x ∷ []) (proposed_by_arrival x s.runs); history = s.history ++ Arrive x ∷ []; spare = s.spare - 1 } in
     elim (is_repeat s x) as (λ v. is_repeat s x ≡ v → IsStaggered (cond v s (cond (is_late s x) late more))) [
       | true ↦ λ e. here
       | false ↦ λ e.
@@ -169,10 +171,10 @@ staggered-arrive s x within here =
 -- what a copy below its limit has before it
 pub below_limit :
     {W : Type 0} (s : MirrorState W) (c : ℕ) → is_idle s c ≡ false
-    → IsBehindAhead s.runs c × (copy_clock s c + 1 ≤ s.length) × (copy_clock s c + 1 ≤ s.clock - get_or s.delays c 0)
+    → IsBehindAhead s.runs c × (copy_clock s.runs c + 1 ≤ s.length) × (copy_clock s.runs c + 1 ≤ s.clock - get_or s.delays c 0)
 unfolding step_limit IsBehindAhead
-below_limit s zero e = (let k = leb-false (step_limit s zero) (copy_clock s zero) e in (tt, omega arith, omega arith))
-below_limit s (suc c) e = (let k = leb-false (step_limit s (suc c)) (copy_clock s (suc c)) e in (omega arith, omega arith, omega arith))
+below_limit s zero e = (let k = leb-false (step_limit s zero) (copy_clock s.runs zero) e in (tt, omega arith, omega arith))
+below_limit s (suc c) e = (let k = leb-false (step_limit s (suc c)) (copy_clock s.runs (suc c)) e in (omega arith, omega arith, omega arith))
 
 -- an ordered run and one tick is in order
 ticked : (accepted : List Command) (old : List Item) → old ≡ ordered accepted 0 (beats old) → with_tick accepted old ≡ ordered accepted 0 (beats old + 1)
@@ -199,35 +201,35 @@ last-step accepted runs c here =
 -- a step that runs
 ran :
     {W : Type 0} (s : MirrorState W) (c : ℕ) → IsStaggered s → is_idle s c ≡ false
-    → IsStaggered (record s { runs = settle s.accepted (proposed_by_step s c); history = s.history ++ Step c ∷ [] })
+    → IsStaggered (record s { runs = settle s.accepted (proposed_by_step s.accepted s.runs c); history = s.history ++ Step c ∷ [] })
 ran s c here e =
-    let proposed = proposed_by_step s c in
+    let proposed = proposed_by_step s.accepted s.runs c in
     let room = below_limit s c e in
     let same = step-beats s.accepted s.runs c in
-    let falls = subst NeverRises (sym same) (set-falls s.runs c (chained-falls s.runs here.chained) room.0) in
+    let falls = subst NeverRises (sym same) (set-falls s.runs c (chained-falls s.runs here.trailing.chained) room.0) in
     let clocks = settle-beats s.accepted proposed falls ∙ same in
-    let step = last-step s.accepted s.runs c here.last_ordered in
+    let step = last-step s.accepted s.runs c here.trailing.last_ordered in
     let last = settle-last s.accepted [] proposed in
     record {
       chained = settle-chained s.accepted proposed;
-      complete = settle-each s.accepted (IsComplete s.accepted) (complete-rebuilt s.accepted) proposed falls (all-set (IsComplete s.accepted) (with_tick s.accepted) [] (complete-tick s.accepted) s.runs c here.complete);
+      complete = settle-each s.accepted (IsComplete s.accepted) (complete-rebuilt s.accepted) proposed falls (all-set (IsComplete s.accepted) (with_tick s.accepted) [] (complete-tick s.accepted) s.runs c here.trailing.complete);
       last_ordered = last ∙ step.0 ∙ ap (λ (run : List Item). ordered s.accepted 0 (beats run)) (sym last);
-      never_early = settle-each s.accepted (IsNeverEarly zero) (never_early-rebuilt s.accepted) proposed falls (all-set (IsNeverEarly zero) (with_tick s.accepted) [] (never_early-tick s.accepted) s.runs c here.never_early);
+      never_early = settle-each s.accepted (IsNeverEarly zero) (never_early-rebuilt s.accepted) proposed falls (all-set (IsNeverEarly zero) (with_tick s.accepted) [] (never_early-tick s.accepted) s.runs c here.trailing.never_early);
       clocks = record {
-        copies = zip-from_map (λ k delay. (k ≤ s.length) × (k ≤ s.clock - delay)) beats (settle s.accepted proposed) s.delays (subst (λ (ks : List ℕ). AllZip (λ k delay. (k ≤ s.length) × (k ≤ s.clock - delay)) ks s.delays) (sym clocks) (zip-set (λ k delay. (k ≤ s.length) × (k ≤ s.clock - delay)) (map beats s.runs) s.delays c (copy_clock s c + 1) 0 (zip-to_map (λ k delay. (k ≤ s.length) × (k ≤ s.clock - delay)) beats s.runs s.delays here.clocks.copies) (room.1, room.2)));
+        copies = zip-from_map (λ k delay. (k ≤ s.length) × (k ≤ s.clock - delay)) beats (settle s.accepted proposed) s.delays (subst (λ (ks : List ℕ). AllZip (λ k delay. (k ≤ s.length) × (k ≤ s.clock - delay)) ks s.delays) (sym clocks) (zip-set (λ k delay. (k ≤ s.length) × (k ≤ s.clock - delay)) (map beats s.runs) s.delays c (copy_clock s.runs c + 1) 0 (zip-to_map (λ k delay. (k ≤ s.length) × (k ≤ s.clock - delay)) beats s.runs s.delays here.clocks.copies) (room.1, room.2)));
         mirror = here.clocks.mirror;
       };
       commands = record {
         names = here.commands.names;
         times = here.commands.times;
-        bounds = subst (λ (run : List Item). AllByRecursion (λ away. away.bound ≤ beats run) s.turned) (sym last) (all-weaker (λ away. away.bound ≤ last_clock s) (λ away. away.bound ≤ beats (last_of [] proposed)) s.turned (λ away h. (let up = step.1 in omega arith)) here.commands.bounds);
+        bounds = subst (λ (run : List Item). AllByRecursion (λ away. away.bound ≤ beats run) s.turned) (sym last) (all-weaker (λ away. away.bound ≤ last_clock s.runs) (λ away. away.bound ≤ beats (last_of [] proposed)) s.turned (λ away h. (let up = step.1 in omega arith)) here.commands.bounds);
       };
     }
 
 pub staggered-step : {W : Type 0} (s : MirrorState W) (c : ℕ) → IsStaggered s → IsStaggered (next s (Step c))
 unfolding next
 staggered-step s c here =
-    let new = record s { runs = settle s.accepted (proposed_by_step s c); history = s.history ++ Step c ∷ [] } in
+    let new = record s { runs = settle s.accepted (proposed_by_step s.accepted s.runs c); history = s.history ++ Step c ∷ [] } in
     elim (is_idle s c) as (λ v. is_idle s c ≡ v → IsStaggered (cond v s new))
     [ true ↦ λ e. here | false ↦ λ e. ran s c here e ]
     refl

@@ -15,19 +15,19 @@ go_at time = record { time = time; from = 0; number = 0; player = 0; act = Go }
 
 -- a match of four ticks with one copy without delay
 abbrev pub one_copy : {W : Type 0} → W → MirrorState W
-one_copy opening = opening_state opening 4 (0 ∷ []) 8
+one_copy opening = opening_state opening 4 ((0 ∷ []) ∷ []) 8 0
 
 -- a match of eight ticks with three copies, each two ticks behind the one ahead
 abbrev pub three_copies : {W : Type 0} → W → MirrorState W
-three_copies opening = opening_state opening 8 (0 ∷ 2 ∷ 4 ∷ []) 8
+three_copies opening = opening_state opening 8 ((0 ∷ 2 ∷ 4 ∷ []) ∷ []) 8 0
 
 -- a match of one tick with two copies, one tick apart
 abbrev pub one_tick : {W : Type 0} → W → MirrorState W
-one_tick opening = opening_state opening 1 (0 ∷ 1 ∷ []) 8
+one_tick opening = opening_state opening 1 ((0 ∷ 1 ∷ []) ∷ []) 8 0
 
 -- a match of four ticks with two copies, two ticks apart
 abbrev pub two_copies : {W : Type 0} → W → MirrorState W
-two_copies opening = opening_state opening 4 (0 ∷ 2 ∷ []) 8
+two_copies opening = opening_state opening 4 ((0 ∷ 2 ∷ []) ∷ []) 8 0
 
 -- a player's command to go at tick 0, from the mirror of the player's number
 abbrev pub go_first : ℕ → Command
