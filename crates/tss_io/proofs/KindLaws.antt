@@ -8,10 +8,10 @@ use Rattle.tss_io.proofs.Results.{then, guard_ok, unless_ok, unless_then}
 use Rattle.tss_io.specs.declared.cause.Cause.{Cause}
 use Rattle.tss_io.specs.declared.cause.Cause.TheVariants.{Shape, Number, Many, End, Long}
 use Rattle.tss_io.specs.Lines.{Lines, torn, line, words_of, spaced}
-use Rattle.tss_io.specs.Kinds.{keyword_step, line_at, keyword_line_at, is_long, checked, first_failing, fault_of, is_right, tests_of_value, all_tests, Kind, step, once, line_words, Hold, Sound}
+use Rattle.tss_io.specs.Kinds.{keyword_step, line_at, keyword_line_at, is_long, checked, first_failing, fault_of, is_right, tests_of_value, all_tests, Kind, step, once, line_words, Hold, Sound, front_checks, keyword_checks}
 use Rattle.tss_io.specs.Forms.{is_word, front_at}
 use Rattle.tss_io.proofs.Spaced.{AreWords, words_of-spaced, spaced-words_of}
-use Rattle.tss_io.proofs.FormLaws.{through, same_words, bytes_eq-same, width, ExactForm, front_takes, front_again}
+use Rattle.tss_io.proofs.FormLaws.{through, same_words, bytes_eq-same, width, ExactForm, front_takes, front_again, front_err}
 
 checked_takes : {T : Type 0} (tests : List (Bool × Cause)) (t u : T) → checked tests t ≡ Ok u → Hold tests × (t ≡ u)
 checked_takes [] t u e = (tt, cc)
@@ -190,3 +190,39 @@ lined_is k s (Err c) = refl
 pub once_is : {S R A T : Type 0} (k : Kind S R A T) (s : S) (lines : Lines) → once k s lines ≡ (line_at lines >>= λ l. keyword_step k s l.0 >>= λ t. behind_it t l.1)
 unfolding keyword_line_at
 once_is k s lines = lined_is k s (line_at lines)
+
+-- ---- a line that must be of a kind
+
+-- what it was read as
+pub record TookOne {S R A T : Type 0} (k : Kind S R A T) (Fits : S → A → Type 0) (s : S) (l : List ℕ) (t : T) : Type 0 where
+  pub a : A
+  pub whole : l ≡ line_text k s a
+  pub sound : Sound k Fits s a
+  pub put : t ≡ k.put s a
+
+pub keyword_takes : {S R A T : Type 0} {k : Kind S R A T} {Fits : S → A → Type 0} → ExactKind k Fits → (s : S) (l : List ℕ) (t : T) → keyword_step k s l ≡ Ok t → TookOne k Fits s l t
+keyword_takes {k = k} kind s l t e = through _ _ _ e (λ front front_is e.
+    let g = unless_then (bytes_eq front.0 k.keyword) Shape (step k s front.1) t e in
+    let took = step_takes kind s front.1 t g.1 in
+    record {
+      a = took.a;
+      whole = line_is k l front front_is g.0 ∙ ap (λ (ws : List (List ℕ)). spaced (k.keyword ∷ ws)) took.written;
+      sound = took.sound;
+      put = took.put;
+    })
+
+pub keyword_again : {S R A T : Type 0} {k : Kind S R A T} {Fits : S → A → Type 0} → ExactKind k Fits → (s : S) (a : A) → Sound k Fits s a → keyword_step k s (line_text k s a) ≡ Ok (k.put s a)
+keyword_again {k = k} kind s a h = then _ _ _ _ (line_front kind s a h) (rw (bytes_eq-same k.keyword) (step_again kind s a h))
+
+front_fault : {S R A T : Type 0} {k : Kind S R A T} {Fits : S → A → Type 0} → ExactKind k Fits → (s : S) (words : List (List ℕ)) (r : Result (List ℕ × List (List ℕ)) Cause) → front_at words ≡ r
+    → fault_of (r >>= λ front. cond (bytes_eq front.0 k.keyword) (step k s front.1) (Err Shape)) ≡ first_failing (front_checks k s r)
+front_fault {k = k} kind s words (Ok front) e =
+    elim (bytes_eq front.0 k.keyword) as (λ b. fault_of (cond b (step k s front.1) (Err Shape)) ≡ cond b (first_failing (all_tests k s front.1)) (Some Shape)) [
+      | true ↦ step_fault kind s front.1
+      | false ↦ refl
+    ]
+front_fault kind s words (Err c) e = ap Some (front_err words c e)
+
+-- The fault of such a line is its first failing check.
+pub keyword_fault : {S R A T : Type 0} {k : Kind S R A T} {Fits : S → A → Type 0} → ExactKind k Fits → (s : S) (l : List ℕ) → fault_of (keyword_step k s l) ≡ first_failing (keyword_checks k s l)
+keyword_fault kind s l = front_fault kind s (words_of l) (front_at (words_of l)) refl

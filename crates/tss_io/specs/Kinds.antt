@@ -100,3 +100,11 @@ pub record Sound {S R A T : Type 0} (k : Kind S R A T) (Fits : S → A → Type 
   pub fits : Fits s a
   pub room : k.room s ((k.form s).words a) ≡ true
   pub tests : Hold (k.tests s a)
+
+-- every check of a line that must be of a kind, in their order: its first word, and those of the words behind it
+abbrev pub front_checks : {S R A T : Type 0} → Kind S R A T → S → Result (List ℕ × List (List ℕ)) Cause → List (Bool × Cause)
+front_checks k s (Ok front) = (bytes_eq front.0 k.keyword, Shape) ∷ all_tests k s front.1
+front_checks k s (Err cause) = (false, Shape) ∷ []
+
+abbrev pub keyword_checks : {S R A T : Type 0} → Kind S R A T → S → List ℕ → List (Bool × Cause)
+keyword_checks k s l = front_checks k s (front_at (words_of l))
