@@ -1,4 +1,16 @@
 pub mod DecimalLaws
+pub mod FormLaws
+pub mod KindLaws
+pub mod LineLaws
+pub mod LineSteps
+pub mod OverLaws
+pub mod Pairs
+pub mod Printing
 pub mod ReadFaults
-pub mod Reading
+pub mod Results
+pub mod RunLaws
+pub mod RunToLaws
+pub mod Spaced
 pub mod Streams
+pub mod WalkLaws
+pub mod WordLists

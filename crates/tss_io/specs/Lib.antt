@@ -1,5 +1,13 @@
+pub mod Causes
 pub mod Decimals
 pub mod Errors
+pub mod Forms
+pub mod Kinds
+pub mod Lines
 pub mod Memory
 pub mod Reading
+pub mod Results
+pub mod Runs
 pub mod Streams
+pub mod Walks
+pub mod Words

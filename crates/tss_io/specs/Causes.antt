@@ -1,7 +1,8 @@
 -- How causes of refusal are printed.
-use Rattle.std.specs.Prelude.{ℕ, List, codes}
-use Rattle.match_file.specs.declared.cause.Cause.{Cause}
-use Rattle.match_file.specs.declared.cause.Cause.TheVariants.{Head, Shape, Number, Place, Name, Order, Many, End, Long}
+use Rattle.std.specs.Prelude.{ℕ, List, [], ◌∷◌, codes, decimal}
+use Rattle.tss_io.specs.declared.cause.Cause.{Cause}
+use Rattle.tss_io.specs.declared.cause.Cause.TheVariants.{Head, Shape, Number, Place, Name, Order, Many, End, Long}
+use Rattle.tss_io.specs.declared.fault.Refused.{Refused}
 
 -- a cause's number
 abbrev pub cause_number : Cause → ℕ
@@ -26,3 +27,8 @@ cause_word Order = codes "order"
 cause_word Many = codes "many"
 cause_word End = codes "end"
 cause_word Long = codes "long"
+
+-- the words of the line that tells a refusal
+abbrev pub refused_words : Refused → List (List ℕ)
+refused_words refused =
+    codes "refused" ∷ codes "line" ∷ decimal refused.line ∷ codes "cause" ∷ decimal (cause_number refused.cause) ∷ cause_word refused.cause ∷ []

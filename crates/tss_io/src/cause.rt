@@ -1,10 +1,14 @@
-ghost use Rattle.std.specs.Prelude.{◌≡◌};
-ghost use Rattle.match_file.specs.Causes.{cause_number, cause_word};
+//! Why texts are refused.
 
-/// Why a match text is refused.
+ghost use Rattle.std.specs.Prelude.{◌≡◌};
+ghost use Rattle.tss_io.specs.Causes.{cause_number, cause_word};
+
+use std::fmt::{self, Display, Formatter, Write};
+
+/// Why a text is refused (this project's own).
 #[derive(Clone, Copy, Debug, PartialEq, Eq)]
 pub enum Cause {
-    /// The first line isn't the head of a match text.
+    /// The first line isn't the head of such a text.
     Head,
     /// The line isn't words in a form that may stand there.
     Shape,
@@ -57,5 +61,11 @@ impl Cause {
             Cause::End => "end",
             Cause::Long => "long",
         }
+    }
+}
+
+impl Display for Cause {
+    fn fmt<W: Write>(&self, f: &mut Formatter<W>) -> fmt::Result {
+        f.write_str(self.word())
     }
 }
