@@ -4,3 +4,4 @@ pub mod Counts
 pub mod KeyOrder
 pub mod OrderedParts
 pub mod Sorting
+pub mod Front

@@ -3,3 +3,4 @@ pub mod Keys
 pub mod Run
 pub mod Ordered
 pub mod Count
+pub mod Front

@@ -4,7 +4,9 @@
 mod command;
 mod event;
 mod game;
+mod order;
 
 pub use command::{Act, Command, Item, Key, MirrorId, Number, Tick, order_by_key};
 pub use event::{Arrived, Event, Note, Reply, Stepped, Ticked};
 pub use game::Game;
+pub use order::execute_in_order;

@@ -1,4 +1,3 @@
-pub mod Front
 pub mod Ends
 pub mod Steps
 pub mod Log

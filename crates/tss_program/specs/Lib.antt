@@ -1,4 +1,3 @@
-pub mod Front
 pub mod Words
 pub mod Blocks
 pub mod Script

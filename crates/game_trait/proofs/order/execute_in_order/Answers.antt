@@ -1,8 +1,8 @@
 use Rattle.std.proofs.Common.{◌≡◌, suc, ◌+◌, ◌-◌, refl, ap, sym, ◌∙◌, arith}
 use Rattle.game_trait.specs.Run.{world_of}
 use Rattle.game_trait.specs.Ordered.{ticks}
-use Rattle.tss_program.proofs.Front.{FromTick-start, due_behind-FromTick, world_of-tick, world_of-in_key_order, world_of-no_ticks}
-use Rattle.tss_program.proofs.order.execute_in_order.Goals as goal
+use Rattle.game_trait.proofs.Front.{FromTick-start, due_behind-FromTick, world_of-tick, world_of-in_key_order, world_of-no_ticks}
+use Rattle.game_trait.proofs.order.execute_in_order.Goals as goal
 
 pub loop-t-init : goal.loop-t-init
 loop-t-init g c = rw c.order_by_key.ensures (record { due = FromTick-start _ c.requires; world = (let e : c.args.length - 0 ≡ c.args.length = omega arith in rw e refl) })

@@ -1,8 +1,8 @@
 use Rattle.std.proofs.Common.{◌≡◌, length, map}
 use Rattle.game_trait.specs.declared.command.Item.TheVariants.{Cmd}
 use Rattle.game_trait.specs.Run.{world_of}
-use Rattle.tss_program.specs.Front.{due_front, due_behind}
-use Rattle.tss_program.proofs.order.apply_due.Given as goal
+use Rattle.game_trait.specs.Front.{due_front, due_behind}
+use Rattle.game_trait.proofs.order.apply_due.Given as goal
 
 abbrev pub invariant-loop-x : goal.invariant-loop-x
 invariant-loop-x g l = record {

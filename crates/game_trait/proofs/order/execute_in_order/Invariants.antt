@@ -2,8 +2,8 @@ use Rattle.std.proofs.Common.{◌≡◌, ◌-◌}
 use Rattle.game_trait.specs.Keys.{in_key_order}
 use Rattle.game_trait.specs.Run.{world_of}
 use Rattle.game_trait.specs.Ordered.{ticks}
-use Rattle.tss_program.proofs.Front.{FromTick}
-use Rattle.tss_program.proofs.order.execute_in_order.Given as goal
+use Rattle.game_trait.proofs.Front.{FromTick}
+use Rattle.game_trait.proofs.order.execute_in_order.Given as goal
 
 abbrev pub invariant-loop-t : goal.invariant-loop-t
 invariant-loop-t g l = record {

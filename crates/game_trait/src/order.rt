@@ -6,12 +6,13 @@ ghost use Rattle.game_trait.specs.declared.command.Item.TheVariants.{Cmd};
 ghost use Rattle.game_trait.specs.Keys.{KeysRise, NamesDiffer};
 ghost use Rattle.game_trait.specs.Run.{world_of};
 ghost use Rattle.game_trait.specs.Ordered.{ticks, time_ordered};
-ghost use Rattle.tss_program.specs.Front.{due_front, due_behind};
+ghost use Rattle.game_trait.specs.Front.{due_front, due_behind};
 
-use game_trait::{Command, Game, Tick, order_by_key};
+use crate::command::{Command, Tick, order_by_key};
+use crate::game::Game;
 
 // Executes the commands at the front that are due at tick `t`, and hands back those behind them.
-#[tactic(auto, unfolding(crate::specs::Front::due_front, crate::specs::Front::due_behind, game_trait::specs::Run::world_of))]
+#[tactic(auto, unfolding(crate::specs::Front::due_front, crate::specs::Front::due_behind, crate::specs::Run::world_of))]
 fn apply_due<'a, G: Game>(game: &mut G, commands: &'a [Command], t: Tick) -> &'a [Command]
     ensures world { game.new ≡ world_of G.rules game.old (map Cmd (due_front t commands.now)) }
     ensures rest { result.now ≡ due_behind t commands.now }

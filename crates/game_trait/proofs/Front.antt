@@ -15,7 +15,7 @@ use Rattle.game_trait.specs.Run.{world_of}
 use Rattle.game_trait.specs.Ordered.{due_at, tick_of, ticks, time_ordered}
 use Rattle.game_trait.proofs.KeyOrder.{before-time, all-weaker, KeysRise-filter, KeysRise-in_key_order, NamesDiffer-same, in_key_order-rising}
 use Rattle.game_trait.proofs.Runs.{world_of-append, world_of-beat}
-use Rattle.tss_program.specs.Front.{due_front, due_behind}
+use Rattle.game_trait.specs.Front.{due_front, due_behind}
 
 -- commands that are due at tick t or later, in key order
 pub record FromTick (t : ℕ) (xs : List Command) : Type 0 where
