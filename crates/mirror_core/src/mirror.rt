@@ -6,7 +6,7 @@ ghost use Rattle.sync_model.specs.State.{opening_state, copy_clock as clock_of};
 ghost use Rattle.sync_model.specs.Change.{next, said, Fits};
 ghost use Rattle.sync_model.specs.Staggered.{IsStaggered, IsWellFormed};
 ghost use Rattle.sync_model.specs.History.{HasRoom, IsFromHistory, EachChanges, opening_of, repairs as repairs_of};
-ghost use Rattle.sync_model.specs.Turns.{is_drained};
+ghost use Rattle.sync_model.specs.Turns.{is_drained, drain_bound};
 
 use crate::accepted::Accepted;
 use crate::commands::{place, run_tick};
@@ -286,6 +286,14 @@ impl<G: Game> Mirror<G> {
         ensures { result ≡ self.now.spare }
     {
         self.spare
+    }
+
+    /// How many turns are enough to drain the mirror.
+    pub fn turns_to_drain(&self) -> u32
+        ensures { result ≡ drain_bound self.now }
+    {
+        let end = self.stagger.length() + self.stagger.longest();
+        end.saturating_sub(self.clock) + self.stagger.length()
     }
 
     /// Whether every copy has run the whole match.

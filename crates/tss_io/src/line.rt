@@ -13,7 +13,7 @@ pub enum Word<'a> {
     /// The bytes as they are.
     Text(&'a [u8]),
     /// The number in decimal.
-    Number(i64),
+    Number(i128),
 }
 
 impl Word<'_> {
@@ -23,7 +23,7 @@ impl Word<'_> {
     {
         match *self {
             Word::Text(text) => Ok(out.extend_from_slice(text)?),
-            Word::Number(number) => push_decimal(out, i128::from(number)),
+            Word::Number(number) => push_decimal(out, number),
         }
     }
 }

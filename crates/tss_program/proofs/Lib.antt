@@ -1,12 +1,6 @@
-pub mod Ends
-pub mod Steps
 pub mod Log
-pub mod ScriptEvents
-pub mod Ready
-pub mod Headline
 pub mod Named
-pub mod LineMade
-pub mod ScriptLoop
-pub mod PlayText
-pub mod NumberLine
-pub mod Succeeds
+pub mod Ready
+pub mod Steps
+pub mod Events
+pub mod OnWay

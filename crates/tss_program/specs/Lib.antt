@@ -1,8 +1,7 @@
-pub mod Words
-pub mod Blocks
-pub mod Script
-pub mod Play
+pub mod Subcommands
+pub mod Names
+pub mod Hall
+pub mod Report
 pub mod Headline
 pub mod Due
-pub mod Answer
-pub mod Names
+pub mod Run
