@@ -235,8 +235,8 @@ made-next {W} m script i end mirrors total out d sound below made =
     let l = get_or script i d in
     let way = subst (λ (ls : List ScriptLine). AllOnWay m made.opening ls mirrors) (drop_more script i d below) made.way in
     let here : IsScriptLine m l =
-        subst (λ (ls : List ScriptLine). IsScriptLine m (get_or ls i d)) (sym made.all)
-        (All-get_or (IsScriptLine m) m.script i d (subst (λ (ls : List ScriptLine). i < length ls) made.all below) (All-from_recursion (IsScriptLine m) m.script sound.script)) in
+    subst (λ (ls : List ScriptLine). IsScriptLine m (get_or ls i d)) (sym made.all)
+    (All-get_or (IsScriptLine m) m.script i d (subst (λ (ls : List ScriptLine). i < length ls) made.all below) (All-from_recursion (IsScriptLine m) m.script sound.script)) in
     let there : mirror_of l < length mirrors = (let in_match = line-mirror m l here in let count = way.count in omega arith) in
     record {
       line = here;
@@ -261,7 +261,7 @@ made-more {W} m script i end mirrors total old new d e t replies below made next
     let split : drop i script ≡ l ∷ rest = drop_more script i d below in
     let way = subst (λ (ls : List ScriptLine). AllOnWay m made.opening ls mirrors) split made.way in
     let after : changed_at (after_line m.commands l) k mirrors ≡ set mirrors k t =
-        changed_at-set (after_line m.commands l) k mirrors e next.there ∙ ap (set mirrors k) (sym changed) in
+    changed_at-set (after_line m.commands l) k mirrors e next.there ∙ ap (set mirrors k) (sym changed) in
     let told : told_at (replies_to m.commands l) k mirrors ≡ replies = told_at-get (replies_to m.commands l) k mirrors e next.there ∙ sym answered in
     record {
       all = made.all;

@@ -3,5 +3,6 @@ pub mod Names
 pub mod Hall
 pub mod Report
 pub mod Headline
+pub mod Stops
 pub mod Due
 pub mod Run

@@ -1,5 +1,5 @@
 -- What a run of the program promises, of its words, its streams, its status and the logs that it keeps.
-use Rattle.std.specs.Prelude.{◌≡◌, ◌⊎◌, ◌+◌, ◌≤◌, ℕ, List, [], Option, Some, None, IfSome, length, drop, option_map}
+use Rattle.std.specs.Prelude.{◌≡◌, ◌⊎◌, ◌+◌, ◌≤◌, ◌<◌, ℕ, List, [], Option, Some, None, IfSome, length, take, drop, option_map}
 use Rattle.tss_io.specs.Streams.{Rose, Yields, Gains}
 use Rattle.arena_rules.specs.World.{opening_world, arena_rules}
 use Rattle.match_file.specs.Data.{MatchData, IsPlain}
@@ -10,7 +10,12 @@ use Rattle.tss_program.specs.declared.subcommand.Subcommand.TheVariants.{Order, 
 use Rattle.tss_program.specs.Subcommands.{subcommand_of}
 use Rattle.tss_program.specs.Hall.{played}
 use Rattle.tss_program.specs.Headline.{AllPlayed}
-use Rattle.tss_program.specs.Due.{Due, IsDue, due_of_match, text_limit, Ends}
+use Rattle.match_file.specs.declared.fault.Refused.{Refused}
+use Rattle.tss_program.specs.declared.status.Status.{Status}
+use Rattle.tss_program.specs.declared.status.Status.TheVariants.{WriteFault}
+use Rattle.tss_program.specs.declared.stop.Stop.{Stop}
+use Rattle.tss_program.specs.declared.stop.Stop.TheVariants as stops
+use Rattle.tss_program.specs.Due.{Due, IsDue, IsNoMatch, due_of_match, refusal_of, code, text_limit, Ends}
 
 -- what is seen of a source and a sink: the bytes that are left and those that were taken, where they tell them, how many
 -- calls failed, and how many calls were made to the source
@@ -37,6 +42,36 @@ pub record EndsAsDue (words : List (List ℕ)) (old new : Streams) (status : ℕ
   pub due : Due
   pub is_due : IsDue words input due
   pub ends : EndsWith due old new status kept
+
+-- ---- the parts of a run
+
+-- a text that is refused, which is the one that the source tells where it tells one
+pub record RefusesText (left : Option (List ℕ)) (refused : Refused) : Type 0 where
+  pub input : List ℕ
+  pub told : IsInput left input
+  pub no_match : IsNoMatch input
+  pub cause : refused ≡ refusal_of input
+
+-- why there is no answer: memory ran out, a read failed, or the text was refused
+abbrev pub WhyStopped : Option (List ℕ) → Type 0 → Stop → Type 0
+WhyStopped left read_fault stops.NoMemory = Unit {0}
+WhyStopped left read_fault stops.ReadFault = read_fault
+WhyStopped left read_fault (stops.Refused refused) = RefusesText left refused
+
+-- what holds where the text was refused
+abbrev pub IfRefused : Stop → Type 0 → Type 0
+IfRefused stops.NoMemory P = Unit {0}
+IfRefused stops.ReadFault P = Unit {0}
+IfRefused (stops.Refused refused) P = P
+
+-- a due text was put whole, or a proper front of it
+abbrev pub IsPut : Status → List ℕ → List MirrorLog → Type 0 → Option (List ℕ) → Option (List ℕ) → ℕ → List MirrorLog → Type 0
+IsPut due text kept write_fault old new status left =
+    (left ≡ kept)
+    × (((status ≡ code due) × Gains old text new)
+    ⊎ ((status ≡ code WriteFault) × write_fault × ((n : ℕ) × (n < length text) × Gains old (take n text) new)))
+
+-- ---- a run
 
 -- the logs are those of the mirrors of this match, which was played
 abbrev pub Keeps : MatchData → List MirrorLog → Type 0

@@ -5,10 +5,14 @@ mod done;
 mod hall;
 mod names;
 mod play;
+mod refusal;
 mod report;
+mod run;
 mod status;
+mod stop;
 mod subcommand;
 
 pub use done::Done;
+pub use run::{run_arguments, run_plain};
 pub use status::Status;
 pub use subcommand::Subcommand;
