@@ -1,32 +1,33 @@
 -- The tests of equality decide equality.
-use Rattle.std.proofs.Common.{◌≡◌, true, false, refl, ap, arith}
+use Rattle.std.proofs.Common.{◌≡◌, ℕ, zero, suc, true, false, refl, ap, sym, ◌∙◌}
 use Rattle.std.specs.Bool.{Decides}
 use Rattle.std.proofs.lemmas.Bool.Decides.{Decides-eqb, Decides-and, Decides-like}
 use Rattle.game_trait.specs.declared.command.Act.{Act}
-use Rattle.game_trait.specs.declared.command.Act.TheVariants.{Go, Left, Right, Shoot}
+use Rattle.game_trait.specs.declared.command.Act.TheVariants.{Go, Left, Right, Shoot, Dash}
 use Rattle.game_trait.specs.declared.command.Command.{Command}
 use Rattle.game_trait.specs.declared.command.Item.{Item}
 use Rattle.game_trait.specs.declared.command.Item.TheVariants.{Cmd, Beat}
 use Rattle.game_trait.specs.Run.{act_place, same_command, same_item}
 
+-- the act at a place
+act_at : ℕ → Act
+act_at zero = Go
+act_at (suc zero) = Left
+act_at (suc (suc zero)) = Right
+act_at (suc (suc (suc zero))) = Shoot
+act_at (suc (suc (suc (suc n)))) = Dash
+
+act_at-place : (a : Act) → act_at (act_place a) ≡ a
+unfolding act_at
+act_at-place Go = refl
+act_at-place Left = refl
+act_at-place Right = refl
+act_at-place Shoot = refl
+act_at-place Dash = refl
+
 -- acts with one place are one act
 act_place-same : (a b : Act) → act_place a ≡ act_place b → a ≡ b
-act_place-same Go Go e = refl
-act_place-same Go Left e = absurd (omega arith)
-act_place-same Go Right e = absurd (omega arith)
-act_place-same Go Shoot e = absurd (omega arith)
-act_place-same Left Go e = absurd (omega arith)
-act_place-same Left Left e = refl
-act_place-same Left Right e = absurd (omega arith)
-act_place-same Left Shoot e = absurd (omega arith)
-act_place-same Right Go e = absurd (omega arith)
-act_place-same Right Left e = absurd (omega arith)
-act_place-same Right Right e = refl
-act_place-same Right Shoot e = absurd (omega arith)
-act_place-same Shoot Go e = absurd (omega arith)
-act_place-same Shoot Left e = absurd (omega arith)
-act_place-same Shoot Right e = absurd (omega arith)
-act_place-same Shoot Shoot e = refl
+act_place-same a b e = sym (act_at-place a) ∙ ap act_at e ∙ act_at-place b
 
 pub same_command-Decides : (x y : Command) → Decides (same_command x y) (x ≡ y)
 unfolding same_command

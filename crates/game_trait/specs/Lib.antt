@@ -4,3 +4,5 @@ pub mod Run
 pub mod Ordered
 pub mod Count
 pub mod Front
+pub mod Events
+pub mod CommandList

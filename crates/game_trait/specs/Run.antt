@@ -1,7 +1,7 @@
 -- Runs: the items that a copy has executed, in order.
 use Rattle.std.specs.Prelude.{◌≡◌, ℕ, ◌+◌, Bool, true, false, ◌==◌, ◌&&◌, List, [], ◌∷◌, ◌++◌}
 use Rattle.game_trait.specs.declared.command.Act.{Act}
-use Rattle.game_trait.specs.declared.command.Act.TheVariants.{Go, Left, Right, Shoot}
+use Rattle.game_trait.specs.declared.command.Act.TheVariants.{Go, Left, Right, Shoot, Dash}
 use Rattle.game_trait.specs.declared.command.Command.{Command}
 use Rattle.game_trait.specs.declared.command.Item.{Item}
 use Rattle.game_trait.specs.declared.command.Item.TheVariants.{Cmd, Beat}
@@ -35,6 +35,7 @@ act_place Go = 0
 act_place Left = 1
 act_place Right = 2
 act_place Shoot = 3
+act_place Dash = 4
 
 -- two commands are one and the same
 unfoldable pub same_command : Command → Command → Bool

@@ -24,6 +24,8 @@ pub enum Act {
     Right,
     /// One shot ahead.
     Shoot,
+    /// One cell ahead, and one more.
+    Dash,
 }
 
 /// A player's act at a tick, as a mirror issued it. In a match no two commands have the same mirror and number.

@@ -12,6 +12,8 @@ pub enum Event {
     Arrive(Command),
     /// The copy of this number runs a tick, where it may.
     Step(u8),
+    /// The plan of delays of this number is in force from here on.
+    Restagger(u8),
 }
 
 /// The answer to a tick.
@@ -19,7 +21,7 @@ pub enum Event {
 pub enum Ticked {
     /// The clock went on by one.
     Moved,
-    /// The clock stands at its end, the match's length plus the longest delay.
+    /// The clock stands at its end or past it: the match's length plus the longest delay in force.
     Over,
 }
 
@@ -52,6 +54,8 @@ pub enum Reply {
     Arrive(Arrived),
     /// To a step.
     Step(Stepped),
+    /// To another plan of delays.
+    Restaggered,
 }
 
 // An `ArrayVec` of replies is filled with these until replies are put.

@@ -3,6 +3,7 @@ use Rattle.std.proofs.Common.{◌≡◌, ℕ, zero, suc, ◌+◌, ◌-◌, ◌�
 use Rattle.std.specs.Prelude.{◌==◌}
 use Rattle.std.proofs.lemmas.Bool.{lt-ltb, le-ltb, ltb-true, ltb-false, ne_eqb}
 use Rattle.std.proofs.lemmas.Bool.Decides.{nat_tests}
+use Rattle.std.proofs.lemmas.List.{append-nil}
 use Rattle.std.proofs.lemmas.List.Elements.{filter-append}
 use Rattle.std.specs.List.{AllByRecursion}
 use Rattle.game_trait.specs.declared.command.Command.{Command}
@@ -192,11 +193,7 @@ never_early-late x run early =
 due_at-later : (accepted : List Command) (x : Command) (t : ℕ) → t < x.time → due_at (accepted ++ x ∷ []) t ≡ due_at accepted t
 due_at-later accepted x t later =
     ap in_key_order (filter-append (λ (y : Command). y.time == t) accepted (x ∷ [])
-    ∙ rw (ne_eqb x.time t (λ e. omega arith)) (append-none (filter (λ (y : Command). y.time == t) accepted)))
-  where
-    append-none : (l : List Command) → l ++ [] ≡ l
-    append-none [] = refl
-    append-none (y ∷ ys) = ap (λ (m : List Command). y ∷ m) (append-none ys)
+    ∙ rw (ne_eqb x.time t (λ e. omega arith)) (append-nil (filter (λ (y : Command). y.time == t) accepted)))
 
 pub ticks-later :
     (accepted : List Command) (x : Command) (t n : ℕ) → t + n ≤ x.time → ticks (accepted ++ x ∷ []) t n ≡ ticks accepted t n

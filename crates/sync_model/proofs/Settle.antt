@@ -11,7 +11,7 @@ use Rattle.game_trait.specs.Ordered.{ordered}
 use Rattle.game_trait.proofs.Items.{same_item-Decides}
 use Rattle.game_trait.proofs.Runs.{beats-append}
 use Rattle.game_trait.proofs.OrderedParts.{beats-ordered}
-use Rattle.sync_model.specs.State.{last_of}
+use Rattle.sync_model.specs.Lists.{last_of}
 use Rattle.sync_model.specs.Settle.{begins_with, rebuilt, settle_one, settle}
 use Rattle.sync_model.specs.Staggered.{IsAhead, IsChained}
 

@@ -1,10 +1,14 @@
+pub mod Lists
+pub mod Schedule
 pub mod State
 pub mod Settle
 pub mod Change
 pub mod Staggered
+pub mod WellFormed
 pub mod Turns
 pub mod History
-pub mod Repairs
-pub mod Runs
-pub mod Worked
 pub mod Legal
+pub mod Consistent
+pub mod Repairs
+pub mod Worked
+pub mod Pinned

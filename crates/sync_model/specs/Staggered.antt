@@ -1,6 +1,6 @@
 -- What is always true of a mirror.
-use Rattle.std.specs.Prelude.{◌≡◌, ℕ, zero, ◌+◌, ◌-◌, ◌≤◌, ◌<◌, Bool, ◌&&◌, nat_lt, List, [], ◌∷◌, length}
-use Rattle.std.specs.List.{AllByRecursion, AllZip}
+use Rattle.std.specs.Prelude.{◌≡◌, ℕ, zero, ◌+◌, ◌-◌, ◌≤◌, ◌<◌, Bool, false, ◌&&◌, nat_lt, max, List, [], ◌∷◌}
+use Rattle.std.specs.List.{AllByRecursion, AllZip, list_any}
 use Rattle.game_trait.specs.declared.command.Command.{Command}
 use Rattle.game_trait.specs.declared.command.Item.{Item}
 use Rattle.game_trait.specs.declared.command.Item.TheVariants.{Cmd, Beat}
@@ -8,7 +8,10 @@ use Rattle.game_trait.specs.Run.{beats, commands_of, IsPrefix}
 use Rattle.game_trait.specs.Keys.{NamesDiffer}
 use Rattle.game_trait.specs.Ordered.{ordered}
 use Rattle.game_trait.specs.Count.{times}
-use Rattle.sync_model.specs.State.{MirrorState, longest_delay, last_clock, last_of}
+use Rattle.game_trait.specs.Events.{is_restagger}
+use Rattle.sync_model.specs.Lists.{last_of}
+use Rattle.sync_model.specs.Schedule.{longest_delay}
+use Rattle.sync_model.specs.State.{MirrorState, delays_of, last_clock}
 
 -- the first of the runs behind, if there is one, is a prefix of this run
 unfoldable pub IsAhead : List Item → List (List Item) → Type 0
@@ -31,41 +34,38 @@ IsNeverEarly n [] = Unit {0}
 IsNeverEarly n (Cmd x ∷ rest) = (x.time ≤ n) × IsNeverEarly n rest
 IsNeverEarly n (Beat ∷ rest) = IsNeverEarly (n + 1) rest
 
--- a copy's clock is at most the match's length, and its delay or more behind the mirror's clock
-abbrev pub IsBehindClock : {W : Type 0} → MirrorState W → List Item → ℕ → Type 0
-IsBehindClock s run delay = (beats run ≤ s.length) × (beats run ≤ s.clock - delay)
+-- what is true of the accepted commands and the runs, whatever the clock and the delays
+pub record IsTrailing (accepted : List Command) (runs : List (List Item)) : Type 0 where
+  pub chained : IsChained runs
+  pub complete : AllByRecursion (IsComplete accepted) runs
+  pub last_ordered : last_of [] runs ≡ ordered accepted 0 (last_clock runs)
+  pub never_early : AllByRecursion (IsNeverEarly zero) runs
 
--- the clocks are in range
-pub record ClocksInRange {W : Type 0} (s : MirrorState W) : Type 0 where
-  pub copies : AllZip (IsBehindClock s) s.runs s.delays
-  pub mirror : s.clock ≤ s.length + longest_delay s
+-- the greatest delay of all plans
+unfoldable pub greatest_delay : List (List ℕ) → ℕ
+greatest_delay [] = 0
+greatest_delay (delays ∷ plans) = max (longest_delay delays) (greatest_delay plans)
 
--- the commands have different names and are due within the match, and what was turned away was older than the last copy
-pub record NamesAndBounds {W : Type 0} (s : MirrorState W) : Type 0 where
+-- the plan was never changed
+abbrev pub IsUnchangedPlan : {W : Type 0} → MirrorState W → Type 0
+IsUnchangedPlan s = list_any is_restagger s.history ≡ false
+
+-- what is true of the clocks, of the commands' names and times, and of the bounds of what was turned away
+pub record IsInBounds {W : Type 0} (s : MirrorState W) : Type 0 where
+  -- each copy's clock is at most the match's length, and at most the mirror's clock
+  pub within_match : AllByRecursion (λ run. beats run ≤ s.length) s.runs
+  pub behind_clock : AllByRecursion (λ run. beats run ≤ s.clock) s.runs
+  -- the mirror's clock is at most the length plus the greatest delay of all plans
+  pub before_end : s.clock ≤ s.length + greatest_delay s.plans
+  -- where the plan was never changed, each copy is its delay or more behind the mirror's clock
+  pub behind_delays : IsUnchangedPlan s → AllZip (λ run delay. beats run ≤ s.clock - delay) s.runs (delays_of s)
+  -- the accepted commands have different names, and are due within the match
   pub names : NamesDiffer s.accepted
-  pub times : AllByRecursion (λ x. x.time < s.length) s.accepted
-  pub bounds : AllByRecursion (λ away. away.bound ≤ last_clock s) s.turned
+  pub due : AllByRecursion (λ x. x.time < s.length) s.accepted
+  -- what was turned away was older than the last copy
+  pub bounds : AllByRecursion (λ away. away.bound ≤ last_clock s.runs) s.turned
 
 -- a mirror's copies are staggered
 pub record IsStaggered {W : Type 0} (s : MirrorState W) : Type 0 where
-  pub chained : IsChained s.runs
-  pub complete : AllByRecursion (IsComplete s.accepted) s.runs
-  pub last_ordered : last_of [] s.runs ≡ ordered s.accepted 0 (last_clock s)
-  pub never_early : AllByRecursion (IsNeverEarly zero) s.runs
-  pub clocks : ClocksInRange s
-  pub commands : NamesAndBounds s
-
--- the delays rise from each copy to the next
-unfoldable pub DelaysRise : List ℕ → Type 0
-DelaysRise [] = Unit {0}
-DelaysRise (delay ∷ behind) = AllByRecursion (λ longer. delay < longer) behind × DelaysRise behind
-
--- the fixed parts of a mirror are those of a match; no event changes that
-pub record IsWellFormed {W : Type 0} (s : MirrorState W) : Type 0 where
-  pub some_copy : 0 < length s.delays
-  pub few_copies : length s.delays ≤ 8
-  pub one_run_each : length s.runs ≡ length s.delays
-  pub delays_rise : DelaysRise s.delays
-  pub short_delays : AllByRecursion (λ delay. delay ≤ 1024) s.delays
-  pub some_tick : 0 < s.length
-  pub few_ticks : s.length ≤ 8192
+  pub trailing : IsTrailing s.accepted s.runs
+  pub in_bounds : IsInBounds s

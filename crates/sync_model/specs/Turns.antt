@@ -5,7 +5,8 @@ use Rattle.game_trait.specs.declared.event.Event.{Event}
 use Rattle.game_trait.specs.declared.event.Event.TheVariants.{Tick, Step}
 use Rattle.game_trait.specs.Run.{beats}
 use Rattle.game_trait.specs.Ordered.{ordered}
-use Rattle.sync_model.specs.State.{MirrorState, longest_delay}
+use Rattle.sync_model.specs.Schedule.{clock_end}
+use Rattle.sync_model.specs.State.{MirrorState, schedule_of}
 use Rattle.sync_model.specs.Change.{after}
 
 -- steps of so many copies, from copy c on
@@ -39,16 +40,24 @@ unfoldable pub drain_within : {W : Type 0} → ℕ → MirrorState W → MirrorS
 drain_within zero s = s
 drain_within (suc n) s = if is_drained s then s else drain_within n (turn s)
 
--- how many turns are enough
+-- how many turns are enough: to the end of the clock, and from there to the match's end
 abbrev pub drain_bound : {W : Type 0} → MirrorState W → ℕ
-drain_bound s = (s.length + longest_delay s - s.clock) + s.length
+drain_bound s = (clock_end (schedule_of s) - s.clock) + s.length
 
 -- a mirror after draining
 abbrev pub drain : {W : Type 0} → MirrorState W → MirrorState W
 drain s = drain_within (drain_bound s) s
 
+-- between two states nothing arrived, and no plan was changed
+pub record SameArrivals {W : Type 0} (s t : MirrorState W) : Type 0 where
+  pub accepted : t.accepted ≡ s.accepted
+  pub turned : t.turned ≡ s.turned
+  pub plan : t.plan ≡ s.plan
+  pub spare : t.spare ≡ s.spare
+  pub plan_spare : t.plan_spare ≡ s.plan_spare
+
 -- what draining comes to: every copy has run the whole match, and its run is the ordered part of what was accepted before
 pub record EndsInOrder {W : Type 0} (s : MirrorState W) : Type 0 where
   pub drained : IsDrained (drain s)
-  pub accepted : (drain s).accepted ≡ s.accepted
+  pub arrivals : SameArrivals s (drain s)
   pub in_order : AllByRecursion (λ run. run ≡ ordered s.accepted 0 s.length) (drain s).runs

@@ -1,10 +1,9 @@
-//! The model of a mirror over whole lists, its laws, and a plain mirror that computes it; stands on `game_trait` alone.
+//! The model of a mirror over whole lists, and its laws; stands on `game_trait` alone.
 #![tactic(auto)]
 
 pub mod laws;
-mod plain;
+pub mod pinned;
 mod turned;
 pub mod worked;
 
-pub use plain::PlainMirror;
 pub use turned::Turned;

@@ -1,0 +1,128 @@
+//! A list of commands with different names, of which each is found at once.
+
+ghost use Rattle.std.specs.Prelude.{◌≡◌, ◌<◌, ◌++◌, ◌∷◌, [], false, if◌then◌else◌, not, length, IfOk, OnOk, OnErr};
+ghost use Rattle.game_trait.specs.Keys.{NamesDiffer};
+ghost use Rattle.game_trait.specs.CommandList.{command_named, has_command};
+
+use crate::command::{Command, MirrorId, Number};
+use std::alloc::{AllocError, Global};
+use std::collections::HashMap;
+use std::marker::Model;
+
+/// Commands in the order in which they were appended, no two with the same mirror and number, of which each is found at once by
+/// these. Contracts see the commands, and how many there is room for without taking memory.
+#[derive(Debug, Drop)]
+pub struct CommandList {
+    commands: Vec<Command>,
+    by_name: HashMap<(MirrorId, Number), Command>,
+    room: usize,
+}
+
+impl Model for CommandList {
+    ghost use Rattle.std.specs.Prelude.{vec_capacity};
+    ghost use Rattle.std.specs.HashMap.{get, spare};
+    ghost use Rattle.game_trait.specs.CommandList.{CommandsInRoom, IsCommandList, same_pair};
+
+    ghost Value = { CommandsInRoom };
+
+    ghost view = { λ a. record { items = a.commands.items; room = a.room } };
+
+    ghost invariant = { λ a. IsCommandList (get same_pair a.by_name) a.commands.items a.room (vec_capacity a.commands) (spare a.by_name) };
+}
+
+impl CommandList {
+    /// No commands yet, and no room. It takes no memory.
+    pub fn new(alloc: Global) -> CommandList
+        ensures { result ≡ record { items = []; room = 0 } }
+    {
+        CommandList {
+            commands: Vec::new(alloc),
+            by_name: HashMap::new(alloc),
+            room: 0,
+        }
+    }
+
+    /// No commands yet, and room for so many. Want of memory makes nothing.
+    pub fn with_room(alloc: Global, room: usize) -> Result<CommandList, AllocError>
+        ensures { IfOk result (λ list. list ≡ record { items = []; room = room }) }
+    {
+        Ok(CommandList {
+            commands: Vec::with_capacity(alloc, room)?,
+            by_name: HashMap::with_capacity(alloc, room)?,
+            room,
+        })
+    }
+
+    /// Appends the command where none has its mirror and number, and tells whether it did. On want of memory the list is
+    /// unchanged.
+    pub fn insert(&mut self, x: &Command) -> Result<bool, AllocError>
+        ensures added { IfOk result (λ added. added ≡ not (has_command self.old.items x.now.from x.now.number)) }
+        ensures items { OnOk result (self.new.items ≡ (if has_command self.old.items x.now.from x.now.number then self.old.items else self.old.items ++ x.now ∷ [])) }
+        ensures room { self.new.room ≡ self.old.room }
+        ensures err { OnErr result (self.new ≡ self.old) }
+    {
+        if self.has(x.from, x.number) {
+            return Ok(false);
+        }
+        self.commands.reserve(1)?;
+        self.by_name.insert((x.from, x.number), *x)?;
+        self.commands.push_reserved(*x);
+        Ok(true)
+    }
+
+    /// Appends a command, whose mirror and number none has yet, where there is room. It takes no memory.
+    pub fn push_reserved(&mut self, x: &Command)
+        requires new_name { has_command self.old.items x.now.from x.now.number ≡ false }
+        requires room { length self.old.items < self.old.room }
+        ensures { self.new ≡ record self.old { items = self.old.items ++ x.now ∷ [] } }
+    {
+        match self.by_name.insert((x.from, x.number), *x) {
+            Ok(_) => {}
+            Err(_) => unreachable!(),
+        }
+        self.commands.push_reserved(*x);
+    }
+
+    /// The command of this mirror and number, if there is one.
+    pub fn get(&self, from: MirrorId, number: Number) -> Option<Command>
+        ensures { result ≡ command_named self.now.items from number }
+    {
+        self.by_name.get(&(from, number)).copied()
+    }
+
+    /// Whether one of the commands has this mirror and number.
+    pub fn has(&self, from: MirrorId, number: Number) -> bool
+        ensures { result ≡ has_command self.now.items from number }
+    {
+        self.by_name.contains_key(&(from, number))
+    }
+
+    /// The commands, in the order in which they were appended.
+    pub fn as_slice(&self) -> &[Command]
+        ensures commands { result.now ≡ self.now.items }
+        ensures names { NamesDiffer result.now }
+    {
+        &self.commands
+    }
+
+    /// How many commands there are.
+    pub fn len(&self) -> usize
+        ensures { result ≡ length self.now.items }
+    {
+        self.commands.len()
+    }
+
+    /// The commands alone, in the order in which they were appended. It takes no memory.
+    pub fn into_vec(self) -> Vec<Command>
+        ensures commands { result.items ≡ self.items }
+        ensures names { NamesDiffer result.items }
+    {
+        let CommandList {
+            commands,
+            by_name,
+            ..
+        } = self;
+        drop(by_name);
+        commands
+    }
+}

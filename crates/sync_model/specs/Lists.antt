@@ -1,0 +1,7 @@
+-- The last element of a list.
+use Rattle.std.specs.Prelude.{List, [], ◌∷◌}
+
+-- the last element, or the given one where there is none
+unfoldable pub last_of : {X : Type 0} → X → List X → X
+last_of x [] = x
+last_of x (y ∷ ys) = last_of y ys
