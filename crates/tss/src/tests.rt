@@ -9,4 +9,4 @@ mod match_texts;
 mod mirror;
 mod plain_mirror;
 mod program;
-mod streams;
+mod tss_io_tests;

@@ -1,5 +1,5 @@
 pub mod DecimalLaws
-pub mod Faults
 pub mod Printing
+pub mod ReadFaults
 pub mod Results
 pub mod Streams

@@ -4,8 +4,7 @@ use Rattle.std.specs.Prelude.{IfSome, OnErr}
 use Rattle.std.proofs.Math.Seq.{take-add}
 use Rattle.std.proofs.lemmas.Bool.{cases_lt}
 use Rattle.std.proofs.lemmas.List.{append-nil, drop-drop, length-append, take_all, take-append-drop}
-use Rattle.tss_io.specs.Memory.{next_count}
-use Rattle.tss_io.specs.Streams.{Rose, Yields, Gains}
+use Rattle.tss_io.specs.Streams.{next_count, Rose, Yields, Gains}
 
 pub same-le : (n : ℕ) → n ≤ n
 same-le n = omega arith

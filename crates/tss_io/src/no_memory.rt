@@ -1,3 +1,4 @@
+//! Want of memory, the one answer that needs no cause.
 ghost use Rattle.std.specs.Prelude.{◌≡◌};
 ghost use Rattle.tss_io.specs.Errors.{no_memory};
 

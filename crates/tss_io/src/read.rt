@@ -1,8 +1,10 @@
-ghost use Rattle.std.specs.Prelude.{◌≡◌, ◌≤◌, ◌<◌, ◌+◌, ℕ, List, [], length, vec_len, IfOk, OnOk, OnErr, IsErrOf, IfSome};
+//! A source is read to its end, up to a limit.
+ghost use Rattle.std.specs.Prelude.{◌≡◌, ◌≤◌, ◌<◌, ◌+◌, ◌⊎◌, ℕ, List, [], length, vec_len, IfOk, OnOk, OnErr, IsErrOf, IfSome};
 ghost use Rattle.tss_io.specs.Streams.{Rose, Yields};
+ghost use Rattle.tss_io.specs.declared.read.TheConstants.{PIECE};
 
+use crate::faults::ReadFault;
 use crate::no_memory::NoMemory;
-use crate::read_fault::ReadFault;
 use crate::source::Source;
 use std::alloc::Global;
 
@@ -10,7 +12,8 @@ use std::alloc::Global;
 const PIECE: usize = 65_536;
 
 /// Reads to the source's end, in at most `limit + 1` calls. `TooLong` is answered once `limit + 1` bytes are read, and
-/// no more are. On `Failed` and on `NoMemory` what was read till then is lost.
+/// no more are. A read that fails ends it with `Failed`, and nothing else does: after every other answer the count of
+/// faults is as it was. On `Failed` and on `NoMemory` what was read till then is lost.
 pub fn read_all<S: Source>(
     alloc: Global,
     source: &mut S,
@@ -24,16 +27,19 @@ pub fn read_all<S: Source>(
 
     // Where no read failed, the length of what was left decides.
     ensures fits { OnOk result (IfSome (S.left source.old) (λ bytes. length bytes ≤ limit)) }
-    ensures over { IsErrOf result ReadFault.TooLong → IfSome (S.left source.old) (λ bytes. limit < length bytes) }
+    ensures over { IsErrOf result ReadFault.TooLong
+        → IfSome (S.left source.old) (λ bytes. limit < length bytes) }
+
+    // No read failed, unless it is said.
+    ensures steady { IsErrOf result ReadFault.Failed ⊎ (S.faults source.new ≡ S.faults source.old) }
     ensures rose { IsErrOf result ReadFault.Failed → Rose (S.faults source.old) (S.faults source.new) }
+    ensures never_falls { S.faults source.old ≤ S.faults source.new }
 
     // What was taken from the source.
     ensures too_long { IsErrOf result ReadFault.TooLong
         → (front : List ℕ) × (length front ≡ limit + 1) × Yields (S.left source.old) front (S.left source.new) }
     ensures front { OnErr result
         ((front : List ℕ) × (length front ≤ limit + 1) × Yields (S.left source.old) front (S.left source.new)) }
-
-    ensures never_falls { S.faults source.old ≤ S.faults source.new }
     ensures called { S.calls source.new ≤ S.calls source.old + (limit + 1) }
 {
     let mut buffer = blank(alloc, PIECE)?;
@@ -42,23 +48,24 @@ pub fn read_all<S: Source>(
     Ok(text)
 }
 
-// Reads to the source's end, piece by piece, and puts all of it into the empty text.
+// Reads to the source's end, piece by piece, and appends all of it to the empty text.
 fn read_pieces<S: Source>(
     source: &mut S,
     buffer: &mut [u8],
     limit: usize,
     text: &mut Vec<u8>,
 ) -> Result<(), ReadFault>
-    requires buffer { length buffer.old ≡ 65536 }
+    requires buffer { length buffer.old ≡ PIECE }
     requires empty { text.old.items ≡ [] }
     ensures ok { OnOk result
         ((length text.new.items ≤ limit) × Yields (S.left source.old) text.new.items (S.left source.new)
         × IfSome (S.left source.new) (λ rest. rest ≡ [])) }
-    ensures rose { IsErrOf result ReadFault.Failed → Rose (S.faults source.old) (S.faults source.new) }
     ensures too_long { IsErrOf result ReadFault.TooLong
         → (length text.new.items ≡ limit + 1) × Yields (S.left source.old) text.new.items (S.left source.new) }
     ensures front { OnErr result
         ((front : List ℕ) × (length front ≤ limit + 1) × Yields (S.left source.old) front (S.left source.new)) }
+    ensures steady { IsErrOf result ReadFault.Failed ⊎ (S.faults source.new ≡ S.faults source.old) }
+    ensures rose { IsErrOf result ReadFault.Failed → Rose (S.faults source.old) (S.faults source.new) }
     ensures never_falls { S.faults source.old ≤ S.faults source.new }
     ensures called { S.calls source.new ≤ S.calls source.old + (limit + 1) }
 {

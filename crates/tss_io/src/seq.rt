@@ -1,3 +1,4 @@
+//! A list that contracts see as a plain list.
 ghost use Rattle.std.specs.Slice.Iter.{iter_rest};
 ghost use Rattle.std.specs.Prelude.{◌≡◌, ◌++◌, ◌∷◌, [], List, length, ◌↔◌, IsTrue, OnOk, OnErr};
 
@@ -64,7 +65,7 @@ impl<T> Seq<T> {
         self.items.is_empty()
     }
 
-    /// Puts the item at the end. On `NoMemory` the list is unchanged, and the item is let go.
+    /// Appends the item. On `NoMemory` the list is unchanged, and the item is let go.
     pub fn push(&mut self, item: T) -> Result<(), NoMemory>
     where
         T: Drop,

@@ -1,6 +1,6 @@
 use Rattle.std.proofs.Common.{arith}
 use Rattle.std.proofs.lemmas.Result.{err_from_is_err_and}
-use Rattle.tss_io.proofs.Faults.{same_fault, no_memory-not_failed, no_memory-not_too_long}
+use Rattle.tss_io.proofs.ReadFaults.{same_fault, no_memory-not_failed, no_memory-not_too_long}
 use Rattle.tss_io.proofs.Streams.{Yields-all, Yields-within, Yields-over}
 use Rattle.tss_io.proofs.read.read_all.Goals as goal
 

@@ -1,7 +1,7 @@
-use Rattle.std.proofs.Common.{◌≡◌, ◌++◌, ℕ, List, take, arith}
+use Rattle.std.proofs.Common.{◌≡◌, ◌++◌, ◌∙◌, inr, ℕ, List, take, arith}
 use Rattle.std.proofs.lemmas.List.{length-append, length-take}
 use Rattle.std.proofs.lemmas.Result.{err_from_is_err_and}
-use Rattle.tss_io.proofs.Faults.{failed-not_too_long, no_memory-not_failed, no_memory-not_too_long, Rose-earlier}
+use Rattle.tss_io.proofs.ReadFaults.{failed-not_too_long, no_memory-not_failed, no_memory-not_too_long, Rose-earlier}
 use Rattle.tss_io.proofs.Streams.{Yields-join, Yields-nothing, Yields-end}
 use Rattle.tss_io.proofs.read.read_pieces.Goals as goal
 
@@ -29,6 +29,7 @@ loop-text-preserved g c =
     record {
       within = omega (arith, c.in_ok-extend_from_slice.ensures.len, c.split_at.ensures.front_len, c.in_ok-count.ensures.within, c.split_at_mut-out.ensures.front_len, c.min-room.ensures);
       given = rw items (Yields-join _ _ _ c.loop-text.text.items piece c.loop-text.invariant.given c.in_ok-count.ensures.bytes);
+      steady = c.in_ok-count.ensures.steady ∙ c.loop-text.invariant.steady;
       never_falls = omega (arith, c.loop-text.invariant.never_falls, c.read.ensures.never_falls);
       called = omega (arith, c.loop-text.invariant.called, c.read.ensures.called, c.in_ok-extend_from_slice.ensures.len, c.split_at.ensures.front_len);
     }
@@ -45,7 +46,7 @@ returns-in_err-count-clause-too_long g c = failed-not_too_long _ (err_from_is_er
 pub returns-in_err-count-clause-front : goal.returns-in_err-count-clause-front
 returns-in_err-count-clause-front g c =
     let p = err_from_is_err_and c.from_residual.result c.from_residual.ensures.1 in
-    rw (p.1, c.in_err-count.ensures.kept) (c.loop-text.text.items, omega (arith, c.loop-text.invariant.within), c.loop-text.invariant.given)
+    rw (p.1, c.in_err-count.ensures.err) (c.loop-text.text.items, omega (arith, c.loop-text.invariant.within), c.loop-text.invariant.given)
 
 pub returns-in_err-extend_from_slice-clause-ok : goal.returns-in_err-extend_from_slice-clause-ok
 returns-in_err-extend_from_slice-clause-ok g c =
@@ -64,3 +65,12 @@ returns-clause-too_long g c = λ _. (omega (arith, c.loop-text.invariant.within)
 
 pub returns-clause-front : goal.returns-clause-front
 returns-clause-front g c = (c.loop-text.text.items, omega (arith, c.loop-text.invariant.within), c.loop-text.invariant.given)
+
+pub returns-clause-steady : goal.returns-clause-steady
+returns-clause-steady g c = inr c.loop-text.invariant.steady
+
+pub returns-then-count-eq0-clause-steady : goal.returns-then-count-eq0-clause-steady
+returns-then-count-eq0-clause-steady g c = inr (c.in_ok-count.ensures.steady ∙ c.loop-text.invariant.steady)
+
+pub returns-in_err-extend_from_slice-clause-steady : goal.returns-in_err-extend_from_slice-clause-steady
+returns-in_err-extend_from_slice-clause-steady g c = inr (c.in_ok-count.ensures.steady ∙ c.loop-text.invariant.steady)

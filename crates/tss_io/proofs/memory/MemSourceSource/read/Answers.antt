@@ -1,7 +1,7 @@
 use Rattle.std.proofs.Common.{refl}
 use Rattle.std.proofs.lemmas.List.{drop-drop}
-use Rattle.tss_io.proofs.Streams.{counted-le, same-le, given-front}
-use Rattle.tss_io.proofs.mem_source.MemSourceSource.read.Goals as goal
+use Rattle.tss_io.proofs.Streams.{same-le, given-front}
+use Rattle.tss_io.proofs.memory.MemSourceSource.read.Goals as goal
 
 pub returns-then-is_listed-clause-err : goal.returns-then-is_listed-clause-err
 returns-then-is_listed-clause-err c =
@@ -10,9 +10,6 @@ returns-then-is_listed-clause-err c =
 pub returns-then-is_listed-clause-listed : goal.returns-then-is_listed-clause-listed
 returns-then-is_listed-clause-listed c =
     rw (← c.self.view_is) (rw (c.deref.ensures.value, c.if-is_listed.true) at c.is_listed-is_listed.ensures)
-
-pub returns-clause-called : goal.returns-clause-called
-returns-clause-called c = rw (← c.self.view_is) (counted-le _ _ c.saturating_add-self-inside.ensures)
 
 pub returns-clause-never_falls : goal.returns-clause-never_falls
 returns-clause-never_falls c = rw (← c.self.view_is) (same-le c.self.inside.faults)

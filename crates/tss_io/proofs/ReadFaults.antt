@@ -1,7 +1,7 @@
 -- Which fault a reading met, and counts of faults that rise.
 use Rattle.std.proofs.Common.{◌≡◌, ℕ, ◌≤◌, inl, inr, Result, Err, arith}
-use Rattle.tss_io.specs.declared.read_fault.ReadFault.{ReadFault}
-use Rattle.tss_io.specs.declared.read_fault.ReadFault.TheVariants.{Failed, TooLong, NoMemory}
+use Rattle.tss_io.specs.declared.faults.ReadFault.{ReadFault}
+use Rattle.tss_io.specs.declared.faults.ReadFault.TheVariants.{Failed, TooLong, NoMemory}
 use Rattle.tss_io.specs.Streams.{Rose}
 
 -- a result that is this fault

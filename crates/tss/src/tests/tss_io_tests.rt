@@ -1,4 +1,6 @@
-//! Streams over memory and over std's, numbers and lists.
+//! `tss_io`: streams over memory and over std's, numbers and lists.
+
+ghost use Rattle.std.specs.Prelude.{◌≤◌, IfOk};
 
 use std::alloc::Global;
 use std::io;
@@ -118,63 +120,121 @@ fn memory_is_put(rt: HostRuntime) {
     }
 }
 
-// A stream that interrupts this many calls before each that it serves.
+// Calls in a row that fail with one kind: the kind, the number of the first, how many there are, whether the text goes
+// through, and how many calls are made.
+type Case = (ErrorKind, u32, u32, bool, u32);
+
+// Five bytes are read in four calls.
+const FAILING_READS: [Case; 8] = [
+    (ErrorKind::Interrupted, 0, 16, true, 20),
+    (ErrorKind::Interrupted, 2, 16, true, 20),
+    (ErrorKind::Interrupted, 0, 17, false, 17),
+    (ErrorKind::Interrupted, 3, 17, false, 20),
+    (ErrorKind::PermissionDenied, 0, 1, false, 1),
+    (ErrorKind::WouldBlock, 1, 1, false, 2),
+    (ErrorKind::TimedOut, 2, 1, false, 3),
+    (ErrorKind::UnexpectedEof, 3, 1, false, 4),
+];
+
+// Five bytes are written in three calls, each with a flush behind it.
+const FAILING_WRITES: [Case; 8] = [
+    (ErrorKind::Interrupted, 0, 16, true, 22),
+    (ErrorKind::Interrupted, 3, 16, true, 22),
+    (ErrorKind::Interrupted, 0, 17, false, 17),
+    (ErrorKind::Interrupted, 3, 17, false, 20),
+    (ErrorKind::StorageFull, 0, 1, false, 1),
+    (ErrorKind::BrokenPipe, 1, 1, false, 2),
+    (ErrorKind::WouldBlock, 2, 1, false, 3),
+    (ErrorKind::TimedOut, 3, 1, false, 4),
+];
+
+// A stream of five bytes, two a call at most. So many calls from the first on fail with this kind.
 #[derive(Drop)]
-struct Interrupted {
+struct Stream {
+    kind: ErrorKind,
+    first: u32,
     times: u32,
-    left: u32,
+    calls: u32,
+    moved: usize,
 }
 
-impl Interrupted {
-    fn is_next(&mut self) -> bool {
-        if self.left == 0 {
-            self.left = self.times;
-            return false;
+impl Stream {
+    fn of(case: &Case) -> Stream {
+        let (kind, first, times, _, _) = *case;
+        Stream {
+            kind,
+            first,
+            times,
+            calls: 0,
+            moved: 0,
         }
-        self.left -= 1;
-        true
+    }
+
+    fn call(&mut self, room: usize) -> io::Result<usize>
+        ensures { IfOk result (λ n. n ≤ room) }
+    {
+        let call = self.calls;
+        self.calls = call.saturating_add(1);
+        if call >= self.first && call - self.first < self.times {
+            return Err(self.kind.into());
+        }
+        let count = room.min(2).min(5usize.saturating_sub(self.moved));
+        self.moved = self.moved.saturating_add(count);
+        Ok(count)
     }
 }
 
-impl Read for Interrupted {
+impl Read for Stream {
     fn read(&mut self, buf: &mut [u8]) -> io::Result<usize> {
-        if self.is_next() {
-            return Err(ErrorKind::Interrupted.into());
-        }
-        Ok(0)
+        self.call(buf.len())
     }
 }
 
-impl Write for Interrupted {
+impl Write for Stream {
     fn write(&mut self, buf: &[u8]) -> io::Result<usize> {
-        if self.is_next() {
-            return Err(ErrorKind::Interrupted.into());
-        }
-        Ok(buf.len())
+        self.call(buf.len())
     }
 
     fn flush(&mut self) -> io::Result<()> {
-        if self.is_next() {
-            return Err(ErrorKind::Interrupted.into());
-        }
+        let _ = self.call(0)?;
         Ok(())
     }
 }
 
-fn reads_after(times: u32) -> bool {
-    let mut source = StdSource::new(Interrupted { times, left: times });
-    source.read(&mut [0; 4]).is_ok()
+// Whether all five bytes were read, and in how many calls.
+fn read_through(alloc: Global, case: &Case) -> (bool, u32) {
+    let mut stream = Stream::of(case);
+    let read = read_all(alloc, &mut StdSource::new(&mut stream), 100);
+    (read.is_ok_and(|bytes| bytes.len() == 5), stream.calls)
 }
 
-fn puts_after(times: u32) -> bool {
-    let mut sink = StdSink::new(Interrupted { times, left: times });
-    sink.put(b"ab").is_ok()
+// Whether all five bytes were written, and in how many calls.
+fn written_through(case: &Case) -> (bool, u32) {
+    let mut stream = Stream::of(case);
+    let put = put_all(&mut StdSink::new(&mut stream), b"abcde");
+    (put.is_ok(), stream.calls)
 }
 
 #[test]
-fn interrupted_calls_are_tried_again(rt: HostRuntime) {
-    assert!(rt; reads_after(0) && reads_after(16) && !reads_after(17));
-    assert!(rt; puts_after(0) && puts_after(16) && !puts_after(17));
+fn failing_reads(rt: HostRuntime) {
+    for case in &FAILING_READS {
+        let read = read_through(rt.alloc(), case);
+        let (_, first, times, whole, calls) = *case;
+        assert_eq!(rt; read, (whole, calls), "{times} calls from {first} on fail");
+    }
+}
+
+#[test]
+fn failing_writes(rt: HostRuntime) {
+    for case in &FAILING_WRITES {
+        let written = written_through(case);
+        let (_, first, times, whole, calls) = *case;
+        assert_eq!(rt;
+            written,
+            (whole, calls),
+            "{times} calls from {first} on fail"
+        );
+    }
 }
 
 fn reads_all_of(alloc: Global, text: &[u8]) -> bool {
@@ -201,23 +261,8 @@ fn is_short_slice_a_fault() -> bool {
 }
 
 #[test]
-fn standard_streams_fail(rt: HostRuntime) {
+fn a_full_slice_fails(rt: HostRuntime) {
     assert!(rt; is_short_slice_a_fault());
-    assert!(rt; StdSink::new(Unflushed).put(b"some text") == Err(Failed));
-}
-
-// It takes all, and then can't hand it on.
-#[derive(Drop)]
-struct Unflushed;
-
-impl Write for Unflushed {
-    fn write(&mut self, buf: &[u8]) -> io::Result<usize> {
-        Ok(buf.len())
-    }
-
-    fn flush(&mut self) -> io::Result<()> {
-        Err(ErrorKind::StorageFull.into())
-    }
 }
 
 fn has_both_items(list: &Seq<u32>) -> bool {

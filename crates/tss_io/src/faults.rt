@@ -1,9 +1,13 @@
+//! What can go wrong with a source or a sink.
 ghost use Rattle.std.specs.Prelude.{◌≡◌};
-ghost use Rattle.tss_io.specs.declared.read_fault.ReadFault.TheVariants as faults;
+ghost use Rattle.tss_io.specs.declared.faults.ReadFault.TheVariants as faults;
 
-use crate::failed::Failed;
 use crate::no_memory::NoMemory;
 use std::alloc::AllocError;
+
+/// A call of a source or a sink failed, and its count of faults rose.
+#[derive(Clone, Copy, Debug, PartialEq, Eq)]
+pub struct Failed;
 
 /// Why a source wasn't read to its end.
 #[derive(Clone, Copy, Debug, PartialEq, Eq)]
