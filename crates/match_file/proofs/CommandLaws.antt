@@ -3,11 +3,11 @@ use Rattle.std.proofs.Common.{◌≡◌, ℕ, ◌<◌, ◌≤◌, Bool, true, fa
 use Rattle.std.proofs.lemmas.Bool.{lt-ltb, le-ltb}
 use Rattle.std.proofs.lemmas.List.Recursion.{or_push}
 use Rattle.game_trait.specs.declared.command.Command.{Command}
-use Rattle.tss_io.specs.Reading.{◌>>=◌}
+use Rattle.tss_io.specs.Results.{◌>>=◌}
 use Rattle.match_file.specs.declared.fault.Refused.{Refused}
 use Rattle.match_file.specs.declared.fault.TextFault.{TextFault}
 use Rattle.match_file.specs.declared.fault.TextFault.TheVariants as faults
-use Rattle.match_file.specs.Lines.{Lines, torn, line}
+use Rattle.tss_io.specs.Lines.{Lines, torn, line}
 use Rattle.match_file.specs.Names.{same_numbers, has_command}
 use Rattle.match_file.specs.Reading.{Fails, shape, added, is_closing, line_at, command_at, line_step, commands_step, commands_at}
 

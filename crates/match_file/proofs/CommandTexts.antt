@@ -4,9 +4,9 @@ use Rattle.std.specs.List.{AllByRecursion}
 use Rattle.std.proofs.lemmas.Bool.{le-ltb}
 use Rattle.std.proofs.lemmas.List.{append-nil}
 use Rattle.game_trait.specs.declared.command.Command.{Command}
-use Rattle.tss_io.proofs.Reading.{then, guard_then, ok_is}
+use Rattle.tss_io.proofs.Results.{then, guard_then, ok_is}
 use Rattle.match_file.specs.declared.fault.Refused.{Refused}
-use Rattle.match_file.specs.Lines.{Lines, torn, line, spaced}
+use Rattle.tss_io.specs.Lines.{Lines, torn, line, spaced}
 use Rattle.match_file.specs.Text.{command_line, command_word, script_word, end_word, before}
 use Rattle.match_file.specs.Reading.{shape, is_closing, commands_at}
 use Rattle.match_file.proofs.Spaced.{AreWords}

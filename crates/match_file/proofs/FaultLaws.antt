@@ -5,13 +5,13 @@ use Rattle.game_trait.specs.declared.command.Command.{Command}
 use Rattle.game_trait.specs.declared.command.Act.TheVariants.{Go, Left, Right}
 use Rattle.arena_rules.specs.declared.face.Face.TheVariants.{N, E, S, W}
 use Rattle.tss_io.specs.Decimals.{number_of}
-use Rattle.tss_io.specs.Reading.{◌>>=◌}
+use Rattle.tss_io.specs.Results.{◌>>=◌}
 use Rattle.match_file.specs.declared.fault.Refused.{Refused}
 use Rattle.match_file.specs.declared.fault.TextFault.{TextFault}
 use Rattle.match_file.specs.declared.fault.TextFault.TheVariants as faults
 use Rattle.match_file.specs.declared.opening.Sides.{Sides}
 use Rattle.match_file.specs.declared.script_line.ScriptLine.{ScriptLine}
-use Rattle.match_file.specs.Lines.{Lines, torn, line, words_of, lines_of}
+use Rattle.tss_io.specs.Lines.{Lines, torn, line, words_of, lines_of}
 use Rattle.match_file.specs.Text.{script_word, end_word, face_word, act_word}
 use Rattle.match_file.specs.Reading.{IsShape, Fails, shape, line_at, front_at, last_at, behind, at_least, number_in, front_number_in, last_number_in, keyword_line_at, head_at, number_at, grid_at, opening_at, face_of, player_at, act_of, command_at, added, is_closing, commands_at, tick_at, turn_at, arrive_at, step_at, kind_at, script_line_at, lengthened, is_end, script_at, closing_at, match_at, read_text}
 

@@ -11,13 +11,13 @@ use Rattle.game_trait.specs.declared.command.Command.{Command}
 use Rattle.arena_rules.specs.declared.face.Face.{Face}
 use Rattle.arena_rules.specs.declared.face.Face.TheVariants.{N, E, S, W}
 use Rattle.tss_io.specs.Decimals.{number_of}
-use Rattle.tss_io.specs.Reading.{◌>>=◌}
+use Rattle.tss_io.specs.Results.{◌>>=◌}
 use Rattle.tss_io.proofs.DecimalLaws.{number_of-some, number_of-decimal}
-use Rattle.tss_io.proofs.Reading.{bind_ok, then, guard_ok, unless_ok}
+use Rattle.tss_io.proofs.Results.{bind_ok, then, guard_ok, unless_ok}
 use Rattle.match_file.specs.declared.fault.Refused.{Refused}
 use Rattle.match_file.specs.declared.opening.Opening.{Opening}
 use Rattle.match_file.specs.declared.opening.Sides.{Sides}
-use Rattle.match_file.specs.Lines.{Lines, torn, line, words_of, spaced}
+use Rattle.tss_io.specs.Lines.{Lines, torn, line, words_of, spaced}
 use Rattle.match_file.specs.Names.{is_name}
 use Rattle.match_file.specs.Text.{length_word, grid_word, mirrors_word, delays_word, pace_word, player_word, command_word, head_words, face_word, act_word, player_line, command_line}
 use Rattle.match_file.specs.Reading.{shape, line_at, front_at, last_at, behind, at_least, number_in, front_number_in, last_number_in, keyword_line_at, head_at, number_at, grid_at, opening_at, face_of, PlayerData, player_at, act_of, command_at}

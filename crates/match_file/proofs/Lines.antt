@@ -6,7 +6,7 @@ use Rattle.std.proofs.lemmas.Bool.{eqb-true}
 use Rattle.std.proofs.lemmas.Bool.Decides.{nat_tests}
 use Rattle.std.proofs.lemmas.List.{drop-drop}
 use Rattle.std.proofs.lemmas.Option.{cond_some}
-use Rattle.match_file.specs.Lines.{fronted, cut_at, Lines, torn, line, onto, lines_of, text_of, words_of}
+use Rattle.tss_io.specs.Lines.{fronted, cut_at, Lines, torn, line, onto, lines_of, text_of, words_of}
 
 -- the two parts round a place
 abbrev parts_at : ℕ → List ℕ → Option (List ℕ × List ℕ)

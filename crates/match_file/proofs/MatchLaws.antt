@@ -9,14 +9,14 @@ use Rattle.arena_rules.specs.declared.spot.Spot.{Spot}
 use Rattle.arena_rules.specs.Ground.{Grid, open_grid, is_walled, is_open}
 use Rattle.arena_rules.specs.Setup.{IsLayout}
 use Rattle.arena_rules.proofs.Walls.{is_walled-open_grid, IsGrid-open_grid}
-use Rattle.tss_io.specs.Reading.{◌>>=◌}
-use Rattle.tss_io.proofs.Reading.{then, then_err}
+use Rattle.tss_io.specs.Results.{◌>>=◌}
+use Rattle.tss_io.proofs.Results.{then, then_err}
 use Rattle.match_file.specs.declared.fault.Refused.{Refused}
 use Rattle.match_file.specs.declared.fault.TextFault.{TextFault}
 use Rattle.match_file.specs.declared.fault.TextFault.TheVariants as faults
 use Rattle.match_file.specs.declared.opening.Opening.{Opening}
 use Rattle.match_file.specs.declared.script_line.ScriptLine.{ScriptLine}
-use Rattle.match_file.specs.Lines.{Lines, line, lines_of, text_of, spaced}
+use Rattle.tss_io.specs.Lines.{Lines, line, lines_of, text_of, spaced}
 use Rattle.match_file.specs.Data.{MatchData, IsCommand, IsScriptLine, IsMatch, IsPlain, Rises}
 use Rattle.match_file.specs.Text.{head_words, length_word, grid_word, mirrors_word, delays_word, pace_word, before, below, walls_of, player_lines, player_line, command_line, match_lines, match_text}
 use Rattle.match_file.specs.Reading.{Gives, Fails, IsShape, PlayerData, plain_match, opening_at, player_at, commands_at, closing_at, events_at, match_at, read_text}

@@ -4,7 +4,7 @@ use Rattle.std.specs.List.{AllByRecursion}
 use Rattle.std.proofs.lemmas.Bool.{ltb-true, and_parts}
 use Rattle.game_trait.specs.declared.command.Command.{Command}
 use Rattle.game_trait.specs.Keys.{same_name, NamesDiffer}
-use Rattle.tss_io.proofs.Reading.{unless_ok}
+use Rattle.tss_io.proofs.Results.{unless_ok}
 use Rattle.match_file.specs.Names.{has_command}
 use Rattle.match_file.specs.Reading.{shape, added}
 use Rattle.match_file.proofs.LineLaws.{IsPlainCommand}

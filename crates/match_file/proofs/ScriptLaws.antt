@@ -3,14 +3,14 @@ use Rattle.std.proofs.Common.{◌≡◌, ℕ, Bool, true, false, cond, eqb, ltb,
 use Rattle.std.specs.Prelude.{bytes_eq}
 use Rattle.std.proofs.lemmas.Bool.Decides.{nat_tests}
 use Rattle.game_trait.specs.declared.command.Command.{Command}
-use Rattle.tss_io.specs.Reading.{◌>>=◌}
+use Rattle.tss_io.specs.Results.{◌>>=◌}
 use Rattle.match_file.specs.declared.fault.Refused.{Refused}
 use Rattle.match_file.specs.declared.fault.TextFault.{TextFault}
 use Rattle.match_file.specs.declared.fault.TextFault.TheVariants as faults
 use Rattle.match_file.specs.declared.script_line.ScriptLine.{ScriptLine}
 use Rattle.match_file.specs.declared.script_line.ScriptLine.TheVariants.{Arrive}
 use Rattle.match_file.specs.Names.{has_command}
-use Rattle.match_file.specs.Lines.{Lines, torn, line, onto, lines_of}
+use Rattle.tss_io.specs.Lines.{Lines, torn, line, onto, lines_of}
 use Rattle.match_file.specs.Text.{end_word}
 use Rattle.match_file.specs.Reading.{Fails, shape, is_end, line_at, front_number_in, last_number_in, arrive_at, script_line_at, lengthened, script_line_step, script_step, script_at}
 

@@ -3,10 +3,10 @@ use Rattle.std.proofs.Common.{◌≡◌, ℕ, ◌≤◌, true, List, [], ◌∷�
 use Rattle.std.specs.Prelude.{bytes_eq, decimal}
 use Rattle.std.proofs.lemmas.Fmt.{length-decimal-le}
 use Rattle.game_trait.specs.declared.command.Command.{Command}
-use Rattle.tss_io.proofs.Reading.{then, unless_ok}
+use Rattle.tss_io.proofs.Results.{then, unless_ok}
 use Rattle.match_file.specs.declared.script_line.ScriptLine.{ScriptLine}
 use Rattle.match_file.specs.declared.script_line.ScriptLine.TheVariants.{Tick, Turn, Arrive, Step, World, Run}
-use Rattle.match_file.specs.Lines.{words_of, spaced}
+use Rattle.tss_io.specs.Lines.{words_of, spaced}
 use Rattle.match_file.specs.Names.{has_command}
 use Rattle.match_file.specs.Text.{tick_word, turn_word, arrive_word, step_word, script_line}
 use Rattle.match_file.specs.Reading.{shape, front_at, tick_at, turn_at, arrive_at, step_at, kind_at, script_line_at}

@@ -5,10 +5,10 @@ use Rattle.std.specs.List.{AllByRecursion}
 use Rattle.std.proofs.lemmas.Bool.{le-ltb, lt-ltb, ltb-true, and_parts}
 use Rattle.std.proofs.lemmas.List.{append-nil}
 use Rattle.game_trait.specs.declared.command.Command.{Command}
-use Rattle.tss_io.proofs.Reading.{then, guard_then, unless_ok, unless_then}
+use Rattle.tss_io.proofs.Results.{then, guard_then, unless_ok, unless_then}
 use Rattle.match_file.specs.declared.script_line.ScriptLine.{ScriptLine}
 use Rattle.match_file.specs.declared.script_line.ScriptLine.TheVariants.{Tick, Turn, Arrive, Step, World, Run}
-use Rattle.match_file.specs.Lines.{Lines, torn, line, spaced}
+use Rattle.tss_io.specs.Lines.{Lines, torn, line, spaced}
 use Rattle.match_file.specs.Text.{script_word, end_word, tick_word, turn_word, arrive_word, step_word, script_line, script_lines, before}
 use Rattle.match_file.specs.Reading.{shape, is_end, lengthened, script_at, closing_at}
 use Rattle.match_file.proofs.Spaced.{AreWords, AreLines, AreLines-before}

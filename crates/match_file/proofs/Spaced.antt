@@ -7,8 +7,8 @@ use Rattle.std.proofs.lemmas.Bool.Decides.{nat_tests}
 use Rattle.std.proofs.lemmas.Fmt.{decimal_by_steps}
 use Rattle.std.proofs.lemmas.List.Elements.{All-from_recursion}
 use Rattle.std.proofs.lemmas.List.Splits.{slice_split_none, slice_split_at, join_with_byte-slice_split}
-use Rattle.tss_io.specs.Reading.{as_line}
-use Rattle.match_file.specs.Lines.{Lines, torn, line, lines_of, text_of, words_of, spaced}
+use Rattle.tss_io.specs.Lines.{as_line}
+use Rattle.tss_io.specs.Lines.{Lines, torn, line, lines_of, text_of, words_of, spaced}
 use Rattle.match_file.specs.Names.{is_letter, is_name_byte, is_name}
 use Rattle.match_file.specs.Text.{before}
 

@@ -2,7 +2,7 @@
 use Rattle.std.proofs.Common.{◌≡◌, ℕ, ◌<◌, ◌≤◌, true, false, ltb, List, [], ◌∷◌, length, Option, Some, None, Ok, Err, refl}
 use Rattle.std.specs.Prelude.{option_map}
 use Rattle.std.proofs.lemmas.Bool.{lt-ltb, le-ltb}
-use Rattle.match_file.specs.Lines.{cut_at, lines_of, words_of}
+use Rattle.tss_io.specs.Lines.{cut_at, lines_of, words_of}
 use Rattle.match_file.specs.Reading.{Finds, shape, line_at, front_at, last_at}
 use Rattle.match_file.proofs.Lines.{lines_of-cut, words_by, words_of-cut}
 

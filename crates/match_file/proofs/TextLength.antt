@@ -6,7 +6,7 @@ use Rattle.game_trait.specs.declared.command.Command.{Command}
 use Rattle.match_file.specs.declared.opening.Opening.{Opening}
 use Rattle.match_file.specs.Reading.{PlayerData}
 use Rattle.match_file.specs.declared.script_line.ScriptLine.{ScriptLine}
-use Rattle.match_file.specs.Lines.{Lines, line, text_of, spaced}
+use Rattle.tss_io.specs.Lines.{Lines, line, text_of, spaced}
 use Rattle.match_file.specs.Data.{MatchData, IsPlain}
 use Rattle.match_file.specs.Text.{head_words, length_word, grid_word, mirrors_word, delays_word, pace_word, script_word, end_word, command_line, script_line, before, match_text}
 use Rattle.match_file.proofs.LineLaws.{IsKeyword, length_keyword, grid_keyword, mirrors_keyword, delays_keyword, pace_keyword, head_short, spaced_short, short_number, IsPlainCommand, command_short, player_short}

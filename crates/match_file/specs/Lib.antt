@@ -1,5 +1,4 @@
 pub mod Causes
-pub mod Lines
 pub mod Names
 pub mod Data
 pub mod Text

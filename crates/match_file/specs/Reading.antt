@@ -8,7 +8,7 @@ use Rattle.arena_rules.specs.declared.face.Face.{Face}
 use Rattle.arena_rules.specs.declared.face.Face.TheVariants.{N, E, S, W}
 use Rattle.arena_rules.specs.declared.spot.Spot.{Spot}
 use Rattle.tss_io.specs.Decimals.{number_of}
-use Rattle.tss_io.specs.Reading.{◌>>=◌}
+use Rattle.tss_io.specs.Results.{◌>>=◌}
 use Rattle.match_file.specs.declared.cause.Cause.TheVariants.{Shape}
 use Rattle.match_file.specs.declared.fault.Refused.{Refused}
 use Rattle.match_file.specs.declared.fault.TextFault.{TextFault}
@@ -18,7 +18,7 @@ use Rattle.match_file.specs.declared.opening.Sides.{Sides}
 use Rattle.match_file.specs.declared.player.Player.{Player}
 use Rattle.match_file.specs.declared.script_line.ScriptLine.{ScriptLine}
 use Rattle.match_file.specs.declared.script_line.ScriptLine.TheVariants.{Tick, Turn, Arrive, Step}
-use Rattle.match_file.specs.Lines.{Lines, torn, line, lines_of, words_of, spaced}
+use Rattle.tss_io.specs.Lines.{Lines, torn, line, lines_of, words_of, spaced}
 use Rattle.match_file.specs.Names.{is_name, has_command}
 use Rattle.match_file.specs.Data.{MatchData}
 use Rattle.match_file.specs.Text.{length_word, grid_word, mirrors_word, delays_word, pace_word, player_word, command_word, script_word, end_word, tick_word, turn_word, arrive_word, step_word, head_words, face_word, act_word}

@@ -13,7 +13,7 @@ use Rattle.arena_rules.specs.Ground.{Grid, is_walled}
 use Rattle.arena_rules.specs.Setup.{Cell}
 use Rattle.match_file.specs.declared.script_line.ScriptLine.{ScriptLine}
 use Rattle.match_file.specs.declared.script_line.ScriptLine.TheVariants.{Tick, Turn, Arrive, Step, World, Run}
-use Rattle.match_file.specs.Lines.{Lines, torn, line, text_of, spaced}
+use Rattle.tss_io.specs.Lines.{Lines, torn, line, text_of, spaced}
 use Rattle.match_file.specs.Data.{MatchData}
 
 -- the first words of lines

@@ -1,7 +1,7 @@
 //! The lines of commands.
 
 ghost use Rattle.std.specs.Prelude.{◌≡◌, ◌≤◌, ◌<◌, [], length, IfOk, IfSome, option_map};
-ghost use Rattle.match_file.specs.Lines.{lines_of};
+ghost use Rattle.tss_io.specs.Lines.{lines_of};
 ghost use Rattle.match_file.specs.Names.{has_command};
 ghost use Rattle.match_file.specs.Reading.{Finds, Answers, Gives, act_of, command_at, added, is_closing, commands_step, commands_at};
 

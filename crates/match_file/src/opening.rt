@@ -1,7 +1,7 @@
 //! The lines up to the pace: how long the match is, its grid, its mirrors and their delays. No call takes memory.
 
 ghost use Rattle.std.specs.Prelude.{◌≡◌, ◌≤◌, ◌<◌, IfSome};
-ghost use Rattle.match_file.specs.Lines.{lines_of};
+ghost use Rattle.tss_io.specs.Lines.{lines_of};
 ghost use Rattle.match_file.specs.Reading.{Finds, Answers, head_at, number_at, grid_at, opening_at};
 
 use crate::fault::Refused;
@@ -32,7 +32,7 @@ pub struct Opening {
 }
 
 // The text behind the first line, where that is the head of a match text.
-#[tactic(auto, unfolding(crate::specs::Reading::head_at, crate::specs::Text::head_words, crate::specs::Lines::spaced))]
+#[tactic(auto, unfolding(crate::specs::Reading::head_at, crate::specs::Text::head_words, tss_io::specs::Lines::spaced))]
 fn read_head(text: &[u8]) -> Option<&[u8]>
     ensures { Finds (λ x. lines_of x.now) result (head_at (lines_of text.now)) }
 {

@@ -2,7 +2,7 @@
 
 ghost use Rattle.std.specs.Prelude.{◌≡◌};
 ghost use Rattle.std.specs.List.{list_all};
-ghost use Rattle.match_file.specs.Lines.{lines_of};
+ghost use Rattle.tss_io.specs.Lines.{lines_of};
 ghost use Rattle.match_file.specs.Names.{is_letter, is_name_byte, is_name};
 ghost use Rattle.match_file.specs.Reading.{Finds, Answers, face_of, player_at, player_seen};
 

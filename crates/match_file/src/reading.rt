@@ -1,6 +1,6 @@
 ghost use Rattle.std.specs.Prelude.{◌≡◌, ◌≤◌, length, [], ◌∷◌, Ok, IfOk, IfErr};
 ghost use Rattle.arena_rules.specs.Ground.{open_grid};
-ghost use Rattle.match_file.specs.Lines.{lines_of};
+ghost use Rattle.tss_io.specs.Lines.{lines_of};
 ghost use Rattle.match_file.specs.Data.{MatchData, IsMatch, IsPlain};
 ghost use Rattle.match_file.specs.Text.{match_text};
 ghost use Rattle.match_file.specs.Reading.{Gives, IsShape, player_seen, events_at, plain_match, read_text};

@@ -1,7 +1,7 @@
 //! The lines of the script, and the end of the text.
 
 ghost use Rattle.std.specs.Prelude.{◌≡◌, ◌<◌, ◌&&◌, nat_lt, [], length, IfOk, IfSome, option_map};
-ghost use Rattle.match_file.specs.Lines.{lines_of, words_of};
+ghost use Rattle.tss_io.specs.Lines.{lines_of, words_of};
 ghost use Rattle.match_file.specs.Reading.{Answers, Gives, tick_at, turn_at, arrive_at, step_at, kind_at, script_line_at, lengthened, is_end, script_step, script_at, closing_at};
 
 use crate::commands::{Commands, GREATEST_NUMBER};

@@ -1,7 +1,7 @@
 //! Lines and the words in them. No call takes memory.
 
 ghost use Rattle.std.specs.Prelude.{◌≡◌, ◌≤◌, ◌<◌, length, ◌==◌, IfSome, option_map, position};
-ghost use Rattle.match_file.specs.Lines.{cut_at, lines_of, words_of};
+ghost use Rattle.tss_io.specs.Lines.{cut_at, lines_of, words_of};
 ghost use Rattle.match_file.specs.Reading.{Finds, line_at, front_at, last_at, behind, keyword_line_at, number_in, front_number_in, last_number_in};
 
 use crate::cause::Cause;

@@ -1,4 +1,5 @@
 pub mod DecimalLaws
 pub mod Faults
-pub mod Reading
+pub mod Printing
+pub mod Results
 pub mod Streams

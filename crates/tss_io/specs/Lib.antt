@@ -1,5 +1,7 @@
 pub mod Decimals
 pub mod Errors
+pub mod Lines
 pub mod Memory
-pub mod Reading
+pub mod Results
 pub mod Streams
+pub mod Words

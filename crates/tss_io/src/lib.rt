@@ -3,6 +3,7 @@
 
 mod decimals;
 mod failed;
+mod line;
 mod listing;
 mod mem_sink;
 mod mem_source;
@@ -19,6 +20,7 @@ mod std_source;
 
 pub use decimals::{decimal, push_decimal};
 pub use failed::Failed;
+pub use line::{Word, push_line};
 pub use mem_sink::MemSink;
 pub use mem_source::MemSource;
 pub use no_memory::NoMemory;

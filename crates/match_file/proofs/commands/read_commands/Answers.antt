@@ -1,6 +1,6 @@
 use Rattle.std.proofs.Common.{[]}
 use Rattle.std.proofs.lemmas.Result.{err_from_is_err_and}
-use Rattle.match_file.specs.Lines.{lines_of}
+use Rattle.tss_io.specs.Lines.{lines_of}
 use Rattle.match_file.specs.Reading.{commands_at}
 use Rattle.match_file.proofs.CommandLaws.{steps_go_on, steps_end, steps_fail}
 use Rattle.match_file.proofs.commands.read_commands.Goals as goal

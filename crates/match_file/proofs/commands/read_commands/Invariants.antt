@@ -1,5 +1,5 @@
 use Rattle.std.proofs.Common.{◌≡◌, length, []}
-use Rattle.match_file.specs.Lines.{lines_of}
+use Rattle.tss_io.specs.Lines.{lines_of}
 use Rattle.match_file.specs.Reading.{commands_at}
 use Rattle.match_file.proofs.commands.read_commands.Given as goal
 

@@ -1,5 +1,5 @@
 use Rattle.std.proofs.Common.{refl}
-use Rattle.tss_io.proofs.Reading.{then, then_err}
+use Rattle.tss_io.proofs.Results.{then, then_err}
 use Rattle.match_file.specs.Text.{length_word, mirrors_word, delays_word, pace_word}
 use Rattle.match_file.specs.Reading.{opening_at}
 use Rattle.match_file.proofs.opening.read_opening.Goals as goal

@@ -1,5 +1,5 @@
 use Rattle.std.proofs.lemmas.Result.{err_from_is_err_and}
-use Rattle.match_file.specs.Lines.{lines_of}
+use Rattle.tss_io.specs.Lines.{lines_of}
 use Rattle.match_file.specs.Reading.{player_seen, read_text}
 use Rattle.match_file.proofs.LineLaws.{opening_takes}
 use Rattle.match_file.proofs.MatchLaws.{is_match, events_read, events_refused}

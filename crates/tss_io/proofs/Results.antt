@@ -1,7 +1,7 @@
 -- Laws of reading step by step.
 use Rattle.std.proofs.Common.{◌≡◌, ◌⊎◌, inl, inr, Bool, true, false, cond, Option, Some, None, Result, Ok, Err, refl}
 use Rattle.std.specs.Prelude.{ok_or}
-use Rattle.tss_io.specs.Reading.{◌>>=◌}
+use Rattle.tss_io.specs.Results.{◌>>=◌}
 
 -- The first step gave something, and the next read on from it.
 pub bind_ok : {A B E : Type 0} (r : Result A E) (f : A → Result B E) (y : B) → (r >>= f) ≡ Ok y → (x : A) × (r ≡ Ok x) × (f x ≡ Ok y)
