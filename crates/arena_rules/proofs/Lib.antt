@@ -1,5 +1,8 @@
 pub mod Walls
+pub mod Ahead
 pub mod Names
 pub mod Cells
-pub mod Soundness
-pub mod Lines
+pub mod Changes
+pub mod Hits
+pub mod Flights
+pub mod Returns

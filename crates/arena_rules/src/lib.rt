@@ -1,18 +1,17 @@
 //! The rules of the arena: its ground, its players and its worlds, the game that mirrors keep in step.
 #![tactic(auto)]
 
-mod arena;
 mod face;
 mod ground;
-mod line;
 mod pickup;
 mod player;
+mod returning;
 mod roster;
 mod setup;
+mod shot;
 mod shown;
 mod spot;
 
-pub use arena::Arena;
 pub use face::Face;
 pub use ground::Ground;
 pub use pickup::{Kind, PickupSpot};
