@@ -1,5 +1,7 @@
 -- One player changed among the players.
-use Rattle.std.proofs.Common.{◌≡◌, ℕ, zero, suc, ◌<◌, List, [], ◌∷◌, length, get_or, set, refl, ap, arith}
+use Rattle.std.proofs.Common.{◌≡◌, ℕ, zero, suc, ◌<◌, ◌≤◌, List, [], ◌∷◌, length, get_or, set, refl, ap, arith, take_all, length-set}
+use Rattle.std.specs.List.{refill}
+use Rattle.std.proofs.lemmas.List.{take-append-le}
 use Rattle.arena_rules.specs.Player.{changed}
 use Rattle.arena_rules.specs.declared.player.Player.{Player}
 
@@ -16,3 +18,13 @@ unfolding changed
 length-changed [] number change = refl
 length-changed (player ∷ players) zero change = refl
 length-changed (player ∷ players) (suc number) change = ap (λ n. suc n) (length-changed players number change)
+
+-- a slice that is written back whole
+pub refill-same : {X : Type 0} (xs ys : List X) → length ys ≡ length xs → refill (length xs) xs ys ≡ ys
+refill-same xs ys same =
+    let below : length xs ≤ length ys = omega arith in
+    let above : length ys ≤ length xs = omega arith in
+    rw (take-append-le, take_all (length xs) ys above) refl
+
+pub refill-set : {X : Type 0} (xs : List X) (i : ℕ) (x : X) → refill (length xs) xs (set xs i x) ≡ set xs i x
+refill-set xs i x = refill-same xs (set xs i x) (length-set xs i x)

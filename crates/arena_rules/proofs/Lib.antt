@@ -6,3 +6,8 @@ pub mod Changes
 pub mod Hits
 pub mod Flights
 pub mod Returns
+pub mod Players
+pub mod Shots
+pub mod Dead
+pub mod Lying
+pub mod Worlds

@@ -5,7 +5,7 @@ use Rattle.game_trait.specs.declared.command.Act.TheVariants.{Go, Left, Right, S
 use Rattle.game_trait.specs.declared.command.Command.{Command}
 use Rattle.arena_rules.specs.Ground.{Grid, is_open}
 use Rattle.arena_rules.specs.Setup.{Cell, spot_cell}
-use Rattle.arena_rules.specs.Player.{alive, is_held}
+use Rattle.arena_rules.specs.Player.{alive, turned_to, is_held}
 use Rattle.arena_rules.specs.Pickup.{ready_kind, taken, given}
 use Rattle.arena_rules.specs.Scene.{World}
 use Rattle.arena_rules.specs.declared.face.Face.{Face}
@@ -65,7 +65,7 @@ with_player world number player = record world { players = slice_set world.playe
 
 -- the world after the player of this number turns
 abbrev pub turned : World → ℕ → (Face → Face) → World
-turned world number turn = by_player world number (λ player body. with_player world number (alive player (record body { spot = record body.spot { face = turn body.spot.face } })))
+turned world number turn = by_player world number (λ player body. with_player world number (alive player (turned_to body (turn body.spot.face))))
 
 -- the world after a player comes to the cell of this body, and takes what lies ready there
 abbrev pub arrived : World → ℕ → Player → Body → World

@@ -2,6 +2,7 @@
 use Rattle.std.specs.Prelude.{ℕ, zero, suc, ◌-◌, ℤ, pos, neg_ℤ, ◌+ℤ◌, ◌-ℤ◌, int_lt, Bool, true, false, ◌==◌, if◌then◌else◌, List, [], ◌∷◌, map, Option, Some, None, position}
 use Rattle.std.specs.List.{list_any}
 use Rattle.arena_rules.specs.Setup.{Cell, same_cell, spot_cell}
+use Rattle.arena_rules.specs.declared.face.Face.{Face}
 use Rattle.arena_rules.specs.declared.spot.Spot.{Spot}
 use Rattle.arena_rules.specs.declared.player.Body.{Body}
 use Rattle.arena_rules.specs.declared.player.Player.{Player}
@@ -11,6 +12,10 @@ use Rattle.arena_rules.specs.declared.player.State.TheVariants.{Live, Dead}
 -- a live player with this body
 abbrev pub alive : Player → Body → Player
 alive player body = record player { state = Live body }
+
+-- a body with another facing
+abbrev pub turned_to : Body → Face → Body
+turned_to body face = record body { spot = record body.spot { face = face } }
 
 -- who comes home stands there with the home's facing, health 3 and ammunition 5
 abbrev pub body_at_home : Spot → Body

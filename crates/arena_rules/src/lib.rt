@@ -1,6 +1,7 @@
 //! The rules of the arena: its ground, its players and its worlds, the game that mirrors keep in step.
 #![tactic(auto)]
 
+mod arena;
 mod face;
 mod ground;
 mod pickup;
@@ -12,6 +13,7 @@ mod shot;
 mod shown;
 mod spot;
 
+pub use arena::Arena;
 pub use face::Face;
 pub use ground::Ground;
 pub use pickup::{Kind, PickupSpot};

@@ -1,8 +1,12 @@
-ghost use Rattle.std.specs.Prelude.{◌≡◌, map};
+ghost use Rattle.std.specs.Prelude.{◌≡◌, ◌≤◌, map, length};
 ghost use Rattle.arena_rules.specs.Setup.{spot_cell};
 ghost use Rattle.arena_rules.specs.Pickup.{opening_pickup, lies_ready, ready_kind, emptied, taken, waited};
 
 use crate::spot::Spot;
+use arrayvec::ArrayVec;
+
+// The greatest number of pickups.
+pub const MOST_PICKUPS: usize = 32;
 
 /// What a pickup gives to the player who takes it.
 #[derive(Clone, Copy, Debug, Default, PartialEq, Eq)]
@@ -97,4 +101,16 @@ pub fn wait(pickups: &mut [Pickup])
     for pickup in pickups.iter_mut() {
         *pickup = pickup.waited();
     }
+}
+
+// The pickups as the match begins.
+pub fn all_ready(places: &[PickupSpot]) -> ArrayVec<Pickup, MOST_PICKUPS>
+    requires { length places.now ≤ 32 }
+    ensures { result.items ≡ map opening_pickup places.now }
+{
+    let mut pickups = ArrayVec::new();
+    for place in places {
+        pickups.push(Pickup::ready(*place));
+    }
+    pickups
 }

@@ -1,10 +1,15 @@
-ghost use Rattle.std.specs.Prelude.{◌≡◌, ◌<◌, ℤ, int_lt, length};
+ghost use Rattle.std.specs.Prelude.{◌≡◌, ◌≤◌, map, length};
 ghost use Rattle.arena_rules.specs.Setup.{spot_cell};
-ghost use Rattle.arena_rules.specs.Player.{opening_player, body_at_home, alive, stands_in, is_held, holder, is_live, struck, with_gain, with_loss};
+ghost use Rattle.arena_rules.specs.Player.{opening_player, body_at_home, turned_to, alive, stands_in, is_held, holder, is_live, struck, with_gain, with_loss};
 ghost use Rattle.arena_rules.specs.Pickup.{given};
 
+use crate::face::Face;
 use crate::pickup::Kind;
 use crate::spot::Spot;
+use arrayvec::ArrayVec;
+
+// The greatest number of players.
+pub const MOST_PLAYERS: usize = 32;
 
 // A live player's body.
 #[derive(Clone, Copy, Debug, Default, PartialEq, Eq)]
@@ -25,6 +30,15 @@ impl Body {
             spot: home,
             health: 3,
             ammo: 5,
+        }
+    }
+
+    pub fn turned_to(self, face: Face) -> Body
+        ensures { result ≡ turned_to self face }
+    {
+        Body {
+            spot: Spot { face, ..self.spot },
+            ..self
         }
     }
 }
@@ -162,4 +176,16 @@ pub fn holder(players: &[Player], spot: Spot) -> Option<usize>
     ensures { result ≡ holder players.now (spot_cell spot) }
 {
     players.iter().position(|p| p.stands_in(spot))
+}
+
+// The players as the match begins.
+pub fn all_at_home(homes: &[Spot]) -> ArrayVec<Player, MOST_PLAYERS>
+    requires { length homes.now ≤ 32 }
+    ensures { result.items ≡ map opening_player homes.now }
+{
+    let mut players = ArrayVec::new();
+    for home in homes {
+        players.push(Player::at_home(*home));
+    }
+    players
 }

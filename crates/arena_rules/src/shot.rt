@@ -20,6 +20,17 @@ pub struct Shot {
 }
 
 impl Shot {
+    // A shot as it is fired.
+    pub fn fired(owner: u8, spot: Spot) -> Shot
+        ensures { result ≡ record { owner = owner; spot = spot; left = 8 } }
+    {
+        Shot {
+            owner,
+            spot,
+            left: 8,
+        }
+    }
+
     // The shot in its next cell, where it flies on.
     fn flying(self, spot: Spot) -> Option<Shot>
         ensures { result ≡ flying self spot }

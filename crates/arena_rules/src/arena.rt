@@ -1,0 +1,224 @@
+ghost use Rattle.std.specs.Prelude.{◌≡◌, ◌<◌, length, OnSome, slice_get, option_map};
+ghost use Rattle.arena_rules.specs.Setup.{layout_of, IsLayout};
+ghost use Rattle.arena_rules.specs.Command.{with_player, arrived, turned, gone, shot_by, applied, turned_left, turned_right};
+ghost use Rattle.arena_rules.specs.Beat.{beaten};
+ghost use Rattle.arena_rules.specs.World.{opening_world, IsWorld};
+
+use crate::ground::Ground;
+use crate::pickup::{MOST_PICKUPS, Pickup, all_ready, ready_kind, take, wait};
+use crate::player::{Body, MOST_PLAYERS, Player, State, all_at_home, is_held};
+use crate::returning::return_all;
+use crate::setup::Setup;
+use crate::shot::{MOST_SHOTS, Shot, fly_all};
+use arrayvec::ArrayVec;
+use game_trait::{Act, Command, Game, Tick};
+use std::marker::Model;
+
+/// A world of the arena: its ground, players, shots, pickups and time. No two live players ever share a cell, and no live
+/// player, shot or pickup stands on a wall or outside the grid. It has a fixed size.
+#[derive(Debug, Drop)]
+pub struct Arena {
+    ground: Ground,
+    players: ArrayVec<Player, MOST_PLAYERS>,
+    shots: ArrayVec<Shot, MOST_SHOTS>,
+    pickups: ArrayVec<Pickup, MOST_PICKUPS>,
+    time: Tick,
+}
+
+impl Model for Arena {
+    ghost use Rattle.arena_rules.specs.World.{World, IsWorld};
+
+    ghost Value = { World };
+
+    ghost view = { λ a. record { grid = a.ground; players = a.players.items; shots = a.shots.items; pickups = a.pickups.items; time = a.time } };
+
+    ghost invariant = { λ a. IsWorld (record { grid = a.ground; players = a.players.items; shots = a.shots.items; pickups = a.pickups.items; time = a.time }) };
+}
+
+impl Arena {
+    /// The world as a match of this setup begins: every player is live at home with health 3, ammunition 5 and score 0, no shot
+    /// flies, every pickup lies ready, and the time is 0. The setup must be one that a match text can give. It takes no memory.
+    pub fn start(setup: &Setup) -> Arena
+        requires { IsLayout (layout_of setup.now) }
+        ensures opening { result ≡ opening_world (layout_of setup.now) }
+        ensures sound { IsWorld result }
+    {
+        Arena {
+            ground: setup.ground,
+            players: all_at_home(&setup.players),
+            shots: ArrayVec::new(),
+            pickups: all_ready(&setup.pickups),
+            time: 0,
+        }
+    }
+
+    /// The number of ticks that have ended, which stays at 4,294,967,295 once there.
+    pub fn time(&self) -> Tick
+        ensures value { result ≡ self.now.time }
+        ensures sound { IsWorld self.now }
+    {
+        self.time
+    }
+
+    /// The score of the player of this number, counted from 0, who must be there: from -1,000,000 to 1,000,000.
+    pub fn score(&self, player: u8) -> i32
+        requires { player < length self.now.players }
+        ensures { option_map (λ p. p.score) (slice_get self.now.players player) ≡ Some result }
+    {
+        self.players[player as usize].score
+    }
+
+    // The player of this number, if there is one.
+    fn player(&self, number: u8) -> Option<Player>
+        ensures player { result ≡ slice_get self.now.players number }
+        ensures there { OnSome result (number < length self.now.players) }
+        ensures sound { IsWorld self.now }
+    {
+        self.players.get(number as usize).copied()
+    }
+
+    // Puts a player in the place of the one of this number.
+    fn put(&mut self, number: u8, player: Player)
+        requires there { number < length self.old.players }
+        requires sound { IsWorld (with_player self.old number player) }
+        ensures put { self.new ≡ with_player self.old number player }
+    {
+        self.players[number as usize] = player;
+    }
+
+    // The player of this number, who has this body, comes to this spot, and takes what lies ready there.
+    fn arrive(&mut self, number: u8, player: Player, body: Body)
+        requires there { number < length self.old.players }
+        requires sound { IsWorld (arrived self.old number player body) }
+        ensures arrived { self.new ≡ arrived self.old number player body }
+    {
+        let kind = ready_kind(&self.pickups, body.spot);
+        self.players[number as usize] = player.given(body, kind);
+        take(&mut self.pickups, body.spot);
+    }
+
+    // A player goes one cell ahead.
+    #[tactic(auto, unfolding(crate::specs::Command::gone))]
+    fn go(&mut self, number: u8)
+        ensures gone { self.new ≡ gone self.old number }
+    {
+        let Some(player) = self.player(number) else {
+            return;
+        };
+        let State::Live(body) = player.state else {
+            return;
+        };
+        let Some(spot) = self.ground.open_ahead(body.spot) else {
+            return;
+        };
+        if !is_held(&self.players, spot) {
+            self.arrive(number, player, Body { spot, ..body });
+        }
+    }
+
+    // A player turns to the left.
+    fn turn_left(&mut self, number: u8)
+        ensures turned { self.new ≡ turned self.old number turned_left }
+    {
+        let Some(player) = self.player(number) else {
+            return;
+        };
+        if let State::Live(body) = player.state {
+            let face = body.spot.face.turned_left();
+            self.put(number, player.with_body(body.turned_to(face)));
+        }
+    }
+
+    // A player turns to the right.
+    fn turn_right(&mut self, number: u8)
+        ensures turned { self.new ≡ turned self.old number turned_right }
+    {
+        let Some(player) = self.player(number) else {
+            return;
+        };
+        if let State::Live(body) = player.state {
+            let face = body.spot.face.turned_right();
+            self.put(number, player.with_body(body.turned_to(face)));
+        }
+    }
+
+    // A player shoots.
+    fn shoot(&mut self, number: u8)
+        ensures shot { self.new ≡ shot_by self.old number }
+    {
+        let Some(player) = self.player(number) else {
+            return;
+        };
+        let State::Live(body) = player.state else {
+            return;
+        };
+        if body.ammo == 0 || self.shots.is_full() {
+            return;
+        }
+        let ammo = body.ammo - 1;
+        self.players[number as usize] = player.with_body(Body { ammo, ..body });
+        self.shots.push(Shot::fired(number, body.spot));
+    }
+}
+
+impl Game for Arena {
+    ghost use Rattle.arena_rules.specs.World.{arena_rules};
+
+    ghost rules = { arena_rules };
+
+    /// A command of a player who isn't there or is dead changes nothing, nor does a step into a cell that is walled, held by
+    /// another live player or outside the grid, nor a shot without ammunition or beside 64 others.
+    #[tactic(auto, unfolding(crate::specs::Command::applied))]
+    fn apply(&mut self, x: &Command)
+        ensures applied { self.new ≡ applied self.old x.now }
+        ensures sound { IsWorld self.new }
+    {
+        // Reads the world, whose invariant the answers below rest on.
+        let _ = &self.time;
+        match x.act {
+            Act::Go => self.go(x.player),
+            Act::Left => self.turn_left(x.player),
+            Act::Right => self.turn_right(x.player),
+            Act::Shoot => self.shoot(x.player),
+            Act::Dash => {
+                self.go(x.player);
+                self.go(x.player);
+            }
+        }
+    }
+
+    /// The shots fly, the dead wait and return, the pickups wait, and the time rises by one.
+    fn beat(&mut self)
+        ensures beaten { self.new ≡ beaten self.old }
+        ensures sound { IsWorld self.new }
+    {
+        self.shots = fly_all(&self.ground, &mut self.players, &self.shots);
+        return_all(&mut self.players);
+        wait(&mut self.pickups);
+        self.time = self.time.saturating_add(1);
+    }
+
+    fn set_from(&mut self, other: &Self)
+        ensures equal { self.new ≡ other.now }
+        ensures sound { IsWorld self.new }
+    {
+        self.ground = other.ground;
+        self.players = other.players.clone().unwrap();
+        self.shots = other.shots.clone().unwrap();
+        self.pickups = other.pickups.clone().unwrap();
+        self.time = other.time;
+    }
+
+    fn twin(&self) -> Self
+        ensures equal { result ≡ self.now }
+        ensures sound { IsWorld result }
+    {
+        Arena {
+            ground: self.ground,
+            players: self.players.clone().unwrap(),
+            shots: self.shots.clone().unwrap(),
+            pickups: self.pickups.clone().unwrap(),
+            time: self.time,
+        }
+    }
+}
