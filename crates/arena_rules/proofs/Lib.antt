@@ -11,3 +11,5 @@ pub mod Shots
 pub mod Dead
 pub mod Lying
 pub mod Worlds
+pub mod Lines
+pub mod Same

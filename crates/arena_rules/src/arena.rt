@@ -1,18 +1,23 @@
-ghost use Rattle.std.specs.Prelude.{◌≡◌, ◌<◌, length, OnSome, slice_get, option_map};
+ghost use Rattle.std.specs.Prelude.{◌≡◌, ◌↔◌, ◌<◌, ◌++◌, IsTrue, length, take, OnOk, OnSome, slice_get, option_map};
+ghost use Rattle.arena_rules.specs.Block.{block_of};
 ghost use Rattle.arena_rules.specs.Setup.{layout_of, IsLayout};
 ghost use Rattle.arena_rules.specs.Command.{with_player, arrived, turned, gone, shot_by, applied, turned_left, turned_right};
 ghost use Rattle.arena_rules.specs.Beat.{beaten};
 ghost use Rattle.arena_rules.specs.World.{opening_world, IsWorld};
 
+use crate::block::{push_pickups, push_players, push_shots};
 use crate::ground::Ground;
 use crate::pickup::{MOST_PICKUPS, Pickup, all_ready, ready_kind, take, wait};
 use crate::player::{Body, MOST_PLAYERS, Player, State, all_at_home, is_held};
 use crate::returning::return_all;
+use crate::roster::Roster;
 use crate::setup::Setup;
 use crate::shot::{MOST_SHOTS, Shot, fly_all};
+use crate::shown::Shown;
 use arrayvec::ArrayVec;
 use game_trait::{Act, Command, Game, Tick};
 use std::marker::Model;
+use tss_io::NoMemory;
 
 /// A world of the arena: its ground, players, shots, pickups and time. No two live players ever share a cell, and no live
 /// player, shot or pickup stands on a wall or outside the grid. It has a fixed size.
@@ -66,6 +71,27 @@ impl Arena {
         ensures { option_map (λ p. p.score) (slice_get self.now.players player) ≡ Some result }
     {
         self.players[player as usize].score
+    }
+
+    /// Whether the other world is the same: ground, players, shots, pickups and time.
+    pub fn same(&self, other: &Arena) -> bool
+        ensures { IsTrue result ↔ (self.now ≡ other.now) }
+    {
+        self.time == other.time
+            && self.ground == other.ground
+            && are_same_players(&self.players, &other.players)
+            && are_same_shots(&self.shots, &other.shots)
+            && are_same_pickups(&self.pickups, &other.pickups)
+    }
+
+    // Appends the lines after the block's head. On `NoMemory` some may have been appended.
+    fn push_lines(&self, roster: &Roster, out: &mut Vec<u8>) -> Result<(), NoMemory>
+        ensures ok { OnOk result (out.new.items ≡ out.old.items ++ block_of self.now roster.now) }
+        ensures front { take (length out.old.items) out.new.items ≡ out.old.items }
+    {
+        push_players(&self.players, roster, out)?;
+        push_shots(&self.shots, roster, out)?;
+        push_pickups(&self.pickups, out)
     }
 
     // The player of this number, if there is one.
@@ -221,4 +247,39 @@ impl Game for Arena {
             time: self.time,
         }
     }
+}
+
+impl Shown for Arena {
+    ghost use Rattle.arena_rules.specs.Block.{block_of};
+
+    ghost lines = { block_of };
+
+    fn block(&self, roster: &Roster, out: &mut Vec<u8>) -> Result<(), NoMemory> {
+        let length = out.len();
+        match self.push_lines(roster, out) {
+            Ok(()) => Ok(()),
+            Err(fault) => {
+                out.truncate(length);
+                Err(fault)
+            }
+        }
+    }
+}
+
+fn are_same_players(a: &[Player], b: &[Player]) -> bool
+    ensures { IsTrue result ↔ (a.now ≡ b.now) }
+{
+    a == b
+}
+
+fn are_same_shots(a: &[Shot], b: &[Shot]) -> bool
+    ensures { IsTrue result ↔ (a.now ≡ b.now) }
+{
+    a == b
+}
+
+fn are_same_pickups(a: &[Pickup], b: &[Pickup]) -> bool
+    ensures { IsTrue result ↔ (a.now ≡ b.now) }
+{
+    a == b
 }

@@ -1,5 +1,5 @@
-ghost use Rattle.std.specs.Prelude.{◌≡◌, ◌≤◌, ◌<◌};
-ghost use Rattle.arena_rules.specs.Ground.{open_grid, with_wall, is_walled, is_open, is_free, IsGrid};
+ghost use Rattle.std.specs.Prelude.{◌≡◌, ℕ, ◌≤◌, ◌<◌, ◌↔◌, ◌⊎◌};
+ghost use Rattle.arena_rules.specs.Ground.{open_grid, with_wall, is_walled, IsWalled, is_open, is_free, IsGrid};
 ghost use Rattle.arena_rules.specs.Command.{open_spot, open_ahead};
 
 use crate::face::Face;
@@ -33,6 +33,7 @@ impl Ground {
         requires width { (3 ≤ width) × (width ≤ 64) }
         requires height { (1 ≤ height) × (height ≤ 64) }
         ensures open { result ≡ open_grid width height }
+        ensures no_wall { (x y : ℕ) → ¬ IsWalled result x y }
         ensures sound { IsGrid result }
     {
         Ground {
@@ -47,6 +48,8 @@ impl Ground {
         requires column { x < self.old.width }
         requires row { y < self.old.height }
         ensures walled { self.new ≡ with_wall self.old x y }
+        ensures cells { (a b : ℕ) → IsWalled self.new a b ↔ (IsWalled self.old a b ⊎ ((a ≡ x) × (b ≡ y))) }
+        ensures sides { (self.new.width ≡ self.old.width) × (self.new.height ≡ self.old.height) }
         ensures sound { IsGrid self.new }
     {
         let row = self.walls[y as usize];

@@ -2,6 +2,7 @@
 #![tactic(auto)]
 
 mod arena;
+mod block;
 mod face;
 mod ground;
 mod pickup;

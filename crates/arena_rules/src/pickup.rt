@@ -1,9 +1,11 @@
-ghost use Rattle.std.specs.Prelude.{◌≡◌, ◌≤◌, map, length};
+ghost use Rattle.std.specs.Prelude.{◌≡◌, ◌≤◌, ◌++◌, map, length, OnOk, OnErr};
+ghost use Rattle.arena_rules.specs.Block.{kind_word, item_line};
 ghost use Rattle.arena_rules.specs.Setup.{spot_cell};
 ghost use Rattle.arena_rules.specs.Pickup.{opening_pickup, lies_ready, ready_kind, emptied, taken, waited};
 
 use crate::spot::Spot;
 use arrayvec::ArrayVec;
+use tss_io::{NoMemory, Word, push_line};
 
 // The greatest number of pickups.
 pub const MOST_PICKUPS: usize = 32;
@@ -39,7 +41,36 @@ pub struct Pickup {
     pub wait: u8,
 }
 
+impl Kind {
+    // The word of the kind, as texts have it.
+    fn word(self) -> &'static [u8]
+        ensures { result.now ≡ kind_word self }
+    {
+        match self {
+            Kind::Ammo => b"ammo",
+            Kind::Heal => b"heal",
+            Kind::Gold => b"gold",
+        }
+    }
+}
+
 impl Pickup {
+    // Appends the pickup's line: its cell, its kind and its wait. On `NoMemory` `out` is unchanged.
+    #[tactic(auto, unfolding(crate::specs::Block::item_line))]
+    pub fn push_line(&self, out: &mut Vec<u8>) -> Result<(), NoMemory>
+        ensures ok { OnOk result (out.new.items ≡ out.old.items ++ item_line self.now) }
+        ensures err { OnErr result (out.new.items ≡ out.old.items) }
+    {
+        let words = [
+            Word::Text(b"item"),
+            Word::Number(i64::from(self.place.x)),
+            Word::Number(i64::from(self.place.y)),
+            Word::Text(self.place.kind.word()),
+            Word::Number(i64::from(self.wait)),
+        ];
+        push_line(out, &words)
+    }
+
     // A pickup as the match begins.
     pub fn ready(place: PickupSpot) -> Pickup
         ensures { result ≡ opening_pickup place }

@@ -1,4 +1,5 @@
-ghost use Rattle.std.specs.Prelude.{◌≡◌, ◌≤◌, map, length};
+ghost use Rattle.std.specs.Prelude.{◌≡◌, ◌≤◌, ◌++◌, map, length, OnOk, OnErr};
+ghost use Rattle.arena_rules.specs.Block.{player_line};
 ghost use Rattle.arena_rules.specs.Setup.{spot_cell};
 ghost use Rattle.arena_rules.specs.Player.{opening_player, body_at_home, turned_to, alive, stands_in, is_held, holder, is_live, struck, with_gain, with_loss};
 ghost use Rattle.arena_rules.specs.Pickup.{given};
@@ -7,6 +8,7 @@ use crate::face::Face;
 use crate::pickup::Kind;
 use crate::spot::Spot;
 use arrayvec::ArrayVec;
+use tss_io::{NoMemory, Word, push_line};
 
 // The greatest number of players.
 pub const MOST_PLAYERS: usize = 32;
@@ -103,6 +105,40 @@ impl Player {
         match self.state {
             State::Live(body) => spot.x == body.spot.x && spot.y == body.spot.y,
             State::Dead { .. } => false,
+        }
+    }
+
+    // Appends the player's line: a live one's name, cell, facing, health, ammunition and score, a dead one's name, wait and score.
+    // On `NoMemory` `out` is unchanged.
+    #[tactic(auto, unfolding(crate::specs::Block::player_line))]
+    pub fn push_line(&self, name: &[u8], out: &mut Vec<u8>) -> Result<(), NoMemory>
+        ensures ok { OnOk result (out.new.items ≡ out.old.items ++ player_line name.now self.now) }
+        ensures err { OnErr result (out.new.items ≡ out.old.items) }
+    {
+        let score = Word::Number(i64::from(self.score));
+        match self.state {
+            State::Live(body) => {
+                let words = [
+                    Word::Text(b"live"),
+                    Word::Text(name),
+                    Word::Number(i64::from(body.spot.x)),
+                    Word::Number(i64::from(body.spot.y)),
+                    Word::Text(body.spot.face.letter()),
+                    Word::Number(i64::from(body.health)),
+                    Word::Number(i64::from(body.ammo)),
+                    score,
+                ];
+                push_line(out, &words)
+            }
+            State::Dead { wait } => {
+                let words = [
+                    Word::Text(b"dead"),
+                    Word::Text(name),
+                    Word::Number(i64::from(wait)),
+                    score,
+                ];
+                push_line(out, &words)
+            }
         }
     }
 

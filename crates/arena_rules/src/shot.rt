@@ -1,10 +1,13 @@
-ghost use Rattle.std.specs.Prelude.{◌≡◌, ◌≤◌, ◌<◌, All, length};
+ghost use Rattle.std.specs.Prelude.{◌++◌, OnOk, OnErr, ◌≡◌, ◌≤◌, ◌<◌, All, length};
+ghost use Rattle.arena_rules.specs.Block.{shot_line};
 ghost use Rattle.arena_rules.specs.Beat.{hit, scored, flying, flown, flights, Flight, Flights};
 
 use crate::ground::Ground;
 use crate::player::{Player, holder};
+use crate::roster::Roster;
 use crate::spot::Spot;
 use arrayvec::ArrayVec;
+use tss_io::{NoMemory, Word, push_line};
 
 // The greatest number of shots at one time.
 pub const MOST_SHOTS: usize = 64;
@@ -29,6 +32,23 @@ impl Shot {
             spot,
             left: 8,
         }
+    }
+
+    // Appends the shot's line: its owner's name, its cell, its facing and the cells left. On `NoMemory` `out` is unchanged.
+    #[tactic(auto, unfolding(crate::specs::Block::shot_line))]
+    pub fn push_line(&self, roster: &Roster, out: &mut Vec<u8>) -> Result<(), NoMemory>
+        ensures ok { OnOk result (out.new.items ≡ out.old.items ++ shot_line roster.now self.now) }
+        ensures err { OnErr result (out.new.items ≡ out.old.items) }
+    {
+        let words = [
+            Word::Text(b"shot"),
+            Word::Text(roster.printed_name(self.owner)),
+            Word::Number(i64::from(self.spot.x)),
+            Word::Number(i64::from(self.spot.y)),
+            Word::Text(self.spot.face.letter()),
+            Word::Number(i64::from(self.left)),
+        ];
+        push_line(out, &words)
     }
 
     // The shot in its next cell, where it flies on.
