@@ -1,7 +1,7 @@
 -- The spot ahead, at the edge of what a byte holds.
-use Rattle.std.proofs.Common.{◌≡◌, ◌<◌, ℤ, pos, negsuc, inl, inr, arith, refl, sym, None}
+use Rattle.std.proofs.Common.{◌≡◌, ℤ, pos, negsuc, refl, sym, None}
 use Rattle.std.specs.Int.{FitsUnsignedBits}
-use Rattle.std.proofs.lemmas.Bool.{cases_lt, cond-false}
+use Rattle.std.proofs.lemmas.Bool.{cond-false}
 use Rattle.arena_rules.specs.Ground.{Grid, IsGrid}
 use Rattle.arena_rules.specs.Command.{open_spot}
 use Rattle.arena_rules.specs.declared.face.Face.{Face}

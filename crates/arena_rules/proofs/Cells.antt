@@ -14,7 +14,7 @@ pub same_cell-symm : (a b : Cell) → same_cell a b ≡ same_cell b a
 same_cell-symm a b = rw (same_number-symm a.x b.x, same_number-symm a.y b.y) refl
 
 -- where no element passes a test, each fails it
-each_fails : {X : Type 0} (test : X → Bool) (xs : List X) → list_any test xs ≡ false → AllByRecursion (λ x. test x ≡ false) xs
+pub each_fails : {X : Type 0} (test : X → Bool) (xs : List X) → list_any test xs ≡ false → AllByRecursion (λ x. test x ≡ false) xs
 each_fails test [] none = tt
 each_fails test (x ∷ xs) none = ((or_parts _ _ none).0, each_fails test xs (or_parts _ _ none).1)
 

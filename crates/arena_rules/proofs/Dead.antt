@@ -1,17 +1,16 @@
 -- The players of a world stay so while the dead wait and return.
-use Rattle.std.proofs.Common.{◌≡◌, ◌==◌, ℕ, ◌+◌, ◌-◌, ◌<◌, ◌≤◌, ◌&&◌, not, true, false, if◌then◌else◌, Some, None, List, [], ◌∷◌, ◌++◌, map, length, set, slice_get, refl, sym, ap, ◌∙◌, subst, arith, length-append, append_assoc, append-nil}
-use Rattle.std.specs.List.{list_any}
+use Rattle.std.proofs.Common.{◌≡◌, ◌==◌, ℕ, ◌+◌, ◌-◌, ◌≤◌, ◌&&◌, not, true, false, if◌then◌else◌, Some, List, [], ◌∷◌, ◌++◌, length, set, slice_get, refl, sym, ◌∙◌, subst, arith, length-append, append_assoc, append-nil}
 use Rattle.std.proofs.lemmas.Bool.{not-true, and_parts}
 use Rattle.std.proofs.Math.Seq.{set-append_seam}
 use Rattle.arena_rules.specs.Ground.{Grid}
 use Rattle.arena_rules.specs.Setup.{spot_cell}
-use Rattle.arena_rules.specs.Player.{alive, body_at_home, place, same_place, is_held}
+use Rattle.arena_rules.specs.Player.{alive, body_at_home, is_held}
 use Rattle.arena_rules.specs.Beat.{returned, returned_from, returns}
 use Rattle.arena_rules.specs.World.{IsState, IsPlayer, ArePlayers}
 use Rattle.arena_rules.specs.declared.player.Player.{Player}
 use Rattle.arena_rules.specs.declared.player.State.{State}
 use Rattle.arena_rules.specs.declared.player.State.TheVariants.{Live, Dead}
-use Rattle.arena_rules.proofs.Players.{ArePlayers-set, ArePlayers-stayed, IsPlayer-alive, body_at, player_at, unheld, nowhere_held}
+use Rattle.arena_rules.proofs.Players.{ArePlayers-set, ArePlayers-stayed, IsPlayer-alive, player_at, unheld, nowhere_held}
 
 -- a player who comes home
 home-kept : (grid : Grid) (player : Player) → IsPlayer grid player → IsPlayer grid (alive player (body_at_home player.home))

@@ -1,5 +1,5 @@
 -- What a shot that hits does to the players.
-use Rattle.std.proofs.Common.{◌≡◌, ℕ, ◌<◌, true, false, Some, List, length, get_or, set, slice_get, refl, sym, ap, ◌∙◌, if◌then◌else◌, subst, eq-eqb, length-set, arith}
+use Rattle.std.proofs.Common.{◌≡◌, ℕ, ◌<◌, true, false, List, length, get_or, set, refl, sym, ap, ◌∙◌, if◌then◌else◌, eq-eqb, length-set, arith}
 use Rattle.std.proofs.lemmas.Bool.{ne_eqb}
 use Rattle.std.proofs.lemmas.Option.{slice_get-get_or}
 use Rattle.std.specs.Option.{option_map_or}

@@ -13,3 +13,5 @@ pub mod Lying
 pub mod Worlds
 pub mod Lines
 pub mod Same
+pub mod Computing
+pub mod Telling

@@ -1,10 +1,9 @@
 -- The pickups of a world stay so: they never move.
-use Rattle.std.proofs.Common.{◌≡◌, ℕ, ◌-◌, ◌≤◌, Bool, true, false, if◌then◌else◌, List, [], ◌∷◌, map, length, get_or, refl, ap, subst, sym, arith}
-use Rattle.std.specs.List.{All, IsDistinct}
+use Rattle.std.proofs.Common.{◌≡◌, true, false, if◌then◌else◌, List, [], ◌∷◌, map, length, refl, arith}
 use Rattle.std.proofs.lemmas.List.{length-map}
 use Rattle.std.proofs.lemmas.List.Elements.{All-map, All-weaker}
 use Rattle.arena_rules.specs.Ground.{Grid}
-use Rattle.arena_rules.specs.Setup.{Cell, same_cell, pickup_cell}
+use Rattle.arena_rules.specs.Setup.{Cell, pickup_cell}
 use Rattle.arena_rules.specs.Pickup.{emptied, lies_ready, taken, waited}
 use Rattle.arena_rules.specs.World.{IsPickup, ArePickups}
 use Rattle.arena_rules.specs.declared.pickup.Pickup.{Pickup}

@@ -1,16 +1,14 @@
 -- The players of a world stay players of a world: whatever happens to one, no two live ones come to share a cell.
-use Rattle.std.proofs.Common.{◌≡◌, ◌==◌, ℕ, zero, suc, ◌+◌, ◌-◌, ◌<◌, ◌≤◌, Bool, true, false, if◌then◌else◌, ◌⊎◌, inl, inr, ℤ, pos, neg_ℤ, ◌≤ℤ◌, Some, None, Option, slice_get, List, [], ◌∷◌, ◌++◌, map, length, get_or, set, refl, sym, ap, ◌∙◌, subst, arith, length-set, append_assoc, int_lt, unwrap_or}
+use Rattle.std.proofs.Common.{◌≡◌, ◌==◌, ℕ, zero, suc, ◌-◌, true, false, if◌then◌else◌, ◌⊎◌, inl, inr, ℤ, pos, neg_ℤ, ◌≤ℤ◌, Some, None, Option, slice_get, List, [], ◌∷◌, map, length, set, refl, sym, ap, ◌∙◌, subst, arith, length-set, unwrap_or}
 use Rattle.std.specs.List.{list_any, AllByRecursion, IsDistinct, All}
-use Rattle.std.proofs.lemmas.Bool.{not-true, and_parts}
 use Rattle.std.proofs.lemmas.Bool.Decides.{nat_tests}
 use Rattle.std.proofs.lemmas.Int.{ints}
-use Rattle.std.proofs.lemmas.List.{map-set, length-map}
+use Rattle.std.proofs.lemmas.List.{map-set}
 use Rattle.std.proofs.lemmas.List.Elements.{All-set, All-get_or, All-cons, All-head, All-tail}
 use Rattle.std.proofs.lemmas.Option.{slice_get_within, get_or_from_slice_get}
-use Rattle.std.proofs.Math.Seq.{set-append_seam}
-use Rattle.arena_rules.specs.Ground.{Grid, is_open}
-use Rattle.arena_rules.specs.Setup.{Cell, same_cell, spot_cell}
-use Rattle.arena_rules.specs.Player.{alive, body_at_home, place, place_in, same_place, stands_in, is_held, gained, lost, with_gain, with_loss, struck, struck_state, changed}
+use Rattle.arena_rules.specs.Ground.{Grid}
+use Rattle.arena_rules.specs.Setup.{Cell, spot_cell}
+use Rattle.arena_rules.specs.Player.{alive, place, place_in, same_place, is_held, gained, lost, with_gain, with_loss, struck, struck_state, changed}
 use Rattle.arena_rules.specs.Pickup.{given}
 use Rattle.arena_rules.specs.World.{IsBody, IsState, IsPlayer, ArePlayers}
 use Rattle.arena_rules.specs.declared.pickup.Kind.{Kind}
@@ -19,7 +17,6 @@ use Rattle.arena_rules.specs.declared.player.Body.{Body}
 use Rattle.arena_rules.specs.declared.player.Player.{Player}
 use Rattle.arena_rules.specs.declared.player.State.{State}
 use Rattle.arena_rules.specs.declared.player.State.TheVariants.{Live, Dead}
-use Rattle.arena_rules.specs.declared.spot.Spot.{Spot}
 use Rattle.arena_rules.proofs.Names.{list_any-map}
 use Rattle.arena_rules.proofs.Cells.{same_cell-symm, IsDistinct-set}
 use Rattle.arena_rules.proofs.Changes.{length-changed}

@@ -28,7 +28,7 @@ pub players : (a b : Player) → Decides (of_players.eq a b) (a ≡ b)
 players a b =
     Decides-like _
     (λ (all : (a.home ≡ b.home) × ((a.score ≡ b.score) × (a.state ≡ b.state))).
-      let home = all.0 in let score = all.1.0 in let state = all.1.1 in
-      λ i. record { home = home i; score = score i; state = state i })
+    let home = all.0 in let score = all.1.0 in let state = all.1.1 in
+    λ i. record { home = home i; score = score i; state = state i })
     (λ e. (ap (λ (p : Player). p.home) e, (ap (λ (p : Player). p.score) e, ap (λ (p : Player). p.state) e)))
     (Decides-and _ _ (spots a.home b.home) (Decides-and _ _ (Decides-int_eq a.score b.score) (states a.state b.state)))

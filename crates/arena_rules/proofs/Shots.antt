@@ -1,15 +1,15 @@
 -- The players and the shots of a world stay so while the shots fly.
-use Rattle.std.proofs.Common.{◌≡◌, ◌==◌, ℕ, ◌+◌, ◌-◌, ◌<◌, ◌≤◌, true, false, if◌then◌else◌, Option, Some, None, List, [], ◌∷◌, length, refl, sym, ap, ◌∙◌, subst, arith, position, unwrap_or, ℤ, pos, negsuc}
-use Rattle.std.specs.List.{All, cons_option}
+use Rattle.std.proofs.Common.{◌≡◌, ◌==◌, ℕ, ◌+◌, ◌-◌, ◌≤◌, true, false, if◌then◌else◌, Option, Some, None, List, [], ◌∷◌, length, refl, sym, ◌∙◌, subst, arith, unwrap_or, ℤ, pos, negsuc}
+use Rattle.std.specs.List.{All}
 use Rattle.std.specs.Option.{IfSome}
 use Rattle.std.proofs.lemmas.Bool.Decides.{nat_tests}
-use Rattle.std.proofs.lemmas.List.Elements.{All-nil, All-cons, All-head, All-tail}
+use Rattle.std.proofs.lemmas.List.Elements.{All-cons, All-head, All-tail}
 use Rattle.arena_rules.specs.Ground.{Grid, is_open}
 use Rattle.arena_rules.specs.Setup.{spot_cell}
 use Rattle.arena_rules.specs.Player.{changed, holder, struck, with_gain, with_loss}
 use Rattle.arena_rules.specs.Command.{ahead, open_spot, open_ahead}
 use Rattle.arena_rules.specs.Beat.{hit, scored, is_live_at, Flight, Flights, flying, flown, flown_to, flown_into, flights, with_first}
-use Rattle.arena_rules.specs.World.{ArePlayers, IsShot, AreShots}
+use Rattle.arena_rules.specs.World.{ArePlayers, IsShot}
 use Rattle.arena_rules.specs.declared.face.Face.{Face}
 use Rattle.arena_rules.specs.declared.player.Player.{Player}
 use Rattle.arena_rules.specs.declared.shot.Shot.{Shot}

@@ -71,15 +71,15 @@ is_free-high grid (negsuc x) y sound high = refl
 -- a wall more, in cells
 pub IsWalled-with_wall : (grid : Grid) (x y a b : ℕ) → y < length grid.walls → IsWalled (with_wall grid x y) a b ↔ (IsWalled grid a b ⊎ ((a ≡ x) × (b ≡ y)))
 IsWalled-with_wall grid x y a b within =
-    let cells = is_walled-with_wall grid x y a b within in
-    ( λ walled. elim (or_cases (is_walled grid a b) ((a == x) && (b == y)) (sym cells ∙ walled)) [
+    let cells = is_walled-with_wall grid x y a b within in (
+      λ walled. elim (or_cases (is_walled grid a b) ((a == x) && (b == y)) (sym cells ∙ walled)) [
         | inl old ↦ inl old
         | inr new ↦ inr (eqb-true a x (and_parts (a == x) (b == y) new).0, eqb-true b y (and_parts (a == x) (b == y) new).1)
-      ]
-    , λ either. cells ∙ elim either [
+      ],
+      λ either. cells ∙ elim either [
         | inl old ↦ ap (λ w. w || ((a == x) && (b == y))) old
         | inr new ↦ grind (arith, nat_tests, eq-eqb a x new.0, eq-eqb b y new.1)
-      ]
+      ],
     )
 
 pub no_wall : (width height x y : ℕ) → IsWalled (open_grid width height) x y → ⊥

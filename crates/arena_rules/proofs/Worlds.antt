@@ -1,23 +1,20 @@
 -- Every world of an arena is one: at the start, after each command, and after each beat.
-use Rattle.std.proofs.Common.{◌≡◌, min, ◌==◌, ℕ, ◌+◌, ◌-◌, ◌<◌, ◌≤◌, ◌^◌, ◌||◌, nat_le, true, false, if◌then◌else◌, Option, Some, None, slice_get, List, [], ◌∷◌, ◌++◌, map, length, get_or, set, refl, sym, ap, ◌∙◌, subst, arith, lit<, length-set, length-append}
+use Rattle.std.proofs.Common.{◌≡◌, min, ◌==◌, ℕ, ◌+◌, ◌-◌, ◌<◌, ◌||◌, nat_le, true, false, if◌then◌else◌, Option, Some, None, slice_get, List, [], ◌∷◌, ◌++◌, map, length, set, refl, sym, ap, ◌∙◌, subst, arith, lit<, length-set, length-append}
 use Rattle.std.specs.List.{All, AllByRecursion, IsDistinct, list_all}
-use Rattle.std.proofs.lemmas.Bool.{and_parts, or_parts, not-true}
+use Rattle.std.proofs.lemmas.Bool.{and_parts, or_parts}
 use Rattle.std.proofs.lemmas.Bool.Decides.{nat_tests}
 use Rattle.std.proofs.lemmas.List.{length-map}
 use Rattle.std.proofs.lemmas.List.Elements.{All-map, All-weaker, All-push, All-nil}
 use Rattle.std.proofs.lemmas.List.Folds.{list_all-append, list_all-map}
 use Rattle.std.proofs.lemmas.List.Sums.{AllPass-from_list_all}
 use Rattle.std.proofs.lemmas.Option.{slice_get_within}
-use Rattle.game_trait.specs.declared.command.Act.{Act}
-use Rattle.game_trait.specs.declared.command.Act.TheVariants.{Go, Left, Right, Shoot, Dash}
-use Rattle.game_trait.specs.declared.command.Command.{Command}
 use Rattle.arena_rules.specs.Ground.{Grid, is_open}
 use Rattle.arena_rules.specs.Setup.{Layout, Cell, same_cell, spot_cell, pickup_cell, IsLayout}
 use Rattle.arena_rules.specs.Player.{opening_player, alive, turned_to, place, place_in, same_place, is_held}
-use Rattle.arena_rules.specs.Pickup.{opening_pickup, ready_kind, taken, given, waited}
-use Rattle.arena_rules.specs.Command.{ahead, open_ahead, with_player, by_player, if_there, if_live, turned, gone, gone_to, arrived, fired, shot_by, acted, applied}
+use Rattle.arena_rules.specs.Pickup.{opening_pickup, ready_kind, given, waited}
+use Rattle.arena_rules.specs.Command.{ahead, open_ahead, with_player, by_player, if_there, if_live, turned, gone, gone_to, arrived, fired, shot_by}
 use Rattle.arena_rules.specs.Beat.{flights, returns, shots_flown, dead_returned, pickups_waited, time_risen, beaten}
-use Rattle.arena_rules.specs.World.{World, opening_world, IsBody, IsPlayer, ArePlayers, IsShot, AreShots, IsPickup, ArePickups, IsWorld}
+use Rattle.arena_rules.specs.World.{World, opening_world, IsBody, IsPlayer, IsShot, AreShots, IsPickup, IsWorld}
 use Rattle.arena_rules.specs.declared.face.Face.{Face}
 use Rattle.arena_rules.specs.declared.pickup.Kind.{Kind}
 use Rattle.arena_rules.specs.declared.pickup.Pickup.{Pickup}
@@ -30,7 +27,7 @@ use Rattle.arena_rules.specs.declared.shot.Shot.{Shot}
 use Rattle.arena_rules.specs.declared.spot.Spot.{Spot}
 use Rattle.arena_rules.proofs.Cells.{IsDistinct-back, IsDistinct-front}
 use Rattle.arena_rules.proofs.Players.{ArePlayers-set, ArePlayers-stayed, IsPlayer-alive, IsPlayer-given, place-given, body_at, player_at, unheld}
-use Rattle.arena_rules.proofs.Shots.{open_spot-open, AreFlights, flights-kept}
+use Rattle.arena_rules.proofs.Shots.{open_spot-open, flights-kept}
 use Rattle.arena_rules.proofs.Dead.{returns-kept, length-returns}
 use Rattle.arena_rules.proofs.Lying.{ArePickups-taken, ArePickups-waited}
 

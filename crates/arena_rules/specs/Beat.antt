@@ -1,5 +1,5 @@
 -- What the end of a tick does to a world, in four parts.
-use Rattle.std.specs.Prelude.{ℕ, ◌+◌, ◌-◌, min, Bool, true, false, not, ◌==◌, ◌&&◌, if◌then◌else◌, List, [], ◌∷◌, ◌++◌, map, Option, Some, None, slice_get}
+use Rattle.std.specs.Prelude.{ℕ, ◌+◌, ◌-◌, min, Bool, false, not, ◌==◌, ◌&&◌, if◌then◌else◌, List, [], ◌∷◌, ◌++◌, map, Option, Some, None, slice_get}
 use Rattle.std.specs.List.{cons_option}
 use Rattle.std.specs.Option.{option_map_or}
 use Rattle.arena_rules.specs.Ground.{Grid}
@@ -8,7 +8,6 @@ use Rattle.arena_rules.specs.Player.{alive, body_at_home, changed, holder, is_he
 use Rattle.arena_rules.specs.Pickup.{waited}
 use Rattle.arena_rules.specs.Command.{open_ahead}
 use Rattle.arena_rules.specs.Scene.{World}
-use Rattle.arena_rules.specs.declared.player.Body.{Body}
 use Rattle.arena_rules.specs.declared.player.Player.{Player}
 use Rattle.arena_rules.specs.declared.player.State.{State}
 use Rattle.arena_rules.specs.declared.player.State.TheVariants.{Live, Dead}

@@ -8,3 +8,4 @@ pub mod Beat
 pub mod World
 pub mod Roster
 pub mod Block
+pub mod Worked

@@ -1,5 +1,5 @@
 -- The pickups of the arena: each lies in a cell, ready to be taken or waiting.
-use Rattle.std.specs.Prelude.{ℕ, ◌+◌, ◌-◌, min, Bool, ◌==◌, ◌&&◌, if◌then◌else◌, List, map, Option, Some, None, option_map, find}
+use Rattle.std.specs.Prelude.{◌+◌, ◌-◌, min, Bool, ◌==◌, ◌&&◌, if◌then◌else◌, List, map, Option, Some, None, option_map, find}
 use Rattle.arena_rules.specs.Setup.{Cell, same_cell, pickup_cell}
 use Rattle.arena_rules.specs.Player.{alive, with_gain}
 use Rattle.arena_rules.specs.declared.pickup.Kind.{Kind}

@@ -1,5 +1,5 @@
 -- The players of the arena: each has a home and a score, and is live or dead.
-use Rattle.std.specs.Prelude.{ℕ, zero, suc, ◌-◌, ℤ, pos, neg_ℤ, ◌+ℤ◌, ◌-ℤ◌, int_lt, Bool, true, false, ◌==◌, if◌then◌else◌, List, [], ◌∷◌, map, Option, Some, None, position}
+use Rattle.std.specs.Prelude.{ℕ, zero, suc, ◌-◌, ℤ, pos, neg_ℤ, ◌+ℤ◌, ◌-ℤ◌, int_lt, Bool, true, false, ◌==◌, if◌then◌else◌, List, [], ◌∷◌, Option, Some, None, position}
 use Rattle.std.specs.List.{list_any}
 use Rattle.arena_rules.specs.Setup.{Cell, same_cell, spot_cell}
 use Rattle.arena_rules.specs.declared.face.Face.{Face}

@@ -8,11 +8,7 @@ use crate::shot::Shot;
 use tss_io::NoMemory;
 
 // Appends the players' lines. On `NoMemory` some may have been appended.
-pub fn push_players(
-    players: &[Player],
-    roster: &Roster,
-    out: &mut Vec<u8>,
-) -> Result<(), NoMemory>
+pub fn push_players(players: &[Player], roster: &Roster, out: &mut Vec<u8>) -> Result<(), NoMemory>
     requires { length players.now ≤ 32 }
     ensures ok { OnOk result (out.new.items ≡ out.old.items ++ player_lines roster.now 0 players.now) }
     ensures front { take (length out.old.items) out.new.items ≡ out.old.items }

@@ -7,12 +7,14 @@ mod face;
 mod ground;
 mod pickup;
 mod player;
+pub mod possible;
 mod returning;
 mod roster;
 mod setup;
 mod shot;
 mod shown;
 mod spot;
+pub mod worked;
 
 pub use arena::Arena;
 pub use face::Face;

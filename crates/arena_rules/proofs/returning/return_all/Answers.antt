@@ -1,4 +1,4 @@
-use Rattle.std.proofs.Common.{◌≡◌, ◌<◌, length, sym, ◌∙◌, arith}
+use Rattle.std.proofs.Common.{sym, ◌∙◌, arith}
 use Rattle.arena_rules.proofs.Returns.{returns-next, returns-all}
 use Rattle.arena_rules.proofs.returning.return_all.Goals as goal
 

@@ -1,4 +1,4 @@
-use Rattle.std.proofs.Common.{◌≡◌, ◌≤◌, ◌++◌, ◌∷◌, [], length, append-nil, arith}
+use Rattle.std.proofs.Common.{append-nil, arith}
 use Rattle.arena_rules.proofs.Flights.{flights-next, flights-all}
 use Rattle.arena_rules.proofs.shot.fly_all.Goals as goal
 use Rattle.arena_rules.proofs.shot.fly_all.Goals.{in-Some, in_default}

@@ -1,4 +1,4 @@
-use Rattle.std.proofs.Common.{subst, sym, ◌∙◌}
+use Rattle.std.proofs.Common.{subst}
 use Rattle.arena_rules.specs.World.{IsWorld}
 use Rattle.arena_rules.proofs.Worlds.{IsWorld-gone, IsWorld-turned, IsWorld-shot_by}
 use Rattle.arena_rules.proofs.arena.ArenaGame.apply.Goals as goal

@@ -1,9 +1,8 @@
-use Rattle.std.proofs.Common.{◌≡◌, List, [], length, map, sym, ◌∙◌, ap, subst, arith}
+use Rattle.std.proofs.Common.{◌≡◌, List, [], length, map, sym, ◌∙◌, ap, subst}
 use Rattle.std.specs.List.{refill}
-use Rattle.arena_rules.specs.Beat.{beaten, flights, returns}
+use Rattle.arena_rules.specs.Beat.{beaten, returns}
 use Rattle.arena_rules.specs.Pickup.{waited}
-use Rattle.arena_rules.specs.World.{World, IsWorld}
-use Rattle.arena_rules.specs.declared.pickup.Pickup.{Pickup}
+use Rattle.arena_rules.specs.World.{IsWorld}
 use Rattle.arena_rules.specs.declared.player.Player.{Player}
 use Rattle.arena_rules.proofs.Changes.{refill-same}
 use Rattle.arena_rules.proofs.Worlds.{IsWorld-beaten, beaten_by_parts}
