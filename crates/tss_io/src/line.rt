@@ -13,7 +13,9 @@ pub enum Word<'a> {
     /// The bytes as they are.
     Text(&'a [u8]),
     /// The number in decimal.
-    Number(i128),
+    Number(i64),
+    /// The count in decimal.
+    Count(u64),
 }
 
 impl Word<'_> {
@@ -23,7 +25,8 @@ impl Word<'_> {
     {
         match *self {
             Word::Text(text) => Ok(out.extend_from_slice(text)?),
-            Word::Number(number) => push_decimal(out, number),
+            Word::Number(number) => push_decimal(out, i128::from(number)),
+            Word::Count(count) => push_decimal(out, i128::from(count)),
         }
     }
 }

@@ -14,13 +14,6 @@ use match_file::ScriptLine;
 use mirror_core::Mirror;
 use tss_io::{NoMemory, Word, push_line};
 
-// A number as a word.
-fn number<'a>(n: u64) -> Word<'a>
-    ensures { word_bytes result ≡ decimal n }
-{
-    Word::Number(i128::from(n))
-}
-
 // How many copies an answer says were repaired.
 fn repaired_in(reply: Reply) -> u8
     ensures { result ≡ repaired_in reply }
@@ -45,8 +38,8 @@ fn push_repair(out: &mut Vec<u8>, mirror: MirrorId, reply: Reply) -> Result<(), 
         out,
         &[
             Word::Text(b"repair"),
-            number(u64::from(mirror)),
-            number(u64::from(repaired)),
+            Word::Count(u64::from(mirror)),
+            Word::Count(u64::from(repaired)),
         ],
     )
 }
@@ -58,7 +51,7 @@ fn push_ticked(out: &mut Vec<u8>, mirror: MirrorId, reply: Reply) -> Result<(), 
 {
     match reply {
         Reply::Tick(Ticked::Over) => {
-            push_line(out, &[Word::Text(b"over"), number(u64::from(mirror))])
+            push_line(out, &[Word::Text(b"over"), Word::Count(u64::from(mirror))])
         }
         _ => push_repair(out, mirror, reply),
     }
@@ -76,9 +69,9 @@ fn push_arrived(
     ensures { OnOk result (out.new.items ≡ out.old.items ++ arrival_text mirror from named reply) }
 {
     let (at, sender, name) = (
-        number(u64::from(mirror)),
-        number(u64::from(from)),
-        number(u64::from(named)),
+        Word::Count(u64::from(mirror)),
+        Word::Count(u64::from(from)),
+        Word::Count(u64::from(named)),
     );
     match reply {
         Reply::Arrive(Arrived::Repeat) => push_line(
@@ -93,7 +86,7 @@ fn push_arrived(
                     at,
                     sender,
                     name,
-                    number(u64::from(bound)),
+                    Word::Count(u64::from(bound)),
                 ],
             )
         }
@@ -111,8 +104,8 @@ fn push_stepped(out: &mut Vec<u8>, mirror: MirrorId, copy: u8, reply: Reply) -> 
             out,
             &[
                 Word::Text(b"idle"),
-                number(u64::from(mirror)),
-                number(u64::from(copy)),
+                Word::Count(u64::from(mirror)),
+                Word::Count(u64::from(copy)),
             ],
         ),
         _ => push_repair(out, mirror, reply),
@@ -160,13 +153,13 @@ fn push_mirror_line<G: Game>(
         out,
         &[
             Word::Text(b"mirror"),
-            number(u64::from(mirror_id)),
+            Word::Count(u64::from(mirror_id)),
             Word::Text(b"accepted"),
-            number(mirror.accepted().len() as u64),
+            Word::Count(mirror.accepted().len() as u64),
             Word::Text(b"turned"),
-            number(mirror.turned().len() as u64),
+            Word::Count(mirror.turned().len() as u64),
             Word::Text(b"repairs"),
-            number(mirror.repairs()),
+            Word::Count(mirror.repairs()),
         ],
     )
 }
@@ -188,9 +181,9 @@ fn push_copy<G: Game + Shown>(
         out,
         &[
             Word::Text(b"world"),
-            number(u64::from(mirror_id)),
-            number(u64::from(copy)),
-            number(u64::from(mirror.copy_clock(copy))),
+            Word::Count(u64::from(mirror_id)),
+            Word::Count(u64::from(copy)),
+            Word::Count(u64::from(mirror.copy_clock(copy))),
         ],
     )?;
     mirror.world(copy).block(roster, out)
@@ -244,7 +237,7 @@ pub fn push_ordered<G: Shown>(
     ensures { OnOk result (out.new.items ≡ out.old.items
         ++ (as_line (spaced (codes "order" ∷ decimal length ∷ [])) ++ G.lines world.now roster.now)) }
 {
-    push_line(out, &[Word::Text(b"order"), number(u64::from(length))])?;
+    push_line(out, &[Word::Text(b"order"), Word::Count(u64::from(length))])?;
     world.block(roster, out)
 }
 
