@@ -1,14 +1,50 @@
 -- Events made one after another, and lists of mirrors of which one is changed.
-use Rattle.std.proofs.Common.{◌≡◌, ℕ, zero, suc, ◌+◌, ◌<◌, ◌≤◌, List, [], ◌∷◌, ◌++◌, length, get_or, set, take, drop, map, refl, ap, sym, ◌∙◌, subst, append_assoc, arith}
+use Rattle.std.proofs.Common.{◌≡◌, ℕ, zero, suc, ◌+◌, ◌-◌, ◌<◌, ◌≤◌, true, false, cond, List, [], ◌∷◌, ◌++◌, length, get_or, set, take, drop, map, refl, ap, sym, ◌∙◌, subst, append_assoc, arith}
 use Rattle.std.specs.List.{AllByRecursion}
 use Rattle.std.proofs.lemmas.List.{drop_more}
 use Rattle.game_trait.specs.declared.event.Event.{Event}
+use Rattle.game_trait.specs.declared.event.Event.TheVariants.{Tick, Arrive, Step, Restagger}
+use Rattle.game_trait.specs.Count.{times}
+use Rattle.game_trait.specs.Events.{is_arrival, is_restagger}
 use Rattle.game_trait.specs.declared.event.Reply.{Reply}
 use Rattle.sync_model.specs.State.{MirrorState}
-use Rattle.sync_model.specs.Change.{next, said, after, answers, Fits}
-use Rattle.sync_model.specs.History.{HasRoomAlong}
+use Rattle.sync_model.specs.Change.{next, said, after, answers, changes, Fits}
+use Rattle.sync_model.specs.History.{HasRoom, HasRoomAlong}
 use Rattle.sync_model.proofs.Along.{all-fit-next}
+use Rattle.sync_model.proofs.Room.{spare-next}
 use Rattle.tss_program.specs.Hall.{changed_at, told_at}
+
+-- ---- room
+
+pub all-append : {X : Type 0} (P : X → Type 0) (xs ys : List X) → AllByRecursion P xs → AllByRecursion P ys → AllByRecursion P (xs ++ ys)
+all-append P [] ys h k = k
+all-append P (x ∷ xs) ys h k = (h.0, all-append P xs ys h.1 k)
+
+-- an event that is no change of the plan spends at most one of the room, and only where it is an arrival
+spare-left :
+    {W : Type 0} (s : MirrorState W) (e : Event) (k : ℕ) → cond (is_arrival e) 1 0 + k ≤ s.spare → cond {A = ℕ} (is_restagger e) 1 0 ≡ 0
+    → HasRoom s e × (k ≤ (next s e).spare)
+spare-left s Tick k h same = (tt, (let spent = spare-next s Tick in omega arith))
+spare-left s (Arrive x) k h same = (
+  omega arith,
+  (let spent = spare-next s (Arrive x) in
+      elim (changes s (Arrive x)) as (λ v. (next s (Arrive x)).spare ≡ s.spare - cond v 1 0 → k ≤ (next s (Arrive x)).spare)
+      [ true ↦ λ e. omega arith | false ↦ λ e. omega arith ]
+      spent),
+)
+spare-left s (Step c) k h same = (tt, (let spent = spare-next s (Step c) in omega arith))
+spare-left s (Restagger p) k h same = absurd (omega arith)
+
+-- events that change no plan, of which no more are arrivals than there is room, all find room, and leave the rest
+pub room-along :
+    {W : Type 0} (es : List Event) (s : MirrorState W) (k : ℕ) → times is_arrival es + k ≤ s.spare → times is_restagger es ≡ 0
+    → HasRoomAlong s es × (k ≤ (after s es).spare)
+unfolding times HasRoomAlong after
+room-along [] s k h same = (tt, omega arith)
+room-along (e ∷ es) s k h same =
+    let here = spare-left s e (times is_arrival es + k) (omega arith) (omega arith) in
+    let behind = room-along es (next s e) k here.1 (omega arith) in
+    ((here.0, behind.0), behind.1)
 
 -- ---- one event more
 

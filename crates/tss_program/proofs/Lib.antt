@@ -1,4 +1,3 @@
-pub mod Log
 pub mod Named
 pub mod Ready
 pub mod Steps

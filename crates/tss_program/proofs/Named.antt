@@ -10,7 +10,6 @@ use Rattle.game_trait.specs.Keys.{same_name, NamesDiffer}
 use Rattle.match_file.specs.Names.{has_command}
 use Rattle.tss_program.specs.Hall.{command_named}
 use Rattle.tss_program.specs.Names.{same_pair}
-use Rattle.tss_program.proofs.Log.{all-take}
 
 -- the command has this mirror and number
 abbrev named : ℕ → ℕ → Command → Bool
@@ -36,6 +35,11 @@ find-last from number (y ∷ xs) x differ =
     last-differs : (y : Command) (xs : List Command) (x : Command) → AllByRecursion (λ z. same_name y z ≡ false) (xs ++ x ∷ []) → same_name y x ≡ false
     last-differs y [] x h = h.0
     last-differs y (z ∷ xs) x h = last-differs y xs x h.1
+
+all-take : {X : Type 0} (P : X → Type 0) (n : ℕ) (xs : List X) → AllByRecursion P xs → AllByRecursion P (take n xs)
+all-take P zero xs h = tt
+all-take P (suc n) [] h = tt
+all-take P (suc n) (x ∷ xs) h = (h.0, all-take P n xs h.1)
 
 NamesDiffer-take : (n : ℕ) (xs : List Command) → NamesDiffer xs → NamesDiffer (take n xs)
 unfolding NamesDiffer

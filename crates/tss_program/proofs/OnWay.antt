@@ -13,7 +13,8 @@ use Rattle.game_trait.proofs.Counts.{times-append}
 use Rattle.game_trait.proofs.KeyOrder.{all-weaker}
 use Rattle.sync_model.specs.State.{MirrorState}
 use Rattle.sync_model.specs.Change.{after, answers, Fits}
-use Rattle.sync_model.specs.History.{is_arrival, HasRoomAlong}
+use Rattle.game_trait.specs.Events.{is_arrival, is_restagger}
+use Rattle.sync_model.specs.History.{HasRoomAlong}
 use Rattle.sync_model.specs.Turns.{turn_events}
 use Rattle.sync_model.specs.Legal.{NamesWhatIsThere}
 use Rattle.sync_model.proofs.Cases.{after-fixed}
@@ -23,10 +24,10 @@ use Rattle.match_file.specs.declared.script_line.ScriptLine.{ScriptLine}
 use Rattle.match_file.specs.declared.script_line.ScriptLine.TheVariants as lines
 use Rattle.tss_program.specs.Hall.{mirror_of, events_of, arrival_of, command_named, after_line, replies_to, changed_at, told_at, arrives_at, opening_mirror, opening_from, opening_mirrors, after_script}
 use Rattle.tss_program.specs.Report.{line_text, script_text}
-use Rattle.tss_program.proofs.Log.{all-append, named-fits, room-along}
+use Rattle.sync_model.proofs.Legal.{named-fits}
 use Rattle.tss_program.proofs.Named.{command_named-Contains}
-use Rattle.tss_program.proofs.Steps.{named-turn, turn-no_arrival}
-use Rattle.tss_program.proofs.Events.{changed_at-set, told_at-get}
+use Rattle.tss_program.proofs.Steps.{named-turn, turn-no_arrival, turn-no_restagger}
+use Rattle.tss_program.proofs.Events.{all-append, room-along, changed_at-set, told_at-get}
 
 -- mirror i of a match that opens so, which has made events, and has room for its arrivals in these lines
 pub record OnWay {W : Type 0} (m : MatchData) (opening : W) (i : ℕ) (ls : List ScriptLine) (s : MirrorState W) : Type 0 where
@@ -34,6 +35,7 @@ pub record OnWay {W : Type 0} (m : MatchData) (opening : W) (i : ℕ) (ls : List
   pub reached : s ≡ after (opening_mirror opening m i) es
   pub named : AllByRecursion (NamesWhatIsThere m.commands (opening_mirror opening m i)) es
   pub arrivals : times is_arrival es + times (arrives_at i) ls ≤ times (arrives_at i) m.script
+  pub same_plan : times is_restagger es ≡ 0
 
 -- all mirrors of the match
 pub record AllOnWay {W : Type 0} (m : MatchData) (opening : W) (ls : List ScriptLine) (mirrors : List (MirrorState W)) : Type 0 where
@@ -66,7 +68,7 @@ pub way-room : {W : Type 0} (m : MatchData) (opening : W) (i : ℕ) (ls : List S
 way-room {W} m opening i ls s way =
     let spare = opening-spare m opening i in
     let arrivals = way.arrivals in
-    let left = (room-along way.es (opening_mirror opening m i) (times (arrives_at i) ls) (omega arith)).1 in
+    let left = (room-along way.es (opening_mirror opening m i) (times (arrives_at i) ls) (omega arith) way.same_plan).1 in
     rw way.reached left
 
 -- each command of a match is due within it
@@ -113,6 +115,21 @@ line-arrivals commands (lines.Step mirror copy) copies = omega arith
 line-arrivals commands (lines.World mirror copy) copies = omega arith
 line-arrivals commands (lines.Run mirror copy) copies = omega arith
 
+-- none of them changes the plan
+arrival-same_plan : (found : Option Command) → times is_restagger (arrival_of found) ≡ 0
+unfolding times
+arrival-same_plan None = refl
+arrival-same_plan (Some x) = refl
+
+line-same_plan : (commands : List Command) (l : ScriptLine) (copies : ℕ) → times is_restagger (events_of commands copies l) ≡ 0
+unfolding events_of times
+line-same_plan commands (lines.Tick mirror) copies = refl
+line-same_plan commands (lines.Turn mirror) copies = turn-no_restagger copies
+line-same_plan commands (lines.Arrive mirror from number) copies = arrival-same_plan (command_named from number commands)
+line-same_plan commands (lines.Step mirror copy) copies = refl
+line-same_plan commands (lines.World mirror copy) copies = refl
+line-same_plan commands (lines.Run mirror copy) copies = refl
+
 -- ---- the next line
 
 -- its events fit, and find room
@@ -131,7 +148,7 @@ unfolding times
 line-room m opening l ls s way =
     let room = way-room m opening (mirror_of l) (l ∷ ls) s way in
     let line = line-arrivals m.commands l (length s.runs) in
-    (room-along (events_of m.commands (length s.runs) l) s 0 (omega arith)).0
+    (room-along (events_of m.commands (length s.runs) l) s 0 (omega arith) (line-same_plan m.commands l (length s.runs))).0
 
 -- its mirror goes on, and the others stay on their way
 pub way-line :
@@ -152,6 +169,7 @@ way-line {W} m opening l ls s here way =
           let line = line-arrivals m.commands l (length s.runs) in
           let before = way.arrivals in
           omega arith);
+      same_plan = (let sum = times-append is_restagger way.es es in let here = way.same_plan in let there = line-same_plan m.commands l (length s.runs) in omega arith);
     }
 
 pub way-other :
@@ -159,7 +177,7 @@ pub way-other :
     → OnWay m opening i (l ∷ ls) s → OnWay m opening i ls s
 unfolding times
 way-other m opening i l ls s way =
-    record { es = way.es; reached = way.reached; named = way.named; arrivals = (let before = way.arrivals in omega arith) }
+    record { es = way.es; reached = way.reached; named = way.named; arrivals = (let before = way.arrivals in omega arith); same_plan = way.same_plan }
 
 pub all-line :
     {W : Type 0} (m : MatchData) (opening : W) (l : ScriptLine) (ls : List ScriptLine) (mirrors : List (MirrorState W)) (d : MirrorState W) → IsScriptLine m l
@@ -200,7 +218,7 @@ all-opening m opening =
       count = opening-count opening m 0 m.mirrors;
       each = λ i d below.
           let within : i < m.mirrors = (let count = opening-count opening m 0 m.mirrors in omega arith) in
-          record { es = []; reached = opening-at opening m 0 m.mirrors i d within ∙ (let same : 0 + i ≡ i = omega arith in ap (opening_mirror opening m) same); named = tt; arrivals = omega arith };
+          record { es = []; reached = opening-at opening m 0 m.mirrors i d within ∙ (let same : 0 + i ≡ i = omega arith in ap (opening_mirror opening m) same); named = tt; arrivals = omega arith; same_plan = refl };
     }
 
 -- ---- the script line by line

@@ -4,9 +4,8 @@ use Rattle.std.specs.List.{AllByRecursion}
 use Rattle.std.proofs.lemmas.List.{append-nil}
 use Rattle.game_trait.specs.Count.{times}
 use Rattle.game_trait.proofs.KeyOrder.{all-weaker}
-use Rattle.stagger_clock.specs.Schedule.{Schedule, IsSchedule}
+use Rattle.sync_model.specs.Schedule.{Schedule, DelaysRise, IsSchedule}
 use Rattle.sync_model.specs.State.{MirrorState, opening_state}
-use Rattle.sync_model.specs.Staggered.{DelaysRise}
 use Rattle.match_file.specs.Data.{MatchData, IsMatch, Rises}
 use Rattle.tss_program.specs.Hall.{arrives_at, opening_mirror, opening_from}
 
@@ -37,7 +36,7 @@ schedule-of m sound = record {
 pub opened-more :
     {W : Type 0} (opening : W) (m : MatchData) (i : ℕ) (schedule : Schedule) (room : ℕ) (s : MirrorState W) (old new : List (MirrorState W)) → i < m.mirrors
     → schedule ≡ record { delays = m.delays; length = m.length } → room ≡ times (arrives_at i) m.script
-    → s ≡ opening_state opening schedule.length schedule.delays room → new ≡ old ++ s ∷ []
+    → s ≡ opening_state opening schedule.length (schedule.delays ∷ []) room 0 → new ≡ old ++ s ∷ []
     → new ++ opening_from opening m (i + 1) (m.mirrors - (i + 1)) ≡ old ++ opening_from opening m i (m.mirrors - i)
 unfolding opening_from opening_mirror
 opened-more opening m i schedule room s old new below is counted made put =

@@ -8,14 +8,14 @@ use Rattle.game_trait.specs.Count.{times}
 use Rattle.game_trait.proofs.Counts.{times-append}
 use Rattle.sync_model.specs.State.{MirrorState}
 use Rattle.sync_model.specs.Change.{Fits, answers}
-use Rattle.sync_model.specs.History.{is_arrival, HasRoomAlong}
+use Rattle.game_trait.specs.Events.{is_arrival, is_restagger}
+use Rattle.sync_model.specs.History.{HasRoomAlong}
 use Rattle.sync_model.specs.Legal.{NamesWhatIsThere}
 use Rattle.sync_model.specs.Turns.{turns_of, steps_from, turn_events, turn, is_drained, drain_within, drain_bound}
 use Rattle.match_file.specs.declared.script_line.ScriptLine.TheVariants as lines
 use Rattle.tss_program.specs.Report.{line_text, drain_text, drains_text}
 use Rattle.std.proofs.lemmas.List.{append-nil, drop_more, drop_all}
-use Rattle.tss_program.proofs.Events.{drop-set_more}
-use Rattle.tss_program.proofs.Log.{all-append, room-along}
+use Rattle.tss_program.proofs.Events.{all-append, room-along, drop-set_more}
 
 -- so many steps from copy c on are a step of copy c and the others
 pub steps-more : (c end : ℕ) → c < end → steps_from c (end - c) ≡ Step c ∷ steps_from (c + 1) (end - (c + 1))
@@ -55,6 +55,21 @@ pub turn-no_arrival : (n : ℕ) → times is_arrival (turn_events n) ≡ 0
 unfolding times
 turn-no_arrival n = omega (arith, steps-no_arrival n 0)
 
+steps-no_restagger : (n c : ℕ) → times is_restagger (steps_from c n) ≡ 0
+unfolding steps_from times
+steps-no_restagger zero c = refl
+steps-no_restagger (suc n) c = omega (arith, steps-no_restagger n (c + 1))
+
+pub turn-no_restagger : (n : ℕ) → times is_restagger (turn_events n) ≡ 0
+unfolding times
+turn-no_restagger n = omega (arith, steps-no_restagger n 0)
+
+pub turns-no_restagger : (n k : ℕ) → times is_restagger (turns_of n k) ≡ 0
+unfolding turns_of times
+turns-no_restagger n zero = refl
+turns-no_restagger n (suc k) =
+    omega (arith, times-append is_restagger (turn_events n) (turns_of n k), turn-no_restagger n, turns-no_restagger n k)
+
 pub turns-no_arrival : (n k : ℕ) → times is_arrival (turns_of n k) ≡ 0
 unfolding turns_of times
 turns-no_arrival n zero = refl
@@ -70,7 +85,7 @@ pub turn-fits : {W : Type 0} (s : MirrorState W) → AllByRecursion (Fits s) (tu
 turn-fits s = (tt, steps-fit s (length s.runs) 0 (omega arith))
 
 pub turn-room : {W : Type 0} (s : MirrorState W) (n : ℕ) → HasRoomAlong s (turn_events n)
-turn-room s n = (room-along (turn_events n) s 0 (let none = turn-no_arrival n in omega arith)).0
+turn-room s n = (room-along (turn_events n) s 0 (let none = turn-no_arrival n in omega arith) (turn-no_restagger n)).0
 
 -- a drained mirror makes no turn
 pub drained-state : {W : Type 0} (n : ℕ) (s : MirrorState W) → is_drained s ≡ true → drain_within n s ≡ s

@@ -53,3 +53,26 @@ play-parts show opening m opened made drained none one two three all begun playe
 pub written : {X : Type 0} (len : ℕ) (new items : List X) → length items ≡ len → length new ≡ length items → take len (new ++ drop (length new) items) ≡ new
 written len new items held same =
     rw (ap (λ (n : ℕ). drop n items) same ∙ drop_all (length items) items (omega arith), append-nil new) (take_all len new (omega arith))
+
+-- after a script, and after draining, and how many mirrors a vector holds then
+pub scripted-written :
+    {W : Type 0} (commands : List Command) (ls : List ScriptLine) (len : ℕ) (items opened new : List (MirrorState W))
+    → len ≡ length items → opened ≡ items → new ≡ after_script commands opened ls → take len (new ++ drop (length new) items) ≡ new
+scripted-written {W} commands ls len items opened new held lent made =
+    written len new items (sym held)
+    (ap (λ (ss : List (MirrorState W)). length ss) made ∙ after_script-count commands ls opened ∙ ap (λ (ss : List (MirrorState W)). length ss) lent)
+
+pub scripted-long :
+    {W : Type 0} (commands : List Command) (ls : List ScriptLine) (len : ℕ) (items opened new : List (MirrorState W))
+    → len ≡ length items → opened ≡ items → new ≡ after_script commands opened ls → len ≡ length (take len (new ++ drop (length new) items))
+scripted-long {W} commands ls len items opened new held lent made =
+    held
+    ∙ sym (ap (λ (ss : List (MirrorState W)). length ss) (scripted-written commands ls len items opened new held lent made ∙ made)
+    ∙ after_script-count commands ls opened ∙ ap (λ (ss : List (MirrorState W)). length ss) lent)
+
+pub drained-written :
+    {W : Type 0} (len : ℕ) (items opened new : List (MirrorState W))
+    → len ≡ length items → opened ≡ items → new ≡ map (λ s. drain s) opened → take len (new ++ drop (length new) items) ≡ new
+drained-written {W} len items opened new held lent made =
+    written len new items (sym held)
+    (ap (λ (ss : List (MirrorState W)). length ss) made ∙ length-map opened (λ (s : MirrorState W). drain s) ∙ ap (λ (ss : List (MirrorState W)). length ss) lent)

@@ -75,7 +75,7 @@ arrives_at number (lines.Run mirror copy) = false
 
 -- a mirror as the match begins, with room for each of its arrivals
 unfoldable pub opening_mirror : {W : Type 0} → W → MatchData → ℕ → MirrorState W
-opening_mirror opening m number = opening_state opening m.length m.delays (times (arrives_at number) m.script)
+opening_mirror opening m number = opening_state opening m.length (m.delays ∷ []) (times (arrives_at number) m.script) 0
 
 -- so many mirrors as the match begins, of which the first has this number
 unfoldable pub opening_from : {W : Type 0} → W → MatchData → ℕ → ℕ → List (MirrorState W)

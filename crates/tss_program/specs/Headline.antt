@@ -30,7 +30,7 @@ pub record IsPlayed {W : Type 0} (rules : Rules W) (m : MatchData) (start end : 
   -- which is the bound that is told
   pub late : (n : ℕ) (x : Command) (bound : ℕ) → let s = after start (take n log) in
       (said s (Arrive x) ≡ ToArrive (Late bound))
-      ↔ ((is_repeat s x ≡ false) × (x.time < last_clock s) × (bound ≡ last_clock s))
+      ↔ ((is_repeat s x ≡ false) × (x.time < last_clock s.runs) × (bound ≡ last_clock s.runs))
   -- it leads to the mirror that is shown, which is drained
   pub leads : after start log ≡ end
   pub drained : IsDrained end

@@ -30,6 +30,10 @@ pub record Streams : Type 0 where
 abbrev pub IsInput : Option (List ℕ) → List ℕ → Type 0
 IsInput left input = IfSome left (λ bytes. bytes ≡ input)
 
+-- what stands behind the first bytes of what a source tells, as many as the limit of a text and one more
+unfoldable pub behind_limit : Option (List ℕ) → Option (List ℕ)
+behind_limit left = option_map (drop (text_limit + 1)) left
+
 -- a run from streams to streams ended in one of the ways that what is due allows
 abbrev pub EndsWith : Due → Streams → Streams → ℕ → List MirrorLog → Type 0
 EndsWith due old new status kept =
@@ -109,6 +113,6 @@ pub record IsRun (words : List (List ℕ)) (old new : Streams) (status : ℕ) (k
   pub order_keeps_nothing : subcommand_of words ≡ Some Order → kept ≡ []
   pub silent : (status ≡ 1) ⊎ (status ≡ 3) → Gains old.taken [] new.taken
   -- what was read: at status 0 and 5 the input up to its end, or to one byte past the limit; never more than that
-  pub whole : (status ≡ 0) ⊎ (status ≡ 5) → new.left ≡ option_map (drop (text_limit + 1)) old.left
+  pub whole : (status ≡ 0) ⊎ (status ≡ 5) → new.left ≡ behind_limit old.left
   pub front : (front : List ℕ) × (length front ≤ text_limit + 1) × Yields old.left front new.left
   pub reads : new.reads ≤ old.reads + (text_limit + 1)

@@ -1,6 +1,6 @@
 -- Why a run has no answer.
-use Rattle.tss_io.specs.declared.read_fault.ReadFault.{ReadFault}
-use Rattle.tss_io.specs.declared.read_fault.ReadFault.TheVariants as reads
+use Rattle.tss_io.specs.declared.faults.ReadFault.{ReadFault}
+use Rattle.tss_io.specs.declared.faults.ReadFault.TheVariants as reads
 use Rattle.match_file.specs.declared.fault.TextFault.{TextFault}
 use Rattle.match_file.specs.declared.fault.TextFault.TheVariants as texts
 use Rattle.match_file.specs.declared.cause.Cause.TheVariants.{Shape}

@@ -81,7 +81,7 @@ pub fn open<G: Game>(alloc: Global, opening: &G, m: &Match) -> Result<Vec<Mirror
     let mut mirrors = Vec::new(alloc);
     for number in 0..m.mirrors {
         let room = arrivals_at(number, m.script.as_slice());
-        mirrors.push(Mirror::new(alloc, opening, schedule(m), room)?)?;
+        mirrors.push(Mirror::new(alloc, opening, &[schedule(m)], room, 0)?)?;
     }
     Ok(mirrors)
 }
@@ -160,6 +160,7 @@ pub fn make<G: Game>(
     ensures state { mirror.new ≡ after_line m.now.commands line.now mirror.old }
     ensures replies { result.items ≡ replies_to m.now.commands line.now mirror.old }
 {
+    mirror.always();
     let events = events_of(m, names, mirror.copies(), line);
     make_events(mirror, events.as_slice())
 }
@@ -169,6 +170,7 @@ pub fn turn<G: Game>(mirror: &mut Mirror<G>) -> Replies
     ensures state { mirror.new ≡ turn mirror.old }
     ensures replies { result.items ≡ answers mirror.old (turn_events (length mirror.old.runs)) }
 {
+    mirror.always();
     let events = turn_events(mirror.copies());
     make_events(mirror, events.as_slice())
 }

@@ -9,7 +9,7 @@ ghost use Rattle.match_file.specs.Data.{MatchData, IsPlain};
 ghost use Rattle.match_file.specs.Text.{match_text};
 ghost use Rattle.tss_program.specs.Subcommands.{subcommand_of};
 ghost use Rattle.tss_program.specs.Due.{due_of_match, code, IsNoMatch, refusal_of, text_limit};
-ghost use Rattle.tss_program.specs.Run.{Streams, IsInput, WhyStopped, IfRefused, IsRun, IsPut};
+ghost use Rattle.tss_program.specs.Run.{Streams, IsInput, behind_limit, WhyStopped, IfRefused, IsRun, IsPut};
 
 use crate::done::Done;
 use crate::play::{Answer, order, play};
@@ -35,8 +35,8 @@ const USAGE: &str = "usage: tss order|play|race|audit|score|soak N\n";
 fn read_input<S: Source>(alloc: Global, source: &mut S) -> Result<Match, Stop>
     ensures found { IfOk result (λ m. IsPlain m × IsInput (S.left source.old) (match_text m)) }
     ensures why { IfErr result (λ stop. WhyStopped (S.left source.old) (Rose (S.faults source.old) (S.faults source.new)) stop) }
-    ensures whole { OnOk result (S.left source.new ≡ option_map (drop (text_limit + 1)) (S.left source.old)) }
-    ensures refused { IfErr result (λ stop. IfRefused stop (S.left source.new ≡ option_map (drop (text_limit + 1)) (S.left source.old))) }
+    ensures whole { OnOk result (S.left source.new ≡ behind_limit (S.left source.old)) }
+    ensures refused { IfErr result (λ stop. IfRefused stop (S.left source.new ≡ behind_limit (S.left source.old))) }
     ensures front { (front : List ℕ) × (length front ≤ text_limit + 1) × Yields (S.left source.old) front (S.left source.new) }
     ensures reads { S.calls source.new ≤ S.calls source.old + (text_limit + 1) }
 {

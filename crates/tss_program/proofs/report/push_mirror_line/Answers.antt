@@ -8,5 +8,5 @@ use Rattle.tss_program.proofs.report.push_mirror_line.Goals as goal
 pub returns : goal.returns
 returns g c =
     on_ok_weaker c.push_line.result
-    (λ put. put ∙ rw (c.number.ensures, c.number-2.ensures, c.number-3.ensures, c.number-4.ensures, c.from.ensures, c.accepted.ensures, c.turned.ensures, c.repairs.ensures) refl)
+    (λ put. put ∙ rw (c.from.ensures, c.accepted.ensures, c.turned.ensures, c.repairs.ensures) refl)
     c.push_line.ensures.ok
