@@ -4,3 +4,4 @@ pub mod Steps
 pub mod Events
 pub mod OnWay
 pub mod Whole
+pub mod Ends
