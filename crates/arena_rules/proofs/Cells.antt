@@ -14,7 +14,7 @@ pub same_cell-symm : (a b : Cell) → same_cell a b ≡ same_cell b a
 same_cell-symm a b = rw (same_number-symm a.x b.x, same_number-symm a.y b.y) refl
 
 -- where no element passes a test, each fails it
-each_fails : {X : Type 0} (test : X → Bool) (xs : List X) → list_any test xs ≡ false → AllByRecursion (λ x. test x ≡ false) xs
+pub each_fails : {X : Type 0} (test : X → Bool) (xs : List X) → list_any test xs ≡ false → AllByRecursion (λ x. test x ≡ false) xs
 each_fails test [] none = tt
 each_fails test (x ∷ xs) none = ((or_parts _ _ none).0, each_fails test xs (or_parts _ _ none).1)
 
@@ -36,3 +36,13 @@ IsDistinct-set same symm (x ∷ xs) (suc i) y apart none =
 pub IsDistinct-back : {X : Type 0} (same : X → X → Bool) (xs ys : List X) → IsDistinct same (xs ++ ys) → IsDistinct same ys
 IsDistinct-back same [] ys apart = apart
 IsDistinct-back same (x ∷ xs) ys apart = IsDistinct-back same xs ys (IsDistinct-tail same x (xs ++ ys) apart)
+
+-- and the front
+IsDistinct-front_head : {X : Type 0} (test : X → Bool) (xs ys : List X) → AllByRecursion (λ x. test x ≡ false) (xs ++ ys) → AllByRecursion (λ x. test x ≡ false) xs
+IsDistinct-front_head test [] ys fails = tt
+IsDistinct-front_head test (x ∷ xs) ys fails = (fails.0, IsDistinct-front_head test xs ys fails.1)
+
+pub IsDistinct-front : {X : Type 0} (same : X → X → Bool) (xs ys : List X) → IsDistinct same (xs ++ ys) → IsDistinct same xs
+unfolding IsDistinct
+IsDistinct-front same [] ys apart = tt
+IsDistinct-front same (x ∷ xs) ys apart = (IsDistinct-front_head (same x) xs ys apart.0, IsDistinct-front same xs ys apart.1)

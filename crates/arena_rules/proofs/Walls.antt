@@ -1,5 +1,5 @@
 -- Which cells are walled, and that a grid stays one that the ground can have.
-use Rattle.std.proofs.Common.{◌≡◌, ℕ, ◌<◌, ◌≤◌, ◌||◌, ◌&&◌, ◌==◌, ◌^◌, ◌*◌, ◌%◌, false, ℤ, pos, negsuc, refl, sym, ap, ◌∙◌, inl, inr, length, slice_index, replicate, bit_or, arith, length-set, get_or-set_other}
+use Rattle.std.proofs.Common.{◌≡◌, ◌↔◌, ◌⊎◌, eq-eqb, ℕ, ◌<◌, ◌≤◌, ◌||◌, ◌&&◌, ◌==◌, ◌^◌, ◌*◌, ◌%◌, false, ℤ, pos, negsuc, refl, sym, ap, ◌∙◌, inl, inr, length, slice_index, replicate, bit_or, arith, length-set, get_or-set_other}
 use Rattle.std.specs.Int.{bit_at, FitsUnsignedBits}
 use Rattle.std.proofs.lemmas.Bool.{cases_lt, cases_eq, eqb-true, ne_eqb, or_cases, and_parts, and_left, and_right, le-ltb, false≢true}
 use Rattle.std.proofs.lemmas.Bool.Decides.{nat_tests}
@@ -7,7 +7,7 @@ use Rattle.std.proofs.lemmas.Grind.{get_or-set_at}
 use Rattle.std.proofs.lemmas.List.{get_or-replicate, get_or_past, length-replicate}
 use Rattle.std.proofs.lemmas.Nat.{one_shl}
 use Rattle.std.proofs.lemmas.Nat.Bits.{bit_at-zero, bit_at_or, bit_at-lt, bit_at-pow_same, bit_at-pow_other}
-use Rattle.arena_rules.specs.Ground.{Grid, IsGrid, open_grid, is_walled, with_wall, is_free, is_open}
+use Rattle.arena_rules.specs.Ground.{Grid, IsGrid, open_grid, is_walled, IsWalled, with_wall, is_free, is_open}
 
 -- no row of an open grid has a wall
 no_wall_in_row : (n y : ℕ) → slice_index (replicate n 0) y ≡ 0
@@ -67,3 +67,20 @@ unfolding is_open
 is_free-high grid (pos x) (pos y) sound high = elim (cases_lt y 256) [ inl fits ↦ absurd (high fits) | inr beyond ↦ sym (and_right _ _ (and_left _ _ (le-ltb y grid.height (omega (arith, sound.height.1))))) ]
 is_free-high grid (pos x) (negsuc y) sound high = refl
 is_free-high grid (negsuc x) y sound high = refl
+
+-- a wall more, in cells
+pub IsWalled-with_wall : (grid : Grid) (x y a b : ℕ) → y < length grid.walls → IsWalled (with_wall grid x y) a b ↔ (IsWalled grid a b ⊎ ((a ≡ x) × (b ≡ y)))
+IsWalled-with_wall grid x y a b within =
+    let cells = is_walled-with_wall grid x y a b within in (
+      λ walled. elim (or_cases (is_walled grid a b) ((a == x) && (b == y)) (sym cells ∙ walled)) [
+        | inl old ↦ inl old
+        | inr new ↦ inr (eqb-true a x (and_parts (a == x) (b == y) new).0, eqb-true b y (and_parts (a == x) (b == y) new).1)
+      ],
+      λ either. cells ∙ elim either [
+        | inl old ↦ ap (λ w. w || ((a == x) && (b == y))) old
+        | inr new ↦ grind (arith, nat_tests, eq-eqb a x new.0, eq-eqb b y new.1)
+      ],
+    )
+
+pub no_wall : (width height x y : ℕ) → IsWalled (open_grid width height) x y → ⊥
+no_wall width height x y walled = false≢true (sym (is_walled-open_grid width height x y) ∙ walled)

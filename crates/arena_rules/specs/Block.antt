@@ -1,15 +1,21 @@
 -- The lines that show a world.
-use Rattle.std.specs.Prelude.{◌≡◌, ℕ, ◌+◌, List, [], ◌∷◌, ◌++◌, flat_map, codes, decimal, unwrap_or, slice_get}
+use Rattle.std.specs.Prelude.{ℕ, ◌+◌, List, [], ◌∷◌, ◌++◌, flat_map, codes, decimal, unwrap_or, slice_get}
 use Rattle.std.specs.Fmt.{signed_decimal}
-use Rattle.game_trait.specs.Run.{IsPrefix}
+use Rattle.tss_io.specs.Lines.{as_line, spaced}
 use Rattle.arena_rules.specs.World.{World}
 use Rattle.arena_rules.specs.declared.face.Face.{Face}
 use Rattle.arena_rules.specs.declared.face.Face.TheVariants.{N, E, S, W}
+use Rattle.arena_rules.specs.declared.pickup.Kind.{Kind}
+use Rattle.arena_rules.specs.declared.pickup.Kind.TheVariants.{Ammo, Heal, Gold}
+use Rattle.arena_rules.specs.declared.pickup.Pickup.{Pickup}
 use Rattle.arena_rules.specs.declared.player.Player.{Player}
+use Rattle.arena_rules.specs.declared.player.State.{State}
+use Rattle.arena_rules.specs.declared.player.State.TheVariants.{Live, Dead}
+use Rattle.arena_rules.specs.declared.shot.Shot.{Shot}
 
--- a line: its first word, each further word behind a space, and a newline
-abbrev pub line_of : List ℕ → List (List ℕ) → List ℕ
-line_of first words = first ++ (flat_map (λ word. 32 ∷ word) words ++ 10 ∷ [])
+-- a line of words
+abbrev pub line_of : List (List ℕ) → List ℕ
+line_of words = as_line (spaced words)
 
 -- the letter of a facing
 abbrev pub face_word : Face → List ℕ
@@ -18,23 +24,37 @@ face_word E = codes "e"
 face_word S = codes "s"
 face_word W = codes "w"
 
+-- the word of a kind of pickup
+abbrev pub kind_word : Kind → List ℕ
+kind_word Ammo = codes "ammo"
+kind_word Heal = codes "heal"
+kind_word Gold = codes "gold"
+
 -- the name of the player of this number, or a question mark where the roster has none
 abbrev pub name_of : List (List ℕ) → ℕ → List ℕ
 name_of names number = unwrap_or (slice_get names number) (codes "?")
 
--- the line of a live player: name, cell, facing, health, ammunition and score
-unfoldable pub live_line : List ℕ → Player → List ℕ
-live_line name p = line_of (codes "live") (name ∷ decimal p.spot.x ∷ decimal p.spot.y ∷ face_word p.spot.face ∷ decimal p.health ∷ decimal p.ammo ∷ signed_decimal p.score ∷ [])
+-- the line of a player: a live one's name, cell, facing, health, ammunition and score, a dead one's name, wait and score
+abbrev pub state_words : List ℕ → List ℕ → State → List (List ℕ)
+state_words name score (Live b) = codes "live" ∷ name ∷ decimal b.spot.x ∷ decimal b.spot.y ∷ face_word b.spot.face ∷ decimal b.health ∷ decimal b.ammo ∷ score ∷ []
+state_words name score (Dead wait) = codes "dead" ∷ name ∷ decimal wait ∷ score ∷ []
+
+unfoldable pub player_line : List ℕ → Player → List ℕ
+player_line name p = line_of (state_words name (signed_decimal p.score) p.state)
 
 -- the lines of players in order, of whom the first has this number
 unfoldable pub player_lines : List (List ℕ) → ℕ → List Player → List ℕ
 player_lines names number [] = []
-player_lines names number (p ∷ ps) = live_line (name_of names number) p ++ player_lines names (number + 1) ps
+player_lines names number (p ∷ ps) = player_line (name_of names number) p ++ player_lines names (number + 1) ps
 
--- the lines of a world: a line for each player
+-- the line of a shot: its owner's name, its cell, its facing and the cells left
+unfoldable pub shot_line : List (List ℕ) → Shot → List ℕ
+shot_line names s = line_of (codes "shot" ∷ name_of names s.owner ∷ decimal s.spot.x ∷ decimal s.spot.y ∷ face_word s.spot.face ∷ decimal s.left ∷ [])
+
+-- the line of a pickup: its cell, its kind and its wait
+unfoldable pub item_line : Pickup → List ℕ
+item_line p = line_of (codes "item" ∷ decimal p.place.x ∷ decimal p.place.y ∷ kind_word p.place.kind ∷ decimal p.wait ∷ [])
+
+-- the lines of a world: players, shots, pickups
 abbrev pub block_of : World → List (List ℕ) → List ℕ
-block_of world names = player_lines names 0 world.players
-
--- a list gained the front of some lines, maybe not all of them
-abbrev pub GainsFront : List ℕ → List ℕ → List ℕ → Type 0
-GainsFront old lines new = (front : List ℕ) × (new ≡ old ++ front) × IsPrefix front lines
+block_of world names = player_lines names 0 world.players ++ (flat_map (shot_line names) world.shots ++ flat_map item_line world.pickups)

@@ -17,6 +17,9 @@ open_grid width height = record { width = width; height = height; walls = replic
 unfoldable pub is_walled : Grid → ℕ → ℕ → Bool
 is_walled grid x y = bit_at (slice_index grid.walls y) x == 1
 
+abbrev pub IsWalled : Grid → ℕ → ℕ → Type 0
+IsWalled grid x y = is_walled grid x y ≡ true
+
 -- the grid with a wall in this cell too
 unfoldable pub with_wall : Grid → ℕ → ℕ → Grid
 with_wall grid x y = record grid { walls = slice_set grid.walls y (bit_or (slice_index grid.walls y) (2 ^ x)) }

@@ -1,6 +1,11 @@
 pub mod Ground
 pub mod Setup
+pub mod Player
+pub mod Pickup
+pub mod Scene
+pub mod Command
+pub mod Beat
 pub mod World
 pub mod Roster
 pub mod Block
-pub mod Word
+pub mod Worked

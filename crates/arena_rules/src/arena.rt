@@ -1,52 +1,58 @@
-ghost use Rattle.std.specs.Prelude.{◌≡◌, ◌++◌, ◌<◌, length, OnOk, OnErr, OnSome, slice_get, option_map};
+ghost use Rattle.std.specs.Prelude.{◌≡◌, ◌↔◌, ◌<◌, ◌++◌, IsTrue, length, take, OnOk, OnSome, slice_get, option_map};
+ghost use Rattle.arena_rules.specs.Block.{block_of};
 ghost use Rattle.arena_rules.specs.Setup.{layout_of, IsLayout};
-ghost use Rattle.arena_rules.specs.World.{opening_world, is_held, is_vacant, gone, with_player, applied, beaten, IsSound};
-ghost use Rattle.arena_rules.specs.Block.{block_of, GainsFront};
+ghost use Rattle.arena_rules.specs.Command.{with_player, arrived, turned, gone, shot_by, applied, turned_left, turned_right};
+ghost use Rattle.arena_rules.specs.Beat.{beaten};
+ghost use Rattle.arena_rules.specs.World.{opening_world, IsWorld};
 
+use crate::block::{push_pickups, push_players, push_shots};
 use crate::ground::Ground;
-use crate::player::Player;
+use crate::pickup::{MOST_PICKUPS, Pickup, all_ready, ready_kind, take, wait};
+use crate::player::{Body, MOST_PLAYERS, Player, State, all_at_home, is_held};
+use crate::returning::return_all;
 use crate::roster::Roster;
 use crate::setup::Setup;
+use crate::shot::{MOST_SHOTS, Shot, fly_all};
 use crate::shown::Shown;
 use arrayvec::ArrayVec;
 use game_trait::{Act, Command, Game, Tick};
 use std::marker::Model;
 use tss_io::NoMemory;
 
-/// A world of the arena: its ground, its players and its time. No two players ever share a cell, and none stands on a wall or
-/// outside the grid. It has a fixed size.
+/// A world of the arena: its ground, players, shots, pickups and time. No two live players ever share a cell, and no live
+/// player, shot or pickup stands on a wall or outside the grid. It has a fixed size.
 #[derive(Debug, Drop)]
 pub struct Arena {
     ground: Ground,
-    players: ArrayVec<Player, 16>,
+    players: ArrayVec<Player, MOST_PLAYERS>,
+    shots: ArrayVec<Shot, MOST_SHOTS>,
+    pickups: ArrayVec<Pickup, MOST_PICKUPS>,
     time: Tick,
 }
 
 impl Model for Arena {
-    ghost use Rattle.arena_rules.specs.World.{World, IsSound};
+    ghost use Rattle.arena_rules.specs.World.{World, IsWorld};
 
     ghost Value = { World };
 
-    ghost view = { λ a. record { grid = a.ground; players = a.players.items; time = a.time } };
+    ghost view = { λ a. record { grid = a.ground; players = a.players.items; shots = a.shots.items; pickups = a.pickups.items; time = a.time } };
 
-    ghost invariant = { λ a. IsSound (record { grid = a.ground; players = a.players.items; time = a.time }) };
+    ghost invariant = { λ a. IsWorld (record { grid = a.ground; players = a.players.items; shots = a.shots.items; pickups = a.pickups.items; time = a.time }) };
 }
 
 impl Arena {
-    /// The world as a match of this setup begins: every player is at home with health 3, ammunition 5 and score 0, and the time
-    /// is 0. The setup must be one that a match text can give. It takes no memory.
+    /// The world as a match of this setup begins: every player is live at home with health 3, ammunition 5 and score 0, no shot
+    /// flies, every pickup lies ready, and the time is 0. The setup must be one that a match text can give. It takes no memory.
     pub fn start(setup: &Setup) -> Arena
         requires { IsLayout (layout_of setup.now) }
         ensures opening { result ≡ opening_world (layout_of setup.now) }
-        ensures sound { IsSound result }
+        ensures sound { IsWorld result }
     {
-        let mut players = ArrayVec::new();
-        for home in setup.players.iter() {
-            players.push(Player::at_home(*home));
-        }
         Arena {
             ground: setup.ground,
-            players,
+            players: all_at_home(&setup.players),
+            shots: ArrayVec::new(),
+            pickups: all_ready(&setup.pickups),
             time: 0,
         }
     }
@@ -54,7 +60,7 @@ impl Arena {
     /// The number of ticks that have ended, which stays at 4,294,967,295 once there.
     pub fn time(&self) -> Tick
         ensures value { result ≡ self.now.time }
-        ensures sound { IsSound self.now }
+        ensures sound { IsWorld self.now }
     {
         self.time
     }
@@ -67,10 +73,32 @@ impl Arena {
         self.players[player as usize].score
     }
 
+    /// Whether the other world is the same: ground, players, shots, pickups and time.
+    pub fn same(&self, other: &Arena) -> bool
+        ensures { IsTrue result ↔ (self.now ≡ other.now) }
+    {
+        self.time == other.time
+            && self.ground == other.ground
+            && are_same_players(&self.players, &other.players)
+            && are_same_shots(&self.shots, &other.shots)
+            && are_same_pickups(&self.pickups, &other.pickups)
+    }
+
+    // Appends the lines after the block's head. On `NoMemory` some may have been appended.
+    fn push_lines(&self, roster: &Roster, out: &mut Vec<u8>) -> Result<(), NoMemory>
+        ensures ok { OnOk result (out.new.items ≡ out.old.items ++ block_of self.now roster.now) }
+        ensures front { take (length out.old.items) out.new.items ≡ out.old.items }
+    {
+        push_players(&self.players, roster, out)?;
+        push_shots(&self.shots, roster, out)?;
+        push_pickups(&self.pickups, out)
+    }
+
+    // The player of this number, if there is one.
     fn player(&self, number: u8) -> Option<Player>
         ensures player { result ≡ slice_get self.now.players number }
         ensures there { OnSome result (number < length self.now.players) }
-        ensures sound { IsSound self.now }
+        ensures sound { IsWorld self.now }
     {
         self.players.get(number as usize).copied()
     }
@@ -78,44 +106,84 @@ impl Arena {
     // Puts a player in the place of the one of this number.
     fn put(&mut self, number: u8, player: Player)
         requires there { number < length self.old.players }
-        requires sound { IsSound (with_player self.old number player) }
+        requires sound { IsWorld (with_player self.old number player) }
         ensures put { self.new ≡ with_player self.old number player }
-        ensures sound { IsSound self.new }
     {
         self.players[number as usize] = player;
     }
 
-    #[tactic(auto, unfolding(crate::specs::World::is_held))]
-    fn is_held(&self, x: u8, y: u8) -> bool
-        ensures { result ≡ is_held self.now.players (record { x = x; y = y }) }
+    // The player of this number, who has this body, comes to this spot, and takes what lies ready there.
+    fn arrive(&mut self, number: u8, player: Player, body: Body)
+        requires there { number < length self.old.players }
+        requires sound { IsWorld (arrived self.old number player body) }
+        ensures arrived { self.new ≡ arrived self.old number player body }
     {
-        self.players.iter().any(|p| x == p.spot.x && y == p.spot.y)
+        let kind = ready_kind(&self.pickups, body.spot);
+        self.players[number as usize] = player.given(body, kind);
+        take(&mut self.pickups, body.spot);
     }
 
-    #[tactic(auto, unfolding(crate::specs::World::is_vacant))]
-    fn is_vacant(&self, x: u8, y: u8) -> bool
-        ensures { result ≡ is_vacant self.now (record { x = x; y = y }) }
+    // A player goes one cell ahead.
+    #[tactic(auto, unfolding(crate::specs::Command::gone))]
+    fn go(&mut self, number: u8)
+        ensures gone { self.new ≡ gone self.old number }
     {
-        self.ground.free(i32::from(x), i32::from(y)) && !self.is_held(x, y)
-    }
-
-    // The player after a step to this column and row, which only a vacant cell allows.
-    fn gone(&self, player: Player, x: i32, y: i32) -> Player
-        ensures { result ≡ gone self.now player (x, y) }
-    {
-        // Reads the world, whose invariant the answers below rest on.
-        let _ = &self.time;
-        let Ok(x) = u8::try_from(x) else {
-            return player;
+        let Some(player) = self.player(number) else {
+            return;
         };
-        let Ok(y) = u8::try_from(y) else {
-            return player;
+        let State::Live(body) = player.state else {
+            return;
         };
-        if self.is_vacant(x, y) {
-            player.moved_to(x, y)
-        } else {
-            player
+        let Some(spot) = self.ground.open_ahead(body.spot) else {
+            return;
+        };
+        if !is_held(&self.players, spot) {
+            self.arrive(number, player, Body { spot, ..body });
         }
+    }
+
+    // A player turns to the left.
+    fn turn_left(&mut self, number: u8)
+        ensures turned { self.new ≡ turned self.old number turned_left }
+    {
+        let Some(player) = self.player(number) else {
+            return;
+        };
+        if let State::Live(body) = player.state {
+            let face = body.spot.face.turned_left();
+            self.put(number, player.with_body(body.turned_to(face)));
+        }
+    }
+
+    // A player turns to the right.
+    fn turn_right(&mut self, number: u8)
+        ensures turned { self.new ≡ turned self.old number turned_right }
+    {
+        let Some(player) = self.player(number) else {
+            return;
+        };
+        if let State::Live(body) = player.state {
+            let face = body.spot.face.turned_right();
+            self.put(number, player.with_body(body.turned_to(face)));
+        }
+    }
+
+    // A player shoots.
+    fn shoot(&mut self, number: u8)
+        ensures shot { self.new ≡ shot_by self.old number }
+    {
+        let Some(player) = self.player(number) else {
+            return;
+        };
+        let State::Live(body) = player.state else {
+            return;
+        };
+        if body.ammo == 0 || self.shots.is_full() {
+            return;
+        }
+        let ammo = body.ammo - 1;
+        self.players[number as usize] = player.with_body(Body { ammo, ..body });
+        self.shots.push(Shot::fired(number, body.spot));
     }
 }
 
@@ -124,51 +192,58 @@ impl Game for Arena {
 
     ghost rules = { arena_rules };
 
-    /// A command of a player who isn't there changes nothing, nor does a step into a cell that is walled, held by another player
-    /// or outside the grid.
-    #[tactic(auto, unfolding(crate::specs::World::applied))]
+    /// A command of a player who isn't there or is dead changes nothing, nor does a step into a cell that is walled, held by
+    /// another live player or outside the grid, nor a shot without ammunition or beside 64 others.
+    #[tactic(auto, unfolding(crate::specs::Command::applied))]
     fn apply(&mut self, x: &Command)
         ensures applied { self.new ≡ applied self.old x.now }
-        ensures sound { IsSound self.new }
+        ensures sound { IsWorld self.new }
     {
-        let Some(player) = self.player(x.player) else {
-            return;
-        };
+        // Reads the world, whose invariant the answers below rest on.
+        let _ = &self.time;
         match x.act {
-            Act::Go => {
-                let (column, row) = player.spot.ahead();
-                let gone = self.gone(player, column, row);
-                self.put(x.player, gone);
+            Act::Go => self.go(x.player),
+            Act::Left => self.turn_left(x.player),
+            Act::Right => self.turn_right(x.player),
+            Act::Shoot => self.shoot(x.player),
+            Act::Dash => {
+                self.go(x.player);
+                self.go(x.player);
             }
-            Act::Left => self.put(x.player, player.turned_to(player.spot.face.turned_left())),
-            Act::Right => self.put(x.player, player.turned_to(player.spot.face.turned_right())),
-            Act::Shoot => {}
         }
     }
 
+    /// The shots fly, the dead wait and return, the pickups wait, and the time rises by one.
     fn beat(&mut self)
         ensures beaten { self.new ≡ beaten self.old }
-        ensures sound { IsSound self.new }
+        ensures sound { IsWorld self.new }
     {
+        self.shots = fly_all(&self.ground, &mut self.players, &self.shots);
+        return_all(&mut self.players);
+        wait(&mut self.pickups);
         self.time = self.time.saturating_add(1);
     }
 
     fn set_from(&mut self, other: &Self)
         ensures equal { self.new ≡ other.now }
-        ensures sound { IsSound self.new }
+        ensures sound { IsWorld self.new }
     {
         self.ground = other.ground;
         self.players = other.players.clone().unwrap();
+        self.shots = other.shots.clone().unwrap();
+        self.pickups = other.pickups.clone().unwrap();
         self.time = other.time;
     }
 
     fn twin(&self) -> Self
         ensures equal { result ≡ self.now }
-        ensures sound { IsSound result }
+        ensures sound { IsWorld result }
     {
         Arena {
             ground: self.ground,
             players: self.players.clone().unwrap(),
+            shots: self.shots.clone().unwrap(),
+            pickups: self.pickups.clone().unwrap(),
             time: self.time,
         }
     }
@@ -180,9 +255,31 @@ impl Shown for Arena {
     ghost lines = { block_of };
 
     fn block(&self, roster: &Roster, out: &mut Vec<u8>) -> Result<(), NoMemory> {
-        for (number, player) in self.players.iter().enumerate() {
-            player.push_line(roster.printed_name(number as u8), out)?;
+        let length = out.len();
+        match self.push_lines(roster, out) {
+            Ok(()) => Ok(()),
+            Err(fault) => {
+                out.truncate(length);
+                Err(fault)
+            }
         }
-        Ok(())
     }
+}
+
+fn are_same_players(a: &[Player], b: &[Player]) -> bool
+    ensures { IsTrue result ↔ (a.now ≡ b.now) }
+{
+    a == b
+}
+
+fn are_same_shots(a: &[Shot], b: &[Shot]) -> bool
+    ensures { IsTrue result ↔ (a.now ≡ b.now) }
+{
+    a == b
+}
+
+fn are_same_pickups(a: &[Pickup], b: &[Pickup]) -> bool
+    ensures { IsTrue result ↔ (a.now ≡ b.now) }
+{
+    a == b
 }

@@ -1,6 +1,6 @@
 ghost use Rattle.std.specs.Prelude.{◌≡◌};
 ghost use Rattle.arena_rules.specs.Block.{face_word};
-ghost use Rattle.arena_rules.specs.World.{turned_left, turned_right};
+ghost use Rattle.arena_rules.specs.Command.{turned_left, turned_right};
 
 /// Where a player or a shot looks: north, east, south or west.
 #[derive(Clone, Copy, Debug, Default, PartialEq, Eq)]

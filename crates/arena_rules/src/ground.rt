@@ -1,11 +1,14 @@
-ghost use Rattle.std.specs.Prelude.{◌≡◌, ◌≤◌, ◌<◌};
-ghost use Rattle.arena_rules.specs.Ground.{open_grid, with_wall, is_walled, is_open, is_free, IsGrid};
+ghost use Rattle.std.specs.Prelude.{◌≡◌, ℕ, ◌≤◌, ◌<◌, ◌↔◌, ◌⊎◌};
+ghost use Rattle.arena_rules.specs.Ground.{open_grid, with_wall, is_walled, IsWalled, is_open, is_free, IsGrid};
+ghost use Rattle.arena_rules.specs.Command.{open_spot, open_ahead};
 
+use crate::face::Face;
+use crate::spot::Spot;
 use std::marker::Model;
 
 /// The ground of an arena: a grid of at most 64 by 64 cells, some of them walled. Cells are (x, y); x rises to the east and y to the
 /// south, both from 0. It has a fixed size, and no call takes memory.
-#[derive(Clone, Copy, Debug)]
+#[derive(Clone, Copy, Debug, PartialEq, Eq)]
 pub struct Ground {
     width: u8,
     height: u8,
@@ -30,6 +33,7 @@ impl Ground {
         requires width { (3 ≤ width) × (width ≤ 64) }
         requires height { (1 ≤ height) × (height ≤ 64) }
         ensures open { result ≡ open_grid width height }
+        ensures no_wall { (x y : ℕ) → ¬ IsWalled result x y }
         ensures sound { IsGrid result }
     {
         Ground {
@@ -44,6 +48,8 @@ impl Ground {
         requires column { x < self.old.width }
         requires row { y < self.old.height }
         ensures walled { self.new ≡ with_wall self.old x y }
+        ensures cells { (a b : ℕ) → IsWalled self.new a b ↔ (IsWalled self.old a b ⊎ ((a ≡ x) × (b ≡ y))) }
+        ensures sides { (self.new.width ≡ self.old.width) × (self.new.height ≡ self.old.height) }
         ensures sound { IsGrid self.new }
     {
         let row = self.walls[y as usize];
@@ -70,6 +76,33 @@ impl Ground {
         ensures { result ≡ is_open self.now x y }
     {
         x < self.width && y < self.height && !self.is_walled(x, y)
+    }
+
+    // The spot one cell ahead with the same facing, where that is a cell of the grid and not walled.
+    pub(crate) fn open_ahead(&self, spot: Spot) -> Option<Spot>
+        ensures { result ≡ open_ahead self.now spot }
+    {
+        let (x, y) = spot.ahead();
+        self.open_spot(spot.face, x, y)
+    }
+
+    // The spot at this column and row with this facing, where that is a cell of the grid and not walled.
+    fn open_spot(&self, face: Face, x: i32, y: i32) -> Option<Spot>
+        ensures { result ≡ open_spot self.now face (x, y) }
+    {
+        // Reads the ground, whose invariant the answers below rest on.
+        let _ = &self.width;
+        let Ok(x) = u8::try_from(x) else {
+            return None;
+        };
+        let Ok(y) = u8::try_from(y) else {
+            return None;
+        };
+        if self.is_open(x, y) {
+            Some(Spot { x, y, face })
+        } else {
+            None
+        }
     }
 
     fn is_walled(&self, x: u8, y: u8) -> bool

@@ -2,15 +2,19 @@
 #![tactic(auto)]
 
 mod arena;
+mod block;
 mod face;
 mod ground;
-mod line;
 mod pickup;
 mod player;
+pub mod possible;
+mod returning;
 mod roster;
 mod setup;
+mod shot;
 mod shown;
 mod spot;
+pub mod worked;
 
 pub use arena::Arena;
 pub use face::Face;

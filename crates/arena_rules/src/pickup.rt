@@ -1,12 +1,24 @@
+ghost use Rattle.std.specs.Prelude.{◌≡◌, ◌≤◌, ◌++◌, map, length, OnOk, OnErr};
+ghost use Rattle.arena_rules.specs.Block.{kind_word, item_line};
+ghost use Rattle.arena_rules.specs.Setup.{spot_cell};
+ghost use Rattle.arena_rules.specs.Pickup.{opening_pickup, lies_ready, ready_kind, emptied, taken, waited};
+
+use crate::spot::Spot;
+use arrayvec::ArrayVec;
+use tss_io::{NoMemory, Word, push_line};
+
+// The greatest number of pickups.
+pub const MOST_PICKUPS: usize = 32;
+
 /// What a pickup gives to the player who takes it.
 #[derive(Clone, Copy, Debug, Default, PartialEq, Eq)]
 pub enum Kind {
-    /// Ammunition.
+    /// Four shots more, up to 9 in all.
     #[default]
     Ammo,
-    /// Health.
+    /// One health more, up to 3 in all.
     Heal,
-    /// Score.
+    /// A score of 1 more.
     Gold,
 }
 
@@ -19,4 +31,117 @@ pub struct PickupSpot {
     pub y: u8,
     /// What it gives.
     pub kind: Kind,
+}
+
+// A pickup of the arena.
+#[derive(Clone, Copy, Debug, Default, PartialEq, Eq)]
+pub struct Pickup {
+    pub place: PickupSpot,
+    // For so many beats more it can't be taken, from 0 to 20.
+    pub wait: u8,
+}
+
+impl Kind {
+    // The word of the kind, as texts have it.
+    fn word(self) -> &'static [u8]
+        ensures { result.now ≡ kind_word self }
+    {
+        match self {
+            Kind::Ammo => b"ammo",
+            Kind::Heal => b"heal",
+            Kind::Gold => b"gold",
+        }
+    }
+}
+
+impl Pickup {
+    // Appends the pickup's line: its cell, its kind and its wait. On `NoMemory` `out` is unchanged.
+    #[tactic(auto, unfolding(crate::specs::Block::item_line))]
+    pub fn push_line(&self, out: &mut Vec<u8>) -> Result<(), NoMemory>
+        ensures ok { OnOk result (out.new.items ≡ out.old.items ++ item_line self.now) }
+        ensures err { OnErr result (out.new.items ≡ out.old.items) }
+    {
+        let words = [
+            Word::Text(b"item"),
+            Word::Number(i64::from(self.place.x)),
+            Word::Number(i64::from(self.place.y)),
+            Word::Text(self.place.kind.word()),
+            Word::Number(i64::from(self.wait)),
+        ];
+        push_line(out, &words)
+    }
+
+    // A pickup as the match begins.
+    pub fn ready(place: PickupSpot) -> Pickup
+        ensures { result ≡ opening_pickup place }
+    {
+        Pickup { place, wait: 0 }
+    }
+
+    pub fn lies_ready(&self, spot: Spot) -> bool
+        ensures { result ≡ lies_ready (spot_cell spot) self.now }
+    {
+        spot.x == self.place.x && spot.y == self.place.y && self.wait == 0
+    }
+
+    // The pickup after someone came to the cell of this spot.
+    pub fn emptied(self, spot: Spot) -> Pickup
+        ensures { result ≡ emptied (spot_cell spot) self }
+    {
+        if self.lies_ready(spot) {
+            Pickup { wait: 20, ..self }
+        } else {
+            self
+        }
+    }
+
+    // The pickup after a beat.
+    pub fn waited(self) -> Pickup
+        ensures { result ≡ waited self }
+    {
+        Pickup {
+            wait: self.wait.saturating_sub(1),
+            ..self
+        }
+    }
+}
+
+// The kind of the pickup that lies ready in the cell of this spot.
+pub fn ready_kind(pickups: &[Pickup], spot: Spot) -> Option<Kind>
+    ensures { result ≡ ready_kind pickups.now (spot_cell spot) }
+{
+    pickups
+        .iter()
+        .find(|p| p.lies_ready(spot))
+        .map(|p| p.place.kind)
+}
+
+// Takes what lies ready in the cell of this spot.
+pub fn take(pickups: &mut [Pickup], spot: Spot)
+    ensures { pickups.new ≡ taken pickups.old (spot_cell spot) }
+{
+    for pickup in pickups.iter_mut() {
+        *pickup = pickup.emptied(spot);
+    }
+}
+
+// The third part of a beat.
+pub fn wait(pickups: &mut [Pickup])
+    ensures { pickups.new ≡ map waited pickups.old }
+{
+    for pickup in pickups.iter_mut() {
+        *pickup = pickup.waited();
+    }
+}
+
+// The pickups as the match begins.
+pub fn all_ready(places: &[PickupSpot]) -> ArrayVec<Pickup, MOST_PICKUPS>
+    requires { length places.now ≤ 32 }
+    ensures { result.items ≡ map opening_pickup places.now }
+{
+    let mut pickups = ArrayVec::new();
+    for place in places {
+        pickups.push(Pickup::ready(*place));
+    }
+    pickups
 }

@@ -1,74 +1,227 @@
-ghost use Rattle.std.specs.Prelude.{◌≡◌, ◌++◌, OnOk, OnErr};
-ghost use Rattle.arena_rules.specs.Block.{live_line, GainsFront};
-ghost use Rattle.arena_rules.specs.World.{opening_player, moved_to, turned_to};
+ghost use Rattle.std.specs.Prelude.{◌≡◌, ◌≤◌, ◌++◌, map, length, OnOk, OnErr};
+ghost use Rattle.arena_rules.specs.Block.{player_line};
+ghost use Rattle.arena_rules.specs.Setup.{spot_cell};
+ghost use Rattle.arena_rules.specs.Player.{opening_player, body_at_home, turned_to, alive, stands_in, is_held, holder, is_live, struck, with_gain, with_loss};
+ghost use Rattle.arena_rules.specs.Pickup.{given};
 
 use crate::face::Face;
-use crate::line::{Word, push_line};
+use crate::pickup::Kind;
 use crate::spot::Spot;
-use tss_io::NoMemory;
+use arrayvec::ArrayVec;
+use tss_io::{NoMemory, Word, push_line};
 
-/// A player of the arena.
-#[derive(Clone, Copy, Debug, Default)]
-pub struct Player {
-    /// Where the player stands.
+// The greatest number of players.
+pub const MOST_PLAYERS: usize = 32;
+
+// A live player's body.
+#[derive(Clone, Copy, Debug, Default, PartialEq, Eq)]
+pub struct Body {
+    // Where the player stands, and the facing.
     pub spot: Spot,
-    /// From 1 to 3.
+    // From 1 to 3.
     pub health: u8,
-    /// From 0 to 9.
+    // From 0 to 9.
     pub ammo: u8,
-    /// From -1,000,000 to 1,000,000.
-    pub score: i32,
 }
 
-impl Player {
-    /// A player as the match begins.
-    pub fn at_home(home: Spot) -> Player
-        ensures { result ≡ opening_player home }
+impl Body {
+    pub fn at_home(home: Spot) -> Body
+        ensures { result ≡ body_at_home home }
     {
-        Player {
+        Body {
             spot: home,
             health: 3,
             ammo: 5,
-            score: 0,
         }
     }
 
-    /// The player in another cell.
-    pub fn moved_to(self, x: u8, y: u8) -> Player
-        ensures { result ≡ moved_to self (record { x = x; y = y }) }
-    {
-        Player {
-            spot: Spot { x, y, ..self.spot },
-            ..self
-        }
-    }
-
-    /// The player with another facing.
-    pub fn turned_to(self, face: Face) -> Player
+    pub fn turned_to(self, face: Face) -> Body
         ensures { result ≡ turned_to self face }
     {
-        Player {
+        Body {
             spot: Spot { face, ..self.spot },
             ..self
         }
     }
+}
 
-    /// Puts the player's line to the end: name, cell, facing, health, ammunition and score. On `NoMemory` a front of it may have
-    /// been put.
-    #[tactic(auto, unfolding(crate::specs::Block::live_line))]
-    pub fn push_line(&self, name: &[u8], out: &mut Vec<u8>) -> Result<(), NoMemory>
-        ensures ok { OnOk result (out.new.items ≡ out.old.items ++ live_line name.now self.now) }
-        ensures err { OnErr result (GainsFront out.old.items (live_line name.now self.now) out.new.items) }
-    {
-        let words = [
-            Word::Text(name),
-            Word::Number(i64::from(self.spot.x)),
-            Word::Number(i64::from(self.spot.y)),
-            Word::Text(self.spot.face.letter()),
-            Word::Number(i64::from(self.health)),
-            Word::Number(i64::from(self.ammo)),
-            Word::Number(i64::from(self.score)),
-        ];
-        push_line(b"live", &words, out)
+// Whether a player is live or dead.
+#[derive(Clone, Copy, Debug, PartialEq, Eq)]
+pub enum State {
+    Live(Body),
+    // Dead for so many beats more at least, from 0 to 10.
+    Dead { wait: u8 },
+}
+
+impl Default for State {
+    fn default() -> State {
+        State::Dead { wait: 0 }
     }
+}
+
+// A player of the arena.
+#[derive(Clone, Copy, Debug, Default, PartialEq, Eq)]
+pub struct Player {
+    // Where the player starts and returns to, and the facing there.
+    pub home: Spot,
+    // From -1,000,000 to 1,000,000.
+    pub score: i32,
+    pub state: State,
+}
+
+impl Player {
+    // A player as the match begins.
+    pub fn at_home(home: Spot) -> Player
+        ensures { result ≡ opening_player home }
+    {
+        Player {
+            home,
+            score: 0,
+            state: State::Live(Body::at_home(home)),
+        }
+    }
+
+    pub fn with_body(self, body: Body) -> Player
+        ensures { result ≡ alive self body }
+    {
+        Player {
+            state: State::Live(body),
+            ..self
+        }
+    }
+
+    pub fn is_live(&self) -> bool
+        ensures { result ≡ is_live self.now }
+    {
+        match self.state {
+            State::Live(_) => true,
+            State::Dead { .. } => false,
+        }
+    }
+
+    pub fn stands_in(&self, spot: Spot) -> bool
+        ensures { result ≡ stands_in (spot_cell spot) self.now }
+    {
+        match self.state {
+            State::Live(body) => spot.x == body.spot.x && spot.y == body.spot.y,
+            State::Dead { .. } => false,
+        }
+    }
+
+    // Appends the player's line: a live one's name, cell, facing, health, ammunition and score, a dead one's name, wait and score.
+    // On `NoMemory` `out` is unchanged.
+    #[tactic(auto, unfolding(crate::specs::Block::player_line))]
+    pub fn push_line(&self, name: &[u8], out: &mut Vec<u8>) -> Result<(), NoMemory>
+        ensures ok { OnOk result (out.new.items ≡ out.old.items ++ player_line name.now self.now) }
+        ensures err { OnErr result (out.new.items ≡ out.old.items) }
+    {
+        let score = Word::Number(i64::from(self.score));
+        match self.state {
+            State::Live(body) => {
+                let words = [
+                    Word::Text(b"live"),
+                    Word::Text(name),
+                    Word::Number(i64::from(body.spot.x)),
+                    Word::Number(i64::from(body.spot.y)),
+                    Word::Text(body.spot.face.letter()),
+                    Word::Number(i64::from(body.health)),
+                    Word::Number(i64::from(body.ammo)),
+                    score,
+                ];
+                push_line(out, &words)
+            }
+            State::Dead { wait } => {
+                let words = [
+                    Word::Text(b"dead"),
+                    Word::Text(name),
+                    Word::Number(i64::from(wait)),
+                    score,
+                ];
+                push_line(out, &words)
+            }
+        }
+    }
+
+    // The player of this body, after taking a pickup of this kind, if there is one.
+    pub fn given(self, body: Body, kind: Option<Kind>) -> Player
+        ensures { result ≡ given self body kind }
+    {
+        match kind {
+            None => self.with_body(body),
+            Some(Kind::Ammo) => self.with_body(Body {
+                ammo: body.ammo.saturating_add(4).min(9),
+                ..body
+            }),
+            Some(Kind::Heal) => self.with_body(Body {
+                health: body.health.saturating_add(1).min(3),
+                ..body
+            }),
+            Some(Kind::Gold) => self.with_gain().with_body(body),
+        }
+    }
+
+    // The player after a shot hit: at health 0 dead.
+    pub fn struck(self) -> Player
+        ensures { result ≡ struck self }
+    {
+        let State::Live(body) = self.state else {
+            return self;
+        };
+        let health = body.health.saturating_sub(1);
+        let state = if health == 0 {
+            State::Dead { wait: 10 }
+        } else {
+            State::Live(Body { health, ..body })
+        };
+        Player { state, ..self }
+    }
+
+    pub fn with_gain(self) -> Player
+        ensures { result ≡ with_gain self }
+    {
+        let score = if self.score < 1_000_000 {
+            self.score + 1
+        } else {
+            self.score
+        };
+        Player { score, ..self }
+    }
+
+    pub fn with_loss(self) -> Player
+        ensures { result ≡ with_loss self }
+    {
+        let score = if -1_000_000 < self.score {
+            self.score - 1
+        } else {
+            self.score
+        };
+        Player { score, ..self }
+    }
+}
+
+// Whether a live player stands in the cell of this spot.
+#[tactic(auto, unfolding(crate::specs::Player::is_held))]
+pub fn is_held(players: &[Player], spot: Spot) -> bool
+    ensures { result ≡ is_held players.now (spot_cell spot) }
+{
+    players.iter().any(|p| p.stands_in(spot))
+}
+
+// The number of the live player who stands in the cell of this spot.
+pub fn holder(players: &[Player], spot: Spot) -> Option<usize>
+    ensures { result ≡ holder players.now (spot_cell spot) }
+{
+    players.iter().position(|p| p.stands_in(spot))
+}
+
+// The players as the match begins.
+pub fn all_at_home(homes: &[Spot]) -> ArrayVec<Player, MOST_PLAYERS>
+    requires { length homes.now ≤ 32 }
+    ensures { result.items ≡ map opening_player homes.now }
+{
+    let mut players = ArrayVec::new();
+    for home in homes {
+        players.push(Player::at_home(*home));
+    }
+    players
 }

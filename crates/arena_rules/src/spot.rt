@@ -1,6 +1,6 @@
 ghost use Rattle.std.specs.Prelude.{◌≡◌};
 ghost use Rattle.arena_rules.specs.Setup.{spot_cell};
-ghost use Rattle.arena_rules.specs.World.{ahead};
+ghost use Rattle.arena_rules.specs.Command.{ahead};
 
 use crate::face::Face;
 

@@ -5,6 +5,7 @@ pub mod Counts
 pub mod KeyOrder
 pub mod OrderedParts
 pub mod Sorting
+pub mod Front
 pub mod CommandLists
 pub mod Places
 pub mod Due

@@ -3,9 +3,10 @@
 use crate::command::{Command, MirrorId, Tick};
 
 /// What can happen to a mirror.
-#[derive(Clone, Copy, Debug, PartialEq, Eq)]
+#[derive(Clone, Copy, Debug, Default, PartialEq, Eq)]
 pub enum Event {
     /// The clock goes on by one tick.
+    #[default]
     Tick,
     /// A command arrives.
     Arrive(Command),
@@ -55,6 +56,13 @@ pub enum Reply {
     Step(Stepped),
     /// To another plan of delays.
     Restaggered,
+}
+
+// An `ArrayVec` of replies is filled with these until replies are put.
+impl Default for Reply {
+    fn default() -> Reply {
+        Reply::Tick(Ticked::Moved)
+    }
 }
 
 /// One event of a mirror with its answer, as a watcher of the match is told.

@@ -1,12 +1,12 @@
 -- Each kind of line both ways: what is read from it stands in it, and what stands in it is read.
-use Rattle.std.proofs.Common.{◌≡◌, ◌≢◌, ℕ, ◌+◌, ◌-◌, ◌^◌, ◌<◌, ◌≤◌, Bool, true, false, cond, ltb, ◌&&◌, List, [], ◌∷◌, length, Option, Some, None, Result, Ok, Err, refl, sym, ap, subst, ◌∙◌, arith, lit<, lit≤, length-append}
+use Rattle.std.proofs.Common.{◌≡◌, ℕ, ◌+◌, ◌-◌, ◌^◌, ◌<◌, ◌≤◌, Bool, true, false, cond, ltb, ◌&&◌, List, [], ◌∷◌, length, Option, Some, None, Result, Ok, Err, refl, sym, ap, subst, ◌∙◌, arith, lit<, lit≤, length-append}
 use Rattle.std.specs.Prelude.{bytes_eq, decimal}
 use Rattle.std.specs.List.{join_with_byte}
 use Rattle.std.proofs.lemmas.Bool.{ltb-false, ltb-true, lt-ltb, le-ltb, and_parts}
 use Rattle.std.proofs.lemmas.Fmt.{length-decimal-le}
 use Rattle.std.proofs.lemmas.Slice.Eq.{bytes_eq-Decides}
 use Rattle.game_trait.specs.declared.command.Act.{Act}
-use Rattle.game_trait.specs.declared.command.Act.TheVariants.{Go, Left, Right, Shoot}
+use Rattle.game_trait.specs.declared.command.Act.TheVariants.{Go, Left, Right, Shoot, Dash}
 use Rattle.game_trait.specs.declared.command.Command.{Command}
 use Rattle.arena_rules.specs.declared.face.Face.{Face}
 use Rattle.arena_rules.specs.declared.face.Face.TheVariants.{N, E, S, W}
@@ -19,6 +19,7 @@ use Rattle.match_file.specs.declared.opening.Opening.{Opening}
 use Rattle.match_file.specs.declared.opening.Sides.{Sides}
 use Rattle.tss_io.specs.Lines.{Lines, torn, line, words_of, spaced}
 use Rattle.match_file.specs.Names.{is_name}
+use Rattle.match_file.specs.Data.{IsPlainAct}
 use Rattle.match_file.specs.Text.{length_word, grid_word, mirrors_word, delays_word, pace_word, player_word, command_word, head_words, face_word, act_word, player_line, command_line}
 use Rattle.match_file.specs.Reading.{shape, line_at, front_at, last_at, behind, at_least, number_in, front_number_in, last_number_in, keyword_line_at, head_at, number_at, grid_at, opening_at, face_of, PlayerData, player_at, act_of, command_at}
 use Rattle.match_file.proofs.Spaced.{IsWord, AreWords, words_of-spaced, spaced-words_of, IsWord-decimal, IsWord-name, length-name}
@@ -277,24 +278,26 @@ face_fits E = (refl, lit≤ tt)
 face_fits S = (refl, lit≤ tt)
 face_fits W = (refl, lit≤ tt)
 
-act_takes : (word : List ℕ) (act : Act) → act_of word ≡ Ok act → (word ≡ act_word act) × (act ≢ Shoot)
+act_takes : (word : List ℕ) (act : Act) → act_of word ≡ Ok act → (word ≡ act_word act) × IsPlainAct act
 unfolding act_of
 act_takes word act e =
-    let P : Act → Type 0 = λ x. (word ≡ act_word x) × (x ≢ Shoot) in
-    chosen P _ Go _ act (λ h. (same_words word (act_word Go) h, λ e. cc)) (λ e. chosen P _ Left _ act (λ h. (same_words word (act_word Left) h, λ e. cc)) (λ e. chosen P _ Right _ act (λ h. (same_words word (act_word Right) h, λ e. cc)) (λ e. absurd cc) e) e) e
+    let P : Act → Type 0 = λ x. (word ≡ act_word x) × IsPlainAct x in
+    chosen P _ Go _ act (λ h. (same_words word (act_word Go) h, tt)) (λ e. chosen P _ Left _ act (λ h. (same_words word (act_word Left) h, tt)) (λ e. chosen P _ Right _ act (λ h. (same_words word (act_word Right) h, tt)) (λ e. absurd cc) e) e) e
 
-act_again : (act : Act) → act ≢ Shoot → act_of (act_word act) ≡ Ok act
+act_again : (act : Act) → IsPlainAct act → act_of (act_word act) ≡ Ok act
 unfolding act_of
 act_again Go h = refl
 act_again Left h = refl
 act_again Right h = refl
-act_again Shoot h = absurd (h refl)
+act_again Shoot h = absurd h
+act_again Dash h = absurd h
 
 act_fits : (act : Act) → IsWord (act_word act) × (length (act_word act) ≤ 5)
 act_fits Go = (refl, lit≤ tt)
 act_fits Left = (refl, lit≤ tt)
 act_fits Right = (refl, lit≤ tt)
 act_fits Shoot = (refl, lit≤ tt)
+act_fits Dash = (refl, lit≤ tt)
 
 -- ---- a player's line
 
@@ -361,7 +364,7 @@ pub record IsPlainCommand (ticks : ℕ) (x : Command) : Type 0 where
   pub from : x.from ≤ 0
   pub number : x.number ≤ 999999
   pub player : x.player ≤ 0
-  pub act : x.act ≢ Shoot
+  pub act : IsPlainAct x.act
 
 pub command_takes : (ticks : ℕ) (l : List ℕ) (x : Command) → command_at ticks l ≡ Ok x → (l ≡ spaced (command_line x)) × IsPlainCommand ticks x
 unfolding command_at

@@ -7,7 +7,7 @@ ghost use Rattle.sync_model.specs.State.{opening_state, schedule_of, copy_clock 
 ghost use Rattle.sync_model.specs.Change.{next, said, Fits};
 ghost use Rattle.sync_model.specs.Consistent.{IsConsistent};
 ghost use Rattle.sync_model.specs.History.{HasRoom, repairs as repairs_of};
-ghost use Rattle.sync_model.specs.Turns.{is_drained};
+ghost use Rattle.sync_model.specs.Turns.{is_drained, drain_bound};
 ghost use Rattle.mirror_core.specs.Kept.{delays_of_each, ticks_of_first};
 
 use crate::commands::{place, run_tick};
@@ -358,6 +358,15 @@ impl<G: Game> Mirror<G> {
         ensures { result ≡ self.now.plan_spare }
     {
         self.plan_spare
+    }
+
+    /// How many turns are enough to drain the mirror.
+    pub fn turns_to_drain(&self) -> u32
+        ensures { result ≡ drain_bound self.now }
+    {
+        let stagger = self.stagger();
+        let end = stagger.length() + stagger.longest();
+        end.saturating_sub(self.clock) + stagger.length()
     }
 
     /// Whether every copy has run the whole match.

@@ -14,6 +14,8 @@ pub enum Word<'a> {
     Text(&'a [u8]),
     /// The number in decimal.
     Number(i64),
+    /// The count in decimal.
+    Count(u64),
 }
 
 impl Word<'_> {
@@ -24,6 +26,7 @@ impl Word<'_> {
         match *self {
             Word::Text(text) => Ok(out.extend_from_slice(text)?),
             Word::Number(number) => push_decimal(out, i128::from(number)),
+            Word::Count(count) => push_decimal(out, i128::from(count)),
         }
     }
 }

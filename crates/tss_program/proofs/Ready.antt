@@ -1,150 +1,49 @@
--- A mirror along a match's script: the events of its lines fit, and find room.
-use Rattle.std.proofs.Common.{◌≡◌, ℕ, zero, suc, ◌+◌, ◌≤◌, ◌<◌, List, [], ◌∷◌, length, get_or, take, drop, refl, sym, ◌∙◌, subst, arith}
-use Rattle.std.specs.Prelude.{Contains}
+-- A match's mirrors as it begins.
+use Rattle.std.proofs.Common.{◌≡◌, ℕ, zero, suc, ◌+◌, ◌-◌, ◌<◌, ◌≤◌, List, [], ◌∷◌, ◌++◌, append_assoc, arith}
 use Rattle.std.specs.List.{AllByRecursion}
-use Rattle.std.proofs.lemmas.List.{length-map, drop_more}
-use Rattle.std.proofs.lemmas.List.Elements.{All-from_recursion, All-get_or, All-contains}
-use Rattle.game_trait.specs.declared.command.Command.{Command}
+use Rattle.std.proofs.lemmas.List.{append-nil}
 use Rattle.game_trait.specs.Count.{times}
 use Rattle.game_trait.proofs.KeyOrder.{all-weaker}
-use Rattle.sync_model.specs.State.{MirrorState}
-use Rattle.sync_model.specs.Change.{after, Fits}
-use Rattle.sync_model.specs.Staggered.{IsStaggered}
-use Rattle.sync_model.specs.History.{HasRoomAlong}
-use Rattle.sync_model.specs.Turns.{turn_events}
-use Rattle.sync_model.proofs.Cases.{after-fixed}
-use Rattle.sync_model.proofs.Staggered.{staggered-opening}
-use Rattle.sync_model.proofs.Along.{staggered-after}
-use Rattle.arena_rules.specs.World.{opening_world}
-use Rattle.match_file.specs.Data.{MatchData, IsCommand, IsMatch, IsScriptLine}
-use Rattle.match_file.specs.declared.script_line.ScriptLine.{ScriptLine}
-use Rattle.match_file.specs.declared.script_line.ScriptLine.TheVariants as lines
-use Rattle.tss_program.specs.Script.{events_of, after_script}
-use Rattle.tss_program.specs.Play.{is_arrive, opening_mirror, scripted}
-use Rattle.sync_model.specs.Legal.{NamesWhatIsThere}
-use Rattle.tss_program.proofs.Log.{named-fits, room-along}
-use Rattle.tss_program.proofs.ScriptEvents.{named-line, line-arrivals, named-turn, turn-no_arrival}
+use Rattle.sync_model.specs.Schedule.{Schedule, DelaysRise, IsSchedule}
+use Rattle.sync_model.specs.State.{MirrorState, opening_state}
+use Rattle.match_file.specs.Data.{MatchData, IsMatch, Rises}
+use Rattle.tss_program.specs.Hall.{arrives_at, opening_mirror, opening_from}
 
--- a mirror of a match, with room for each arrival of these lines
-pub record IsReady {W : Type 0} (m : MatchData) (ls : List ScriptLine) (s : MirrorState W) : Type 0 where
-  pub copies : length s.runs ≡ length m.delays
-  pub ticks : s.length ≡ m.length
-  pub delays : s.delays ≡ m.delays
-  pub room : times is_arrive ls ≤ s.spare
-  pub staggered : IsStaggered s
+all-below : (d e : ℕ) (ds : List ℕ) → d < e → AllByRecursion (λ longer. e < longer) ds → AllByRecursion (λ longer. d < longer) ds
+all-below d e ds below h = all-weaker (λ longer. e < longer) (λ longer. d < longer) ds (λ n k. omega arith) h
 
--- as the match begins
-pub ready-opening : (m : MatchData) → IsReady m m.script (opening_mirror m)
-unfolding opening_mirror
-ready-opening m = record {
-  copies = length-map m.delays (λ delay. []);
-  ticks = refl;
-  delays = refl;
-  room = omega arith;
-  staggered = staggered-opening (opening_world m.layout) m.length m.delays (times is_arrive m.script);
+-- where each number is below the next, each is below all behind it
+pub DelaysRise-from_next : (ds : List ℕ) → Rises ds → DelaysRise ds
+unfolding Rises DelaysRise
+DelaysRise-from_next [] h = tt
+DelaysRise-from_next (d ∷ []) h = (tt, tt)
+DelaysRise-from_next (d ∷ e ∷ ds) h =
+    let behind = DelaysRise-from_next (e ∷ ds) h.1 in
+    ((h.0, all-below d e ds h.0 behind.0), behind)
+
+-- the delays and the length of a match are those of a mirror
+pub schedule-of : (m : MatchData) → IsMatch m → IsSchedule (record { delays = m.delays; length = m.length })
+schedule-of m sound = record {
+  some_copy = omega (arith, sound.delays.0);
+  few_copies = sound.delays.1;
+  delays_rise = DelaysRise-from_next m.delays sound.rises;
+  short_delays = sound.delay;
+  some_tick = omega (arith, sound.ticks.0);
+  few_ticks = sound.ticks.1;
 }
 
--- each command of a match is due within it
-pub due-within : (m : MatchData) → IsMatch m → AllByRecursion (λ x. x.time < m.length) m.commands
-due-within m sound = all-weaker (IsCommand m) (λ x. x.time < m.length) m.commands (λ x h. h.time) sound.commands
+-- one mirror more
+pub opened-more :
+    {W : Type 0} (opening : W) (m : MatchData) (i : ℕ) (schedule : Schedule) (room : ℕ) (s : MirrorState W) (old new : List (MirrorState W)) → i < m.mirrors
+    → schedule ≡ record { delays = m.delays; length = m.length } → room ≡ times (arrives_at i) m.script
+    → s ≡ opening_state opening schedule.length (schedule.delays ∷ []) room 0 → new ≡ old ++ s ∷ []
+    → new ++ opening_from opening m (i + 1) (m.mirrors - (i + 1)) ≡ old ++ opening_from opening m i (m.mirrors - i)
+unfolding opening_from opening_mirror
+opened-more opening m i schedule room s old new below is counted made put =
+    let n : m.mirrors - i ≡ suc (m.mirrors - (i + 1)) = omega arith in
+    rw (put, made, is, counted, n) (append_assoc old (opening_mirror opening m i ∷ []) (opening_from opening m (i + 1) (m.mirrors - (i + 1))))
 
--- and so is one that is among them
-pub command-due : (m : MatchData) (x : Command) → IsMatch m → Contains m.commands x → x.time < m.length
-command-due m x sound there = All-contains (λ y. y.time < m.length) m.commands x (All-from_recursion (λ y. y.time < m.length) m.commands (due-within m sound)) there
-
--- there is room for the arrival of the next line
-pub arrive-room :
-    {W : Type 0} (m : MatchData) (mirror from number : ℕ) (ls : List ScriptLine) (s : MirrorState W) → IsReady m (lines.Arrive mirror from number ∷ ls) s
-    → 0 < s.spare
-unfolding times
-arrive-room m mirror from number ls s ready = (let room = ready.room in omega arith)
-
--- the events of the next line fit
-pub ready-fits :
-    {W : Type 0} (m : MatchData) (l : ScriptLine) (ls : List ScriptLine) (s : MirrorState W) → IsMatch m → IsScriptLine m l → IsReady m (l ∷ ls) s
-    → AllByRecursion (Fits s) (events_of m l)
-ready-fits m l ls s sound here ready =
-    let due = subst (λ (n : ℕ). AllByRecursion (λ x. x.time < n) m.commands) (sym ready.ticks) (due-within m sound) in
-    all-weaker (NamesWhatIsThere m.commands s) (Fits s) (events_of m l) (λ e n. named-fits m.commands s due e n) (named-line m s l ready.copies here)
-
--- they find room, and leave room for the lines behind
-pub ready-room :
-    {W : Type 0} (m : MatchData) (l : ScriptLine) (ls : List ScriptLine) (s : MirrorState W) → IsReady m (l ∷ ls) s
-    → HasRoomAlong s (events_of m l) × (times is_arrive ls ≤ (after s (events_of m l)).spare)
-unfolding times
-ready-room m l ls s ready =
-    room-along (events_of m l) s (times is_arrive ls) (let line = line-arrivals m l in let room = ready.room in omega arith)
-
--- and after them the mirror is ready for those
-pub ready-line :
-    {W : Type 0} (m : MatchData) (l : ScriptLine) (ls : List ScriptLine) (s : MirrorState W) → IsMatch m → IsScriptLine m l → IsReady m (l ∷ ls) s
-    → IsReady m ls (after s (events_of m l))
-ready-line m l ls s sound here ready =
-    let same = after-fixed (events_of m l) s in
-    record {
-      copies = same.copies ∙ ready.copies;
-      ticks = same.length ∙ ready.ticks;
-      delays = same.delays ∙ ready.delays;
-      room = (ready-room m l ls s ready).1;
-      staggered = staggered-after (events_of m l) s (ready-fits m l ls s sound here ready) ready.staggered;
-    }
-
--- a mirror that is ready for what is left of the script has a next line, one of the match's
-pub ready-at :
-    {W : Type 0} (m : MatchData) (i : ℕ) (d : ScriptLine) (s : MirrorState W) → IsMatch m → i < length m.script → IsReady m (drop i m.script) s
-    → IsScriptLine m (get_or m.script i d) × IsReady m (get_or m.script i d ∷ drop (i + 1) m.script) s
-ready-at m i d s sound more ready = (
-  All-get_or (IsScriptLine m) m.script i d more (All-from_recursion (IsScriptLine m) m.script sound.script),
-  subst (λ (ls : List ScriptLine). IsReady m ls s) (drop_more m.script i d more) ready,
-)
-
--- and after its events the mirror is ready for what is left behind it
-pub ready-next :
-    {W : Type 0} (m : MatchData) (i : ℕ) (d : ScriptLine) (s : MirrorState W) → IsMatch m → i < length m.script → IsReady m (drop i m.script) s
-    → IsReady m (drop (i + 1) m.script) (after s (events_of m (get_or m.script i d)))
-ready-next m i d s sound more ready =
-    let at = ready-at m i d s sound more ready in
-    ready-line m (get_or m.script i d) (drop (i + 1) m.script) s sound at.0 at.1
-
-ready-along :
-    {W : Type 0} (m : MatchData) (i : ℕ) (ls : List ScriptLine) (s : MirrorState W) → IsMatch m → AllByRecursion (IsScriptLine m) ls → IsReady m ls s
-    → IsReady m (drop i ls) (after_script m s (take i ls))
-unfolding after_script
-ready-along m zero ls s sound here ready = ready
-ready-along m (suc i) [] s sound here ready = ready
-ready-along m (suc i) (l ∷ ls) s sound here ready = ready-along m i ls (after s (events_of m l)) sound here.1 (ready-line m l ls s sound here.0 ready)
-
--- after each part of the script from the start on, the mirror is ready for the rest
-pub ready-script : (m : MatchData) (i : ℕ) → IsMatch m → IsReady m (drop i m.script) (after_script m (opening_mirror m) (take i m.script))
-ready-script m i sound = ready-along m i m.script (opening_mirror m) sound sound.script (ready-opening m)
-
-ready-whole :
-    {W : Type 0} (m : MatchData) (ls : List ScriptLine) (s : MirrorState W) → IsMatch m → AllByRecursion (IsScriptLine m) ls → IsReady m ls s
-    → IsReady m [] (after_script m s ls)
-unfolding after_script
-ready-whole m [] s sound here ready = ready
-ready-whole m (l ∷ ls) s sound here ready = ready-whole m ls (after s (events_of m l)) sound here.1 (ready-line m l ls s sound here.0 ready)
-
--- after the whole script
-pub scripted-ready : (m : MatchData) → IsMatch m → IsReady m [] (scripted m)
-scripted-ready m sound = ready-whole m m.script (opening_mirror m) sound sound.script (ready-opening m)
-
--- a script changes neither the length nor the delays
-after_script-fixed : {W : Type 0} (m : MatchData) (s : MirrorState W) (ls : List ScriptLine)
-    → ((after_script m s ls).length ≡ s.length) × ((after_script m s ls).delays ≡ s.delays)
-unfolding after_script
-after_script-fixed m s [] = (refl, refl)
-after_script-fixed m s (l ∷ ls) =
-    let same = after-fixed (events_of m l) s in
-    let behind = after_script-fixed m (after s (events_of m l)) ls in
-    (behind.0 ∙ same.length, behind.1 ∙ same.delays)
-
-pub scripted-fixed : (m : MatchData) → ((scripted m).length ≡ m.length) × ((scripted m).delays ≡ m.delays)
-scripted-fixed m = let ready = ready-opening m in let same = after_script-fixed m (opening_mirror m) m.script in (same.0 ∙ ready.ticks, same.1 ∙ ready.delays)
-
--- a turn of all copies fits any mirror, and needs no room
-pub turn-fits : {W : Type 0} (s : MirrorState W) → AllByRecursion (Fits s) (turn_events (length s.runs))
-turn-fits s = all-weaker (NamesWhatIsThere [] s) (Fits s) (turn_events (length s.runs)) (λ e n. named-fits [] s tt e n) (named-turn [] s (length s.runs) (omega arith))
-
-pub turn-room : {W : Type 0} (s : MirrorState W) (n : ℕ) → HasRoomAlong s (turn_events n)
-turn-room s n = (room-along (turn_events n) s 0 (let none = turn-no_arrival n in omega arith)).0
+pub opened-all : {W : Type 0} (opening : W) (m : MatchData) (i : ℕ) (mirrors : List (MirrorState W)) → m.mirrors ≤ i
+    → mirrors ++ opening_from opening m i (m.mirrors - i) ≡ mirrors
+unfolding opening_from
+opened-all opening m i mirrors past = (let n : m.mirrors - i ≡ zero = omega arith in rw n (append-nil mirrors))

@@ -1,19 +1,22 @@
--- What is due for words and an input: a status and a text.
-use Rattle.std.specs.Prelude.{◌≡◌, ℕ, ◌<◌, ◌⊎◌, List, [], ◌∷◌, ◌++◌, Option, Some, None, Result, Ok, Err, length, take, nat_lt, codes, decimal, if◌then◌else◌}
+-- What is due for words and an input, and how a run may end.
+use Rattle.std.specs.Prelude.{◌≡◌, ◌≢◌, ℕ, ◌<◌, ◌⊎◌, ◌==◌, List, [], ◌∷◌, ◌++◌, Option, Some, None, IfSome, length, take, codes, decimal, if◌then◌else◌}
 use Rattle.tss_io.specs.Streams.{Gains}
+use Rattle.tss_io.specs.Lines.{as_line, spaced}
+use Rattle.arena_rules.specs.World.{World, opening_world, arena_rules}
+use Rattle.arena_rules.specs.Block.{block_of}
 use Rattle.match_file.specs.declared.fault.Refused.{Refused}
 use Rattle.match_file.specs.declared.cause.Cause.TheVariants.{Shape}
 use Rattle.match_file.specs.Causes.{cause_number, cause_word}
-use Rattle.match_file.specs.Data.{MatchData}
-use Rattle.match_file.specs.Reading.{read_text}
-use Rattle.tss_program.specs.declared.form.Form.{Form}
-use Rattle.tss_program.specs.declared.form.Form.TheVariants.{Order, Play}
+use Rattle.match_file.specs.Data.{MatchData, IsPlain}
+use Rattle.match_file.specs.Text.{match_text}
+use Rattle.run_recorder.specs.declared.log.MirrorLog.{MirrorLog}
+use Rattle.tss_program.specs.declared.subcommand.Subcommand.{Subcommand}
+use Rattle.tss_program.specs.declared.subcommand.Subcommand.TheVariants.{Order, Play}
 use Rattle.tss_program.specs.declared.status.Status.{Status}
 use Rattle.tss_program.specs.declared.status.Status.TheVariants.{Complete, NoMemory, WrongWords, ReadFault, WriteFault, Refusal}
-use Rattle.tss_program.specs.Words.{form_of}
-use Rattle.tss_program.specs.Blocks.{order_text}
-use Rattle.tss_program.specs.Play.{play_text, played}
-use Rattle.run_recorder.specs.declared.log.MirrorLog.{MirrorLog}
+use Rattle.tss_program.specs.Subcommands.{subcommand_of}
+use Rattle.tss_program.specs.Hall.{played, logs_from}
+use Rattle.tss_program.specs.Report.{Showing, order_text, play_text}
 
 -- a status, the text that goes with it, and the logs that are kept of the mirrors, mirror 0 first
 pub record Due : Type 0 where
@@ -30,55 +33,78 @@ code ReadFault = 3
 code WriteFault = 4
 code Refusal = 5
 
--- what is printed of words in no form
-unfoldable pub usage_text : List ℕ
-usage_text = codes "usage: tss order|play|race|audit|score|soak N" ++ 10 ∷ []
+-- what is said of a failure at these statuses
+abbrev pub failure_at : ℕ → Option (List ℕ)
+failure_at status =
+    if status == 1 then Some (codes "out of memory")
+    else if status == 3 then Some (codes "reading standard input failed")
+    else if status == 4 then Some (codes "writing standard output failed")
+    else None
 
 -- how many bytes a match text has at most
 abbrev pub text_limit : ℕ
 text_limit = 8388608
 
--- what is printed of a refused text
+-- ---- what is due
+
+-- for words that ask for nothing that is built: the usage line
+unfoldable pub usage_text : List ℕ
+usage_text = codes "usage: tss order|play|race|audit|score|soak N" ++ 10 ∷ []
+
+abbrev pub usage_due : Due
+usage_due = record { status = WrongWords; text = usage_text; kept = [] }
+
+-- for a text that is refused: its line and cause
 unfoldable pub refused_text : Refused → List ℕ
-refused_text r =
-    codes "refused line " ++ (decimal r.line ++ (codes " cause " ++ (decimal (cause_number r.cause) ++ (codes " " ++ (cause_word r.cause ++ 10 ∷ [])))))
+refused_text r = as_line (spaced (
+    codes "refused" ∷ codes "line" ∷ decimal r.line
+    ∷ codes "cause" ∷ decimal (cause_number r.cause) ∷ cause_word r.cause ∷ []))
 
--- how a text over the limit is refused
-abbrev pub too_long : Refused
-too_long = record { line = 0; cause = Shape }
-
--- the match of an input, which is refused where it is over the limit
-unfoldable pub match_of : List ℕ → Result MatchData Refused
-match_of input = if nat_lt text_limit (length input) then Err too_long else read_text input
-
--- what is due for a refusal
 abbrev pub refusal_due : Refused → Due
 refusal_due r = record { status = Refusal; text = refused_text r; kept = [] }
 
--- what is due for a match that was read, or for a refusal
-abbrev pub due_of_match : Form → Result MatchData Refused → Due
-due_of_match Order (Ok m) = record { status = Complete; text = order_text m; kept = [] }
-due_of_match Order (Err r) = refusal_due r
-due_of_match Play (Ok m) = record { status = Complete; text = play_text m; kept = record { mirror = 0; events = (played m).history } ∷ [] }
-due_of_match Play (Err r) = refusal_due r
+-- for the match of a text: its game is the arena
+abbrev pub arena_shown : MatchData → Showing World
+arena_shown m = record { rules = arena_rules; lines = block_of; names = m.names }
 
--- what is due for a form and an input
-unfoldable pub due_of_form : Form → List ℕ → Due
-due_of_form form input = due_of_match form (match_of input)
+abbrev pub due_of_match : Subcommand → MatchData → Due
+due_of_match Order m = record {
+  status = Complete;
+  text = order_text (arena_shown m) (opening_world m.layout) m;
+  kept = [];
+}
+due_of_match Play m = record {
+  status = Complete;
+  text = play_text (arena_shown m) (opening_world m.layout) m;
+  kept = logs_from 0 (played (opening_world m.layout) m);
+}
 
--- what is due for a form, if there is one
-abbrev pub due_of_option : Option Form → List ℕ → Due
-due_of_option None input = record { status = WrongWords; text = usage_text; kept = [] }
-due_of_option (Some form) input = due_of_form form input
+-- a text is that of no match
+abbrev pub IsNoMatch : List ℕ → Type 0
+IsNoMatch text = (m : MatchData) → IsPlain m → text ≢ match_text m
+
+-- how a text that is that of no match is refused: now as a whole, for its shape
+abbrev pub refusal_of : List ℕ → Refused
+refusal_of text = record { line = 0; cause = Shape }
 
 -- what is due for a command line and an input
-abbrev pub due_of : List (List ℕ) → List ℕ → Due
-due_of words input = due_of_option (form_of words) input
+pub data IsDue (words : List (List ℕ)) (input : List ℕ) (due : Due) : Type 0 where
+  -- the words ask for nothing that is built
+  usage : subcommand_of words ≡ None → due ≡ usage_due → IsDue words input due
+  -- they ask for a subcommand, and the input is the one text of a match
+  match : (subcommand : Subcommand) (m : MatchData) → subcommand_of words ≡ Some subcommand
+      → IsPlain m → input ≡ match_text m → due ≡ due_of_match subcommand m → IsDue words input due
+  -- they ask for one, and the input is the text of no match
+  refusal : (subcommand : Subcommand) → subcommand_of words ≡ Some subcommand
+      → IsNoMatch input → due ≡ refusal_due (refusal_of input) → IsDue words input due
 
--- a call may end so: it ran out of memory, a read failed, a write failed, or what is due was written whole
+-- ---- how a run ends
+
+-- a run may end so: it ran out of memory, a read failed, a write failed, or what is due was written whole
 abbrev pub Ends : Due → ℕ → List MirrorLog → Type 0 → Type 0 → Option (List ℕ) → Option (List ℕ) → Type 0
 Ends due status kept read_fault write_fault old new =
     ((status ≡ code NoMemory) × (kept ≡ []) × Gains old [] new)
     ⊎ ((status ≡ code ReadFault) × read_fault × (kept ≡ []) × Gains old [] new)
-    ⊎ ((status ≡ code WriteFault) × write_fault × (kept ≡ due.kept) × ((n : ℕ) × (n < length due.text) × Gains old (take n due.text) new))
+    ⊎ ((status ≡ code WriteFault) × write_fault × (kept ≡ due.kept)
+    × ((n : ℕ) × (n < length due.text) × Gains old (take n due.text) new))
     ⊎ ((status ≡ code due.status) × (kept ≡ due.kept) × Gains old due.text new)

@@ -1,9 +1,8 @@
-pub mod Front
-pub mod Words
-pub mod Blocks
-pub mod Script
-pub mod Play
-pub mod Headline
-pub mod Due
-pub mod Answer
+pub mod Subcommands
 pub mod Names
+pub mod Hall
+pub mod Report
+pub mod Headline
+pub mod Stops
+pub mod Due
+pub mod Run

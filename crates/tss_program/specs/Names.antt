@@ -3,7 +3,7 @@ use Rattle.std.specs.Prelude.{◌≡◌, ℕ, Bool, ◌==◌, ◌&&◌, Option, 
 use Rattle.std.specs.HashMap.{get}
 use Rattle.game_trait.specs.declared.command.Command.{Command}
 use Rattle.tss_program.specs.declared.names.CommandNames.{CommandNames}
-use Rattle.tss_program.specs.Script.{command_named}
+use Rattle.tss_program.specs.Hall.{command_named}
 
 -- two names are one
 abbrev pub same_pair : ℕ × ℕ → ℕ × ℕ → Bool

@@ -1,17 +1,18 @@
 //! The program: words and bytes come in, bytes and a status go out.
 #![tactic(auto)]
 
-mod answer;
 mod done;
-mod form;
-mod lines;
+mod hall;
 mod names;
-mod order;
 mod play;
+mod refusal;
+mod report;
 mod run;
-mod script;
 mod status;
+mod stop;
+mod subcommand;
 
 pub use done::Done;
-pub use run::run_plain;
+pub use run::{run_arguments, run_plain};
 pub use status::Status;
+pub use subcommand::Subcommand;

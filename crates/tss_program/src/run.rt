@@ -1,123 +1,129 @@
 //! One run of the program: words and a source in, bytes and a status out.
 
-ghost use Rattle.std.specs.Prelude.{◌≡◌, ◌≤◌, ◌<◌, ◌+◌, ◌⊎◌, ℕ, List, [], None, Some, Ok, map, length, take, IfSome, IfOk, OnOk, IfErr, OnErr};
+ghost use Rattle.std.specs.Prelude.{◌≡◌, ◌≢◌, ◌≤◌, ◌<◌, ◌+◌, ◌⊎◌, ℕ, List, [], None, Some, map, length, take, drop, IfSome, IfOk, OnOk, IfErr, option_map};
 ghost use Rattle.std.specs.String.{string_bytes};
+ghost use Rattle.std.specs.IoError.{error_kind};
+ghost use Rattle.std.specs.declared.io.ErrorKind.TheVariants as kinds;
 ghost use Rattle.tss_io.specs.Streams.{Rose, Yields, Gains};
-ghost use Rattle.tss_program.specs.Words.{form_of};
 ghost use Rattle.match_file.specs.Data.{MatchData, IsPlain};
 ghost use Rattle.match_file.specs.Text.{match_text};
-ghost use Rattle.tss_program.specs.Due.{due_of, due_of_form, due_of_match, Ends, text_limit};
-ghost use Rattle.tss_program.specs.Headline.{Keeps};
-ghost use Rattle.tss_program.specs.Answer.{IsAnswer};
+ghost use Rattle.tss_program.specs.Subcommands.{subcommand_of};
+ghost use Rattle.tss_program.specs.Due.{due_of_match, code, IsNoMatch, refusal_of, text_limit};
+ghost use Rattle.tss_program.specs.Run.{Streams, IsInput, behind_limit, WhyStopped, IfRefused, IsRun, IsPut};
 
-use crate::answer::{Answer, answer_text, too_long};
 use crate::done::Done;
-use crate::form::Form;
+use crate::play::{Answer, order, play};
+use crate::refusal::refused_line;
 use crate::status::Status;
+use crate::stop::Stop;
+use crate::subcommand::Subcommand;
+use arena_rules::Arena;
+use match_file::{Match, read_match};
+use run_recorder::MirrorLog;
 use std::alloc::Global;
-use tss_io::{Failed, ReadFault, Seq, Sink, Source, put_all, read_all};
+use std::io;
+use std::io::ErrorKind;
+use tss_io::{Failed, NoMemory, Seq, Sink, Source, put_all, read_all};
 
 // How many bytes a match text has at most.
 const TEXT_LIMIT: usize = 8_388_608;
 
-// The line that is written where the words have no form.
-const USAGE: &[u8] = b"usage: tss order|play|race|audit|score|soak N\n";
+// The line that is written where the words ask for nothing that is built.
+const USAGE: &str = "usage: tss order|play|race|audit|score|soak N\n";
 
-// Reads the input, and answers it; or the status that takes the answer's place.
-#[tactic(auto, unfolding(crate::specs::Due::due_of_form, crate::specs::Due::match_of))]
-fn respond<S: Source>(alloc: Global, form: Form, source: &mut S) -> Result<Answer, Status>
-    ensures due { IfOk result (λ a. IfSome (S.left source.old) (λ input. IsAnswer (due_of_form form input) a)) }
-    ensures answered { IfOk result (λ a. (a.status ≡ Status.Complete) ⊎ ((a.status ≡ Status.Refusal) × (a.kept ≡ []))) }
-    ensures why { IfErr result (λ status.
-        (status ≡ Status.NoMemory) ⊎ ((status ≡ Status.ReadFault) × Rose (S.faults source.old) (S.faults source.new))) }
-    ensures front { (front : List ℕ) × (length front ≤ text_limit + 1) × Yields (S.left source.old) front (S.left source.new) }
-    ensures whole { OnOk result (IfSome (S.left source.new) (λ rest. rest ≡ [])
-        ⊎ ((front : List ℕ) × (length front ≡ text_limit + 1) × Yields (S.left source.old) front (S.left source.new))) }
-    ensures never_falls { S.faults source.old ≤ S.faults source.new }
-    ensures reads { S.calls source.new ≤ S.calls source.old + (text_limit + 1) }
-{
-    match read_all(alloc, source, TEXT_LIMIT) {
-        Ok(text) => answer_text(alloc, form, text.as_slice()).map_err(|_| Status::NoMemory),
-        Err(ReadFault::TooLong) => too_long(alloc).map_err(|_| Status::NoMemory),
-        Err(ReadFault::Failed) => Err(Status::ReadFault),
-        Err(ReadFault::NoMemory) => Err(Status::NoMemory),
-    }
-}
-
-// Runs the program, by its words and what is due.
-#[tactic(auto, unfolding(crate::specs::Due::due_of_form, crate::specs::Due::usage_text))]
-fn run_words<S: Source, K: Sink>(
-    alloc: Global,
-    words: &[String],
-    source: &mut S,
-    sink: &mut K,
-) -> Done
-    ensures ends { IfSome (S.left source.old) (λ input.
-        Ends (due_of (map string_bytes words.now) input) result.status result.kept
-        (Rose (S.faults source.old) (S.faults source.new)) (Rose (K.faults sink.old) (K.faults sink.new))
-        (K.taken sink.old) (K.taken sink.new)) }
-
-    // Without the premise that bytes are told.
-    ensures wrong_words { form_of (map string_bytes words.now) ≡ None → (result.status ≡ 2) ⊎ (result.status ≡ 4) }
-    ensures untouched { form_of (map string_bytes words.now) ≡ None → source.new ≡ source.old }
-    ensures read_fault { result.status ≡ 3 → Rose (S.faults source.old) (S.faults source.new) }
-    ensures write_fault { result.status ≡ 4 → Rose (K.faults sink.old) (K.faults sink.new) }
-    ensures nothing_kept { (result.status ≡ 1) ⊎ (result.status ≡ 2) ⊎ (result.status ≡ 3) ⊎ (result.status ≡ 5) → result.kept ≡ [] }
-    ensures silent { (result.status ≡ 1) ⊎ (result.status ≡ 3) → Gains (K.taken sink.old) [] (K.taken sink.new) }
-
+// Reads the input to its end, or to one byte past the limit, and its match.
+fn read_input<S: Source>(alloc: Global, source: &mut S) -> Result<Match, Stop>
+    ensures found { IfOk result (λ m. IsPlain m × IsInput (S.left source.old) (match_text m)) }
+    ensures why { IfErr result (λ stop. WhyStopped (S.left source.old) (Rose (S.faults source.old) (S.faults source.new)) stop) }
+    ensures whole { OnOk result (S.left source.new ≡ behind_limit (S.left source.old)) }
+    ensures refused { IfErr result (λ stop. IfRefused stop (S.left source.new ≡ behind_limit (S.left source.old))) }
     ensures front { (front : List ℕ) × (length front ≤ text_limit + 1) × Yields (S.left source.old) front (S.left source.new) }
     ensures reads { S.calls source.new ≤ S.calls source.old + (text_limit + 1) }
 {
-    let Some(form) = Form::of(words) else {
-        return match put_all(sink, USAGE) {
-            Ok(()) => Done::of(Status::WrongWords, Seq::new(alloc)),
-            Err(Failed) => Done::of(Status::WriteFault, Seq::new(alloc)),
-        };
-    };
-    match respond(alloc, form, source) {
-        Ok(answer) => match put_all(sink, answer.text.as_slice()) {
-            Ok(()) => Done::of(answer.status, answer.kept),
-            Err(Failed) => Done::of(Status::WriteFault, answer.kept),
-        },
-        Err(status) => Done::of(status, Seq::new(alloc)),
+    let text = read_all(alloc, source, TEXT_LIMIT)?;
+    Ok(read_match(alloc, text.as_slice())?)
+}
+
+// Answers a match.
+fn answer(alloc: Global, subcommand: Subcommand, m: &Match) -> Result<Answer, NoMemory>
+    requires { length m.now.delays ≡ 1 }
+    ensures { IfOk result (λ a. (a.text ≡ (due_of_match subcommand m.now).text) × (a.kept ≡ (due_of_match subcommand m.now).kept)) }
+{
+    let opening = Arena::start(&m.setup);
+    match subcommand {
+        Subcommand::Order => order(alloc, &opening, m),
+        Subcommand::Play => play(alloc, &opening, m),
     }
 }
 
-/// Runs the program on the words behind its name. It reads the source where the words have a form, and puts what is due
-/// to the sink: the whole of it at status 0, 2 or 5, a proper front of it at status 4, and nothing at status 1 or 3.
+// Puts a text that is due, and ends with the status that goes with it, or with a write fault.
+fn put<K: Sink>(sink: &mut K, status: Status, text: &[u8], kept: Seq<MirrorLog>) -> Done
+    ensures { IsPut status text.now kept (Rose (K.faults sink.old) (K.faults sink.new)) (K.taken sink.old) (K.taken sink.new) result.status result.kept }
+{
+    match put_all(sink, text) {
+        Ok(()) => Done::of(status, kept),
+        Err(Failed) => Done::of(Status::WriteFault, kept),
+    }
+}
+
+/// Runs the program on the words behind its name. It reads the source where they ask for a subcommand, and puts what is
+/// due to the sink: the whole of it at status 0, 2 or 5, a proper front of it at status 4, and nothing at status 1 or 3.
 pub fn run_plain<S: Source, K: Sink>(
     alloc: Global,
     words: &[String],
     source: &mut S,
     sink: &mut K,
 ) -> Done
-    ensures ends { IfSome (S.left source.old) (λ input.
-        Ends (due_of (map string_bytes words.now) input) result.status result.kept
-        (Rose (S.faults source.old) (S.faults source.new)) (Rose (K.faults sink.old) (K.faults sink.new))
-        (K.taken sink.old) (K.taken sink.new)) }
-
-    // The same of a match's text: nothing but the match decides what is due.
-    ensures of_match { IfSome (S.left source.old) (λ input. (form : Form) (m : MatchData)
-        → form_of (map string_bytes words.now) ≡ Some form → IsPlain m → input ≡ match_text m
-        → Ends (due_of_match form (Ok m)) result.status result.kept
-        (Rose (S.faults source.old) (S.faults source.new)) (Rose (K.faults sink.old) (K.faults sink.new))
-        (K.taken sink.old) (K.taken sink.new)) }
-
-    // What playing a match promises, of the log that is kept.
-    ensures played { IfSome (S.left source.old) (λ input. (m : MatchData)
-        → form_of (map string_bytes words.now) ≡ Some Form.Play → IsPlain m → input ≡ match_text m
-        → (result.status ≡ 0) ⊎ (result.status ≡ 4) → Keeps m result.kept) }
-
-    // Without the premise that bytes are told.
-    ensures wrong_words { form_of (map string_bytes words.now) ≡ None → (result.status ≡ 2) ⊎ (result.status ≡ 4) }
-    ensures untouched { form_of (map string_bytes words.now) ≡ None → source.new ≡ source.old }
-    ensures read_fault { result.status ≡ 3 → Rose (S.faults source.old) (S.faults source.new) }
-    ensures write_fault { result.status ≡ 4 → Rose (K.faults sink.old) (K.faults sink.new) }
-    ensures nothing_kept { (result.status ≡ 1) ⊎ (result.status ≡ 2) ⊎ (result.status ≡ 3) ⊎ (result.status ≡ 5) → result.kept ≡ [] }
-    ensures silent { (result.status ≡ 1) ⊎ (result.status ≡ 3) → Gains (K.taken sink.old) [] (K.taken sink.new) }
-
-    ensures front { (front : List ℕ) × (length front ≤ text_limit + 1) × Yields (S.left source.old) front (S.left source.new) }
-    ensures reads { S.calls source.new ≤ S.calls source.old + (text_limit + 1) }
+    ensures run { let old : Streams = record { left = S.left source.old; read_faults = S.faults source.old; reads = S.calls source.old; taken = K.taken sink.old; write_faults = K.faults sink.old } in
+        let new : Streams = record { left = S.left source.new; read_faults = S.faults source.new; reads = S.calls source.new; taken = K.taken sink.new; write_faults = K.faults sink.new } in
+        IsRun (map string_bytes words.now) old new result.status result.kept }
+    ensures untouched { subcommand_of (map string_bytes words.now) ≡ None → source.new ≡ source.old }
 {
-    run_words(alloc, words, source, sink)
+    let Some(subcommand) = Subcommand::of(words) else {
+        return put(sink, Status::WrongWords, USAGE.as_bytes(), Seq::new(alloc));
+    };
+    match read_input(alloc, source) {
+        Ok(m) => match answer(alloc, subcommand, &m) {
+            Ok(Answer { text, kept }) => put(sink, Status::Complete, text.as_slice(), kept),
+            Err(NoMemory) => Done::of(Status::NoMemory, Seq::new(alloc)),
+        },
+        Err(Stop::Refused(refused)) => put(
+            sink,
+            Status::Refusal,
+            refused_line(refused).as_bytes(),
+            Seq::new(alloc),
+        ),
+        Err(Stop::ReadFault) => Done::of(Status::ReadFault, Seq::new(alloc)),
+        Err(Stop::NoMemory) => Done::of(Status::NoMemory, Seq::new(alloc)),
+    }
+}
+
+/// Runs the program on its arguments as the system tells them: its own name first, and the words behind it. Arguments that
+/// aren't text are answered as no words. Where memory for them wasn't found, nothing is read and nothing is put.
+pub fn run_arguments<S: Source, K: Sink>(
+    alloc: Global,
+    arguments: io::Result<Vec<String>>,
+    source: &mut S,
+    sink: &mut K,
+) -> Done
+    ensures words { let old : Streams = record { left = S.left source.old; read_faults = S.faults source.old; reads = S.calls source.old; taken = K.taken sink.old; write_faults = K.faults sink.old } in
+        let new : Streams = record { left = S.left source.new; read_faults = S.faults source.new; reads = S.calls source.new; taken = K.taken sink.new; write_faults = K.faults sink.new } in
+        IfOk arguments (λ all. IsRun (drop 1 (map string_bytes all.items)) old new result.status result.kept) }
+    ensures no_text { let old : Streams = record { left = S.left source.old; read_faults = S.faults source.old; reads = S.calls source.old; taken = K.taken sink.old; write_faults = K.faults sink.old } in
+        let new : Streams = record { left = S.left source.new; read_faults = S.faults source.new; reads = S.calls source.new; taken = K.taken sink.new; write_faults = K.faults sink.new } in
+        IfErr arguments (λ fault. error_kind fault ≢ kinds.OutOfMemory → IsRun [] old new result.status result.kept) }
+    ensures no_memory { IfErr arguments (λ fault. error_kind fault ≡ kinds.OutOfMemory
+        → (result.status ≡ 1) × (result.kept ≡ []) × (source.new ≡ source.old) × (sink.new ≡ sink.old)) }
+{
+    match arguments {
+        Ok(all) => match all.as_slice() {
+            [_program, words @ ..] => run_plain(alloc, words, source, sink),
+            [] => run_plain(alloc, &[], source, sink),
+        },
+        Err(fault) if fault.kind() == ErrorKind::OutOfMemory => Done::of(
+            Status::NoMemory,
+            Seq::new(alloc),
+        ),
+        Err(_) => run_plain(alloc, &[], source, sink),
+    }
 }

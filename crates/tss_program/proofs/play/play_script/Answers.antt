@@ -1,33 +1,52 @@
-use Rattle.std.proofs.Common.{ℕ, ◌++◌, sym, ap, ◌∙◌}
-use Rattle.std.proofs.lemmas.Result.{on_ok_weaker}
-use Rattle.stagger_clock.specs.Schedule.{Schedule}
+use Rattle.std.proofs.Common.{rules, ◌≡◌, ◌<◌, ◌++◌, ℕ, List, length, get_or, set, ap, sym, ◌∙◌, subst, arith}
+use Rattle.match_file.specs.Data.{MatchData, IsMatch}
+use Rattle.match_file.specs.declared.script_line.ScriptLine.TheVariants.{Tick}
+use Rattle.game_trait.specs.declared.event.Reply.{Reply}
 use Rattle.sync_model.specs.State.{MirrorState}
-use Rattle.sync_model.specs.Turns.{drain_within, drain_bound}
-use Rattle.tss_program.specs.Play.{scripted, drain_text}
-use Rattle.tss_program.proofs.Ready.{scripted-fixed}
-use Rattle.tss_program.proofs.PlayText.{events-parts}
+use Rattle.tss_program.specs.Report.{line_text}
+use Rattle.tss_program.proofs.OnWay.{IsMadeTo, made-opening, made-next, made-more, made-all}
 use Rattle.tss_program.proofs.play.play_script.Goals as goal
 
-pub turns_to_drain-turns-requires-clause-length : goal.turns_to_drain-turns-requires-clause-length
-turns_to_drain-turns-requires-clause-length c =
-    ap (λ (s : Schedule). s.length) c.schedule.ensures ∙ sym (ap (λ (s : MirrorState _). s.length) c.in_ok-make_script.ensures.state ∙ (scripted-fixed c.args.game.now).0)
+pub loop-line-init : goal.loop-line-init
+loop-line-init g c = made-opening c.args.m.now _ _ _ (c.as_slice-script.ensures ∙ ap (λ (m : MatchData). m.script) c.m.view_is) c.requires.opening
 
-pub turns_to_drain-turns-requires-clause-delays : goal.turns_to_drain-turns-requires-clause-delays
-turns_to_drain-turns-requires-clause-delays c =
-    ap (λ (s : Schedule). s.delays) c.schedule.ensures ∙ sym (ap (λ (s : MirrorState _). s.delays) c.in_ok-make_script.ensures.state ∙ (scripted-fixed c.args.game.now).1)
+pub offset_bounds-mirrors-at : goal.offset_bounds-mirrors-at
+offset_bounds-mirrors-at g c =
+    let next = made-next c.args.m.now _ c.loop-line.line-index _ _ _ _ (Tick 0) (subst IsMatch c.m.view_is c.m.invariant) c.loop-line-test.true c.loop-line.invariant in
+    let below : c.from-at.result < length c.loop-line.mirrors = rw (c.from-at.ensures, c.mirror_of.ensures) next.there in
+    let all : c.from-at.result < length c.args.mirrors.now = omega (arith, below, c.loop-line.auto.mirrors) in
+    search (rules, all)
+
+pub bounds-mirrors-at : goal.bounds-mirrors-at
+bounds-mirrors-at g c =
+    let next = made-next c.args.m.now _ c.loop-line.line-index _ _ _ _ (Tick 0) (subst IsMatch c.m.view_is c.m.invariant) c.loop-line-test.true c.loop-line.invariant in
+    rw (c.from-at.ensures, c.mirror_of.ensures) next.there
+
+pub make-replies-requires-clause-line : goal.make-replies-requires-clause-line
+make-replies-requires-clause-line g c =
+    (made-next c.args.m.now _ c.loop-line.line-index _ _ _ _ (Tick 0) (subst IsMatch c.m.view_is c.m.invariant) c.loop-line-test.true c.loop-line.invariant).line
+
+pub make-replies-requires-clause-fits : goal.make-replies-requires-clause-fits
+make-replies-requires-clause-fits g c =
+    let next = made-next c.args.m.now _ c.loop-line.line-index _ _ _ _ (Tick 0) (subst IsMatch c.m.view_is c.m.invariant) c.loop-line-test.true c.loop-line.invariant in
+    rw (c.from-at.ensures, c.mirror_of.ensures) (next.fits c.index-mirrors-at.result)
+
+pub make-replies-requires-clause-room : goal.make-replies-requires-clause-room
+make-replies-requires-clause-room g c =
+    let next = made-next c.args.m.now _ c.loop-line.line-index _ _ _ _ (Tick 0) (subst IsMatch c.m.view_is c.m.invariant) c.loop-line-test.true c.loop-line.invariant in
+    rw (c.from-at.ensures, c.mirror_of.ensures) (next.room c.index-mirrors-at.result)
+
+pub loop-line-preserved : goal.loop-line-preserved
+loop-line-preserved g c =
+    let made = c.loop-line.invariant in
+    let next = made-next c.args.m.now _ c.loop-line.line-index _ _ _ _ (Tick 0) (subst IsMatch c.m.view_is c.m.invariant) c.loop-line-test.true made in
+    let at = c.from-at.ensures ∙ c.mirror_of.ensures in
+    let state = c.make-replies.ensures.state in
+    let replies = c.as_slice.ensures.value ∙ c.make-replies.ensures.replies in
+    rw at (made-more c.args.m.now _ c.loop-line.line-index _ _ _ _ _ (Tick 0) c.index-mirrors-at.result _ _ c.loop-line-test.true made next (rw (← at) state) (rw (← at) replies) c.in_ok-push_replies.ensures)
 
 pub returns-clause-state : goal.returns-clause-state
-returns-clause-state c =
-    let made = c.in_ok-make_script.ensures.state in
-    on_ok_weaker c.drain_mirror.result
-    (λ end. end ∙ ap (drain_within c.turns_to_drain-turns.result) made
-    ∙ ap (λ (n : ℕ). drain_within n (scripted c.args.game.now)) (c.turns_to_drain-turns.ensures ∙ ap drain_bound made))
-    c.drain_mirror.ensures.state
+returns-clause-state g c = (made-all c.args.m.now _ c.loop-line.line-index _ _ _ _ c.loop-line-test.false c.loop-line.invariant).0
 
 pub returns-clause-text : goal.returns-clause-text
-returns-clause-text c =
-    let made = c.in_ok-make_script.ensures in
-    on_ok_weaker c.drain_mirror.result
-    (λ text. events-parts c.args.game.now _ _ _ _ (c.turns_to_drain-turns.ensures ∙ ap drain_bound made.state) made.text
-    (text ∙ ap (λ (s : MirrorState _). c.make_script.new.out.items ++ drain_text 0 c.turns_to_drain-turns.result s) made.state))
-    c.drain_mirror.ensures.text
+returns-clause-text g c = (made-all c.args.m.now _ c.loop-line.line-index _ _ _ _ c.loop-line-test.false c.loop-line.invariant).1

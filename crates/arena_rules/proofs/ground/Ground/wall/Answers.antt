@@ -1,6 +1,6 @@
-use Rattle.std.proofs.Common.{◌≡◌, ◌<◌, arith, refl, ap}
-use Rattle.arena_rules.specs.Ground.{with_wall}
-use Rattle.arena_rules.proofs.Walls.{IsGrid-with_wall, shifted_one}
+use Rattle.std.proofs.Common.{◌≡◌, ◌<◌, ◌↔◌, ◌⊎◌, length, arith, refl, sym, ap, subst}
+use Rattle.arena_rules.specs.Ground.{Grid, with_wall, IsWalled}
+use Rattle.arena_rules.proofs.Walls.{IsGrid-with_wall, IsWalled-with_wall, shifted_one}
 use Rattle.arena_rules.proofs.ground.Ground.wall.Goals as goal
 
 pub invariant_of-self : goal.invariant_of-self
@@ -22,3 +22,10 @@ returns-clause-walled c =
 
 pub returns-clause-sound : goal.returns-clause-sound
 returns-clause-sound c = invariant_of-self c
+
+pub returns-clause-cells : goal.returns-clause-cells
+returns-clause-cells c =
+    let height : c.self.inside.height ≡ c.args.self.now.height = ap (λ (g : Grid). g.height) c.self.view_is in
+    let rows : length c.self.inside.walls ≡ length c.args.self.now.walls = ap (λ (g : Grid). length g.walls) c.self.view_is in
+    let within : c.args.y < length c.args.self.now.walls = omega (arith, height, rows, c.requires.row, c.self.invariant.rows, c.self.invariant.height.1) in
+    λ a b. subst (λ (g : Grid). IsWalled g a b ↔ (IsWalled c.args.self.now a b ⊎ ((a ≡ c.args.x) × (b ≡ c.args.y)))) (sym (returns-clause-walled c)) (IsWalled-with_wall c.args.self.now c.args.x c.args.y a b within)

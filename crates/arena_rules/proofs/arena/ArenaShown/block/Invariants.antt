@@ -1,6 +1,0 @@
-use Rattle.std.proofs.Common.{◌≡◌, ◌++◌, take}
-use Rattle.arena_rules.specs.Block.{player_lines}
-use Rattle.arena_rules.proofs.arena.ArenaShown.block.Given as goal
-
-abbrev pub invariant-loop-number : goal.invariant-loop-number
-invariant-loop-number l = l.out.items ≡ l.fn.out.items ++ player_lines l.roster 0 (take l.number l.fn.self.players)

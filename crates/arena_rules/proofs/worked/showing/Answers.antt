@@ -1,0 +1,7 @@
+use Rattle.std.proofs.Common.{refl}
+use Rattle.arena_rules.proofs.Computing.{computing}
+use Rattle.arena_rules.proofs.worked.showing.Goals as goal
+
+pub returns : goal.returns
+unfolding computing
+returns c = refl

@@ -1,0 +1,106 @@
+-- What commands do to a world.
+use Rattle.std.specs.Prelude.{ℕ, ◌+◌, ◌-◌, ℤ, pos, negsuc, ◌-ℤ◌, ◌==◌, ◌||◌, nat_le, if◌then◌else◌, [], ◌∷◌, ◌++◌, length, Option, Some, None, slice_get, slice_set}
+use Rattle.game_trait.specs.declared.command.Act.{Act}
+use Rattle.game_trait.specs.declared.command.Act.TheVariants.{Go, Left, Right, Shoot, Dash}
+use Rattle.game_trait.specs.declared.command.Command.{Command}
+use Rattle.arena_rules.specs.Ground.{Grid, is_open}
+use Rattle.arena_rules.specs.Setup.{Cell, spot_cell}
+use Rattle.arena_rules.specs.Player.{alive, turned_to, is_held}
+use Rattle.arena_rules.specs.Pickup.{ready_kind, taken, given}
+use Rattle.arena_rules.specs.Scene.{World}
+use Rattle.arena_rules.specs.declared.face.Face.{Face}
+use Rattle.arena_rules.specs.declared.face.Face.TheVariants.{N, E, S, W}
+use Rattle.arena_rules.specs.declared.player.Body.{Body}
+use Rattle.arena_rules.specs.declared.player.Player.{Player}
+use Rattle.arena_rules.specs.declared.player.State.{State}
+use Rattle.arena_rules.specs.declared.player.State.TheVariants.{Live, Dead}
+use Rattle.arena_rules.specs.declared.spot.Spot.{Spot}
+
+-- the facing after a quarter turn to the left
+abbrev pub turned_left : Face → Face
+turned_left N = W
+turned_left W = S
+turned_left S = E
+turned_left E = N
+
+-- the facing after a quarter turn to the right
+abbrev pub turned_right : Face → Face
+turned_right N = E
+turned_right E = S
+turned_right S = W
+turned_right W = N
+
+-- the column and the row of the cell ahead, by facing; it may be outside the grid
+abbrev pub ahead : Face → Cell → ℤ × ℤ
+ahead N cell = (pos cell.x, pos cell.y -ℤ pos 1)
+ahead E cell = (pos (cell.x + 1), pos cell.y)
+ahead S cell = (pos cell.x, pos (cell.y + 1))
+ahead W cell = (pos cell.x -ℤ pos 1, pos cell.y)
+
+-- the spot at this column and row with this facing, where that is a cell of the grid and not walled
+abbrev pub open_spot : Grid → Face → ℤ × ℤ → Option Spot
+open_spot grid face (pos x, pos y) = if is_open grid x y then Some (record { x = x; y = y; face = face }) else None
+open_spot grid face (pos x, negsuc y) = None
+open_spot grid face (negsuc x, y) = None
+
+-- the spot one cell ahead with the same facing, where that is a cell of the grid and not walled
+abbrev pub open_ahead : Grid → Spot → Option Spot
+open_ahead grid spot = open_spot grid spot.face (ahead spot.face (spot_cell spot))
+
+-- a change of the world by a live player; nothing changes where nobody is there, or where the player is dead
+abbrev pub if_live : World → State → (Body → World) → World
+if_live world (Live body) change = change body
+if_live world (Dead wait) change = world
+
+abbrev pub if_there : World → Option Player → (Player → Body → World) → World
+if_there world None change = world
+if_there world (Some player) change = if_live world player.state (change player)
+
+abbrev pub by_player : World → ℕ → (Player → Body → World) → World
+by_player world number change = if_there world (slice_get world.players number) change
+
+-- the world with another player under this number
+abbrev pub with_player : World → ℕ → Player → World
+with_player world number player = record world { players = slice_set world.players number player }
+
+-- the world after the player of this number turns
+abbrev pub turned : World → ℕ → (Face → Face) → World
+turned world number turn = by_player world number (λ player body. with_player world number (alive player (turned_to body (turn body.spot.face))))
+
+-- the world after a player comes to the cell of this body, and takes what lies ready there
+abbrev pub arrived : World → ℕ → Player → Body → World
+arrived world number player body = record world {
+  players = slice_set world.players number (given player body (ready_kind world.pickups (spot_cell body.spot)));
+  pickups = taken world.pickups (spot_cell body.spot);
+}
+
+-- the world after a player goes to this spot, if there is one and no live player stands there
+abbrev pub gone_to : World → ℕ → Player → Body → Option Spot → World
+gone_to world number player body None = world
+gone_to world number player body (Some spot) = if is_held world.players (spot_cell spot) then world else arrived world number player (record body { spot = spot })
+
+-- the world after the player of this number goes one cell ahead
+unfoldable pub gone : World → ℕ → World
+gone world number = by_player world number (λ player body. gone_to world number player body (open_ahead world.grid body.spot))
+
+-- the world after the player of this number shoots: a shot more where there is ammunition and fewer than 64 shots fly
+abbrev pub fired : World → ℕ → Player → Body → World
+fired world number player body = if (body.ammo == 0) || nat_le 64 (length world.shots) then world else record world {
+  players = slice_set world.players number (alive player (record body { ammo = body.ammo - 1 }));
+  shots = world.shots ++ record { owner = number; spot = body.spot; left = 8 } ∷ [];
+}
+
+abbrev pub shot_by : World → ℕ → World
+shot_by world number = by_player world number (fired world number)
+
+-- the world after an act of the player of this number
+abbrev pub acted : World → ℕ → Act → World
+acted world number Go = gone world number
+acted world number Left = turned world number turned_left
+acted world number Right = turned world number turned_right
+acted world number Shoot = shot_by world number
+acted world number Dash = gone (gone world number) number
+
+-- the world after a command
+unfoldable pub applied : World → Command → World
+applied world x = acted world x.player x.act

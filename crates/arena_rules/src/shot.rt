@@ -1,0 +1,126 @@
+ghost use Rattle.std.specs.Prelude.{◌++◌, OnOk, OnErr, ◌≡◌, ◌≤◌, ◌<◌, All, length};
+ghost use Rattle.arena_rules.specs.Block.{shot_line};
+ghost use Rattle.arena_rules.specs.Beat.{hit, scored, flying, flown, flights, Flight, Flights};
+
+use crate::ground::Ground;
+use crate::player::{Player, holder};
+use crate::roster::Roster;
+use crate::spot::Spot;
+use arrayvec::ArrayVec;
+use tss_io::{NoMemory, Word, push_line};
+
+// The greatest number of shots at one time.
+pub const MOST_SHOTS: usize = 64;
+
+// A shot that flies.
+#[derive(Clone, Copy, Debug, Default, PartialEq, Eq)]
+pub struct Shot {
+    // The number of the player who fired it.
+    pub owner: u8,
+    pub spot: Spot,
+    // The cells left, from 1 to 8.
+    pub left: u8,
+}
+
+impl Shot {
+    // A shot as it is fired.
+    pub fn fired(owner: u8, spot: Spot) -> Shot
+        ensures { result ≡ record { owner = owner; spot = spot; left = 8 } }
+    {
+        Shot {
+            owner,
+            spot,
+            left: 8,
+        }
+    }
+
+    // Appends the shot's line: its owner's name, its cell, its facing and the cells left. On `NoMemory` `out` is unchanged.
+    #[tactic(auto, unfolding(crate::specs::Block::shot_line))]
+    pub fn push_line(&self, roster: &Roster, out: &mut Vec<u8>) -> Result<(), NoMemory>
+        ensures ok { OnOk result (out.new.items ≡ out.old.items ++ shot_line roster.now self.now) }
+        ensures err { OnErr result (out.new.items ≡ out.old.items) }
+    {
+        let words = [
+            Word::Text(b"shot"),
+            Word::Text(roster.printed_name(self.owner)),
+            Word::Number(i64::from(self.spot.x)),
+            Word::Number(i64::from(self.spot.y)),
+            Word::Text(self.spot.face.letter()),
+            Word::Number(i64::from(self.left)),
+        ];
+        push_line(out, &words)
+    }
+
+    // The shot in its next cell, where it flies on.
+    fn flying(self, spot: Spot) -> Option<Shot>
+        ensures { result ≡ flying self spot }
+    {
+        let left = self.left.saturating_sub(1);
+        if left == 0 {
+            None
+        } else {
+            Some(Shot { spot, left, ..self })
+        }
+    }
+}
+
+// Changes the score of a shot's owner, after it killed the player of this number.
+fn score(players: &mut [Player], owner: usize, killed: usize)
+    requires { owner < length players.old }
+    ensures { players.new ≡ scored players.old owner killed }
+{
+    let player = players[owner];
+    players[owner] = if owner == killed {
+        player.with_loss()
+    } else {
+        player.with_gain()
+    };
+}
+
+// A shot of this owner hits the live player of this number.
+fn hit(players: &mut [Player], owner: usize, number: usize)
+    requires owner { owner < length players.old }
+    requires there { number < length players.old }
+    ensures { players.new ≡ hit players.old owner number }
+{
+    players[number] = players[number].struck();
+    if !players[number].is_live() {
+        score(players, owner, number);
+    }
+}
+
+// One shot flies: the answer is the shot where it flies on.
+fn fly(ground: &Ground, players: &mut [Player], shot: Shot) -> Option<Shot>
+    requires { shot.owner < length players.old }
+    ensures { flown ground.now players.old shot ≡ record { players = players.new; shot = result } }
+{
+    let Some(spot) = ground.open_ahead(shot.spot) else {
+        return None;
+    };
+    match holder(players, spot) {
+        Some(number) => {
+            hit(players, shot.owner as usize, number);
+            None
+        }
+        None => shot.flying(spot),
+    }
+}
+
+// The first part of a beat: the shots fly in list order, and each sees what those before it did.
+pub fn fly_all(
+    ground: &Ground,
+    players: &mut [Player],
+    shots: &[Shot],
+) -> ArrayVec<Shot, MOST_SHOTS>
+    requires count { length shots.now ≤ 64 }
+    requires owners { All (λ s. s.owner < length players.old) shots.now }
+    ensures { flights ground.now players.old shots.now ≡ record { players = players.new; shots = result.items } }
+{
+    let mut flying = ArrayVec::new();
+    for &shot in shots {
+        if let Some(shot) = fly(ground, players, shot) {
+            flying.push(shot);
+        }
+    }
+    flying
+}
