@@ -208,7 +208,7 @@ impl Game for Arena {
             Act::Shoot => self.shoot(x.player),
             Act::Dash => {
                 self.go(x.player);
-                self.go(x.player);
+                self.go(x.player)
             }
         }
     }
