@@ -7,6 +7,7 @@ mod counting_game;
 mod delays;
 mod match_texts;
 mod mirror;
+mod plain_arena;
 mod plain_mirror;
 mod program;
 mod streams;
