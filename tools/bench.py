@@ -1,14 +1,15 @@
 #!/usr/bin/env python3
 """Times the built program on the largest plain match, and shows how time grows with the commands.
 
-    python3 tools/bench.py PROGRAM [--word order|play] [--text plain|script|late] [--runs N]
+    python3 tools/bench.py PROGRAM [--word order|play] [--text plain|script|late|arena] [--runs N]
 
 PROGRAM is the built program `tss`. The match has 8,192 ticks and 2,048 to 16,384 commands of one mirror, in a mixed
 order of lines. A plain text has no script. In a `script` text there is one turn a tick, and each command arrives at a lag
 of 0 to 40 ticks behind its time, so that some are in time and some are late. In a `late` text all commands arrive after
 the last turn, so each is found, turned away and printed, and none is executed: that measures reading, finding and
-printing apart. `order` on a `script` text measures reading and executing without a mirror. Without --text it is plain for
-`order` and script for `play`. Each match is run N times (default 15); the least wall time, the start of the process
+printing apart. `order` on a `script` text measures reading and executing without a mirror. An `arena` text has 4,096 ticks,
+eight players who shoot a third of the time, walls and pickups, so it measures the arena's rules. Without --text it is plain
+for `order` and script for `play`. Each match is run N times (default 15); the least wall time, the start of the process
 included, and the greatest peak memory are printed, and by how much each doubling multiplies the time.
 """
 
@@ -56,6 +57,19 @@ def match_text(count, kind):
     return "".join(line + "\n" for line in lines).encode()
 
 
+def arena_text(count):
+    draws = Draws(7)
+    lines = ["tss match 1", "length 4096", "grid 64 64", "mirrors 1", "delays 0", "pace 0"]
+    lines += [f"wall {x} {y}" for y in range(4, 64, 8) for x in range(4, 64, 8)]
+    lines += [f"pickup {x} 0 {('ammo', 'heal', 'gold')[x % 3]}" for x in range(32)]
+    lines += [f"player p{i} {8 * i + 1} 2 {'nesw'[i % 4]}" for i in range(8)]
+    for number in range(count):
+        act = "shoot" if draws.below(3) == 0 else ("go", "go", "left", "right")[draws.below(4)]
+        lines.append(f"cmd {number * 4096 // count} 0 {number} {draws.below(8)} {act}")
+    lines.append("end")
+    return "".join(line + "\n" for line in lines).encode()
+
+
 def run_once(program, word, text):
     """The wall time in seconds and the peak memory in KiB of one run."""
     read_end, write_end = os.pipe()
@@ -90,7 +104,7 @@ def main():
     parser = argparse.ArgumentParser()
     parser.add_argument("program")
     parser.add_argument("--word", choices=("order", "play"), default="order")
-    parser.add_argument("--text", choices=("plain", "script", "late"))
+    parser.add_argument("--text", choices=("plain", "script", "late", "arena"))
     parser.add_argument("--runs", type=int, default=15)
     given = parser.parse_args()
     kind = given.text or ("script" if given.word == "play" else "plain")
@@ -98,7 +112,7 @@ def main():
     print(f"processor: {processor()}, {os.cpu_count()} cores")
     before = None
     for count in COUNTS:
-        text = match_text(count, kind)
+        text = arena_text(count) if kind == "arena" else match_text(count, kind)
         runs = [run_once(program, given.word, text) for _ in range(given.runs)]
         least = min(seconds for seconds, _ in runs)
         peak = max(memory for _, memory in runs)

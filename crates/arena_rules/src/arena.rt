@@ -1,4 +1,4 @@
-ghost use Rattle.std.specs.Prelude.{◌≡◌, ◌↔◌, ◌<◌, ◌++◌, IsTrue, length, take, OnOk, OnSome, slice_get, option_map};
+ghost use Rattle.std.specs.Prelude.{◌≡◌, ◌↔◌, ◌<◌, ◌≤◌, ◌++◌, IsTrue, length, take, OnOk, OnSome, slice_get, option_map};
 ghost use Rattle.arena_rules.specs.Block.{block_of};
 ghost use Rattle.arena_rules.specs.Setup.{layout_of, IsLayout};
 ghost use Rattle.arena_rules.specs.Command.{with_player, arrived, turned, gone, shot_by, applied, turned_left, turned_right};
@@ -208,7 +208,7 @@ impl Game for Arena {
             Act::Shoot => self.shoot(x.player),
             Act::Dash => {
                 self.go(x.player);
-                self.go(x.player);
+                self.go(x.player)
             }
         }
     }
@@ -229,9 +229,9 @@ impl Game for Arena {
         ensures sound { IsWorld self.new }
     {
         self.ground = other.ground;
-        self.players = other.players.clone().unwrap();
-        self.shots = other.shots.clone().unwrap();
-        self.pickups = other.pickups.clone().unwrap();
+        copy_into(&mut self.players, &other.players);
+        copy_into(&mut self.shots, &other.shots);
+        copy_into(&mut self.pickups, &other.pickups);
         self.time = other.time;
     }
 
@@ -282,4 +282,13 @@ fn are_same_pickups(a: &[Pickup], b: &[Pickup]) -> bool
     ensures { IsTrue result ↔ (a.now ≡ b.now) }
 {
     a == b
+}
+
+// Copies the items in place of those that are there, in the time that both take and not that of the room.
+fn copy_into<T: Copy + Default, const N: usize>(place: &mut ArrayVec<T, N>, items: &[T])
+    requires { length items.now ≤ N }
+    ensures { place.new.items ≡ items.now }
+{
+    place.clear();
+    place.try_extend_from_slice(items).unwrap();
 }

@@ -93,10 +93,7 @@ impl Player {
     pub fn is_live(&self) -> bool
         ensures { result ≡ is_live self.now }
     {
-        match self.state {
-            State::Live(_) => true,
-            State::Dead { .. } => false,
-        }
+        matches!(self.state, State::Live(_))
     }
 
     pub fn stands_in(&self, spot: Spot) -> bool

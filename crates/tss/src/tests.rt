@@ -6,6 +6,7 @@ mod counting_game;
 mod game_trait_tests;
 mod match_texts;
 mod mirror_core_tests;
+mod plain_arena;
 mod program;
 mod stagger_clock_tests;
 mod tss_io_tests;

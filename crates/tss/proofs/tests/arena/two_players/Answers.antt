@@ -1,20 +1,14 @@
-use Rattle.std.proofs.Common.{[], ◌∷◌, refl, arith}
-use Rattle.std.specs.List.{IsDistinct}
+use Rattle.std.proofs.Common.{[], ◌∷◌, refl, lit≤, lit<}
 use Rattle.arena_rules.specs.Ground.{open_grid, with_wall, is_open, is_walled}
 use Rattle.arena_rules.specs.Setup.{IsLayout}
 use Rattle.arena_rules.specs.declared.face.Face.TheVariants.{E, S}
+use Rattle.arena_rules.proofs.Telling.{IsLayout-from_tests}
 use Rattle.arena_rules.proofs.Walls.{IsGrid-open_grid, IsGrid-with_wall}
 use Rattle.tss.proofs.tests.arena.two_players.Goals as goal
 
 possible : IsLayout (record { grid = with_wall (open_grid 4 2) 1 1; pickups = []; players = record { x = 0; y = 0; face = E } ∷ record { x = 2; y = 0; face = S } ∷ [] })
-unfolding is_open is_walled with_wall IsDistinct
-possible = record {
-  grid = IsGrid-with_wall (open_grid 4 2) 1 1 (IsGrid-open_grid 4 2 (omega arith) (omega arith) (omega arith) (omega arith)) (omega arith) (omega arith);
-  players = (omega arith, omega arith);
-  pickups = omega arith;
-  free = refl;
-  apart = ((refl, tt), (tt, tt));
-}
+unfolding is_open is_walled with_wall
+possible = IsLayout-from_tests _ (IsGrid-with_wall (open_grid 4 2) 1 1 (IsGrid-open_grid 4 2 (lit≤ tt) (lit≤ tt) (lit≤ tt) (lit≤ tt)) (lit< tt) (lit< tt)) (lit≤ tt) (lit≤ tt) (lit≤ tt) refl refl
 
 pub start-requires : goal.start-requires
-start-requires c = rw (c.wall.ensures.walled, c.new-ground.ensures.open, c.new.ensures, c.push-2.ensures.items, c.push.ensures.items, c.new-players.ensures) possible
+start-requires c = rw (c.wall.ensures.walled, c.new-ground.ensures.open, c.new.ensures, c.push-2.ensures.items, c.push.ensures.items, c.new-players.ensures, c.spot.ensures, c.spot-2.ensures) possible
