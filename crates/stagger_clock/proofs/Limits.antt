@@ -18,7 +18,7 @@ last_of-all P x [] here rest = here
 last_of-all P x (y ∷ ys) here rest = last_of-all P y ys rest.0 rest.1
 
 -- the longest delay is the last one, or 0 where there is none
-longest_delay-last : (delays : List ℕ) → longest_delay delays ≡ get_or delays (length delays - 1) 0
+pub longest_delay-last : (delays : List ℕ) → longest_delay delays ≡ get_or delays (length delays - 1) 0
 unfolding last_of
 longest_delay-last [] = refl
 longest_delay-last (y ∷ ys) = let back : suc (length ys) - 1 ≡ length ys = omega arith in rw back (last_of-at y 0 ys)
@@ -28,13 +28,13 @@ pub longest_delay-short : (s : Schedule) → IsSchedule s → longest_delay s.de
 longest_delay-short s is = last_of-all (λ delay. delay ≤ LONGEST_DELAY) 0 s.delays (omega arith) is.short_delays
 
 -- the limit of copy 0
-limit_at-first : (s : Schedule) (copy clock ahead : ℕ) → copy ≡ 0 → limit_at s copy clock ahead ≡ min s.length (clock - get_or s.delays copy 0)
+pub limit_at-first : (s : Schedule) (copy clock ahead : ℕ) → copy ≡ 0 → limit_at s copy clock ahead ≡ min s.length (clock - get_or s.delays copy 0)
 unfolding limit_at
 limit_at-first s zero clock ahead first = refl
 limit_at-first s (suc copy) clock ahead first = absurd (omega arith)
 
 -- the limit of a copy behind another
-limit_at-behind :
+pub limit_at-behind :
     (s : Schedule) (copy clock ahead : ℕ) → 0 < copy
     → limit_at s copy clock ahead ≡ min (min s.length (clock - get_or s.delays copy 0)) ahead
 unfolding limit_at

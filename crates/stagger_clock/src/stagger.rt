@@ -17,6 +17,7 @@ pub struct Stagger {
 
 impl Model for Stagger {
     ghost use Rattle.std.specs.Prelude.{◌++◌, ◌-◌, length, replicate, take};
+    ghost use Rattle.game_trait.specs.declared.limits.TheConstants.{MOST_COPIES};
     ghost use Rattle.sync_model.specs.Schedule.{Schedule};
     ghost use Rattle.stagger_clock.specs.Stored.{IsStored};
 
