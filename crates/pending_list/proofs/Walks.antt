@@ -1,15 +1,22 @@
 -- Walking the commands in key order, from where a tick's begin.
-use Rattle.std.proofs.Common.{◌≡◌, refl, ◌∙◌, sym, ap, ℕ, zero, suc, ◌+◌, ◌≤◌, ◌<◌, Bool, true, false, cond, List, [], ◌∷◌, length, filter, eqb, ltb, ⊎_elim, subst, eq-eqb, arith}
+use Rattle.std.proofs.Common.{◌≡◌, refl, ◌∙◌, sym, ap, ℕ, zero, suc, ◌+◌, ◌≤◌, ◌<◌, Bool, true, false, cond, List, [], ◌∷◌, length, map, filter, get_or, length-append, eqb, ltb, ⊎_elim, subst, eq-eqb, arith}
 use Rattle.std.proofs.lemmas.Bool.{lt-ltb, le-ltb, ne_eqb, cases_lt, cases_eq}
+use Rattle.std.proofs.lemmas.Bool.Decides.{nat_tests}
+use Rattle.std.proofs.lemmas.List.{length-map}
+use Rattle.std.proofs.lemmas.Option.{slice_get_within, get_or_from_slice_get}
+use Rattle.std.specs.List.Sorted.{IsPartitionPoint}
 use Rattle.std.specs.Prelude.{Option, Some, None, slice_get}
 use Rattle.std.specs.List.{AllByRecursion}
 use Rattle.game_trait.specs.declared.command.Command.{Command}
+use Rattle.game_trait.specs.declared.command.Item.{Item}
+use Rattle.game_trait.specs.declared.command.Item.TheVariants.{Cmd, Beat}
 use Rattle.game_trait.specs.Keys.{before, in_key_order, KeysRise, NamesDiffer}
 use Rattle.game_trait.specs.Ordered.{due_at}
 use Rattle.game_trait.specs.Count.{times}
 use Rattle.game_trait.proofs.Counts.{times-in_key_order}
-use Rattle.game_trait.proofs.KeyOrder.{before-time, KeysRise-in_key_order}
-use Rattle.game_trait.proofs.Lists.{all-weaker}
+use Rattle.game_trait.proofs.KeyOrder.{before-asym, before-time, KeysRise-in_key_order}
+use Rattle.game_trait.proofs.Lengths.{length-tick_of}
+use Rattle.game_trait.proofs.Lists.{all-at, all-weaker}
 use Rattle.game_trait.proofs.Places.{due_at-filter}
 use Rattle.pending_list.specs.Buckets.{start_of, due_or_none}
 
@@ -88,3 +95,76 @@ due-walked all t i differ within =
     ap (λ (n : ℕ). due_or_none t (slice_get (in_key_order all) (n + i))) (sym start)
     ∙ walked t (in_key_order all) i (KeysRise-in_key_order all differ) (let l = ap (λ (l : List Command). length l) same in omega arith)
     ∙ ap (λ (l : List Command). slice_get l i) same
+
+-- the next tick's begin behind this one's
+start-parts : (xs : List Command) (t : ℕ) → start_of xs (t + 1) ≡ start_of xs t + times (λ x. eqb x.time t) xs
+unfolding times
+start-parts [] t = refl
+start-parts (x ∷ xs) t =
+    let rest = start-parts xs t in
+    let here : cond {A = ℕ} (ltb x.time (t + 1)) 1 0 ≡ cond {A = ℕ} (ltb x.time t) 1 0 + cond {A = ℕ} (eqb x.time t) 1 0 = grind (arith, nat_tests) in
+    omega arith
+
+pub start-next : (all : List Command) (t : ℕ) → start_of all (t + 1) ≡ start_of all t + length (due_at all t)
+start-next all t =
+    let parts = start-parts all t in
+    let whole = length-tick_of all t in
+    let both = length-append (map Cmd (due_at all t)) (Beat ∷ []) in
+    let one = length-map {A = Command} {B = Item} (due_at all t) (λ x. Cmd x) in
+    omega arith
+
+-- none stands before itself
+irreflexive : (x : Command) → before x x ≡ true → ⊥
+irreflexive x e = (let f = before-asym x x e in cc)
+
+-- in rising order an earlier one stands before a later one
+rises-between : (xs : List Command) (i j : ℕ) (d : Command) → KeysRise xs → i < j → j < length xs → before (get_or xs i d) (get_or xs j d) ≡ true
+unfolding KeysRise
+rises-between [] i j d rises low within = absurd (omega arith)
+rises-between (x ∷ xs) i zero d rises low within = absurd (omega arith)
+rises-between (x ∷ xs) zero (suc j) d rises low within = all-at (λ y. before x y ≡ true) xs j d rises.0 (omega arith)
+rises-between (x ∷ xs) (suc i) (suc j) d rises low within = rises-between xs i j d rises.1 (omega arith) (omega arith)
+
+-- a command parts a rising list where it stands
+parted-own :
+    (xs : List Command) (x : Command) (place own : ℕ) → KeysRise xs → slice_get xs own ≡ Some x → place ≤ length xs
+    → IsPartitionPoint (λ y. before y x ≡ true) (λ y. before y x ≡ false) xs place → place ≡ own
+parted-own xs x place own rises here upto parted =
+    let within = slice_get_within xs own x here in
+    let at = get_or_from_slice_get xs own x x here in
+    ⊎_elim
+    (λ (low : place < own).
+    absurd (let front : before (get_or xs place x) x ≡ true = ap (before (get_or xs place x)) (sym at) ∙ rises-between xs place own x rises low within in
+    let behind : before (get_or xs place x) x ≡ false = parted.1 place x (omega arith) (omega arith) in cc))
+    (λ (high : own ≤ place).
+    ⊎_elim
+    (λ (past : own < place).
+    absurd (irreflexive x (ap (λ (y : Command). before y x) (sym at) ∙ parted.0 own x (omega arith) past)))
+    (λ (level : place ≤ own). omega arith)
+    (cases_lt own place))
+    (cases_lt place own)
+
+-- where a command of a tick stands in key order
+due-place :
+    (all : List Command) (t i : ℕ) (x : Command) → NamesDiffer all → slice_get (due_at all t) i ≡ Some x
+    → slice_get (in_key_order all) (start_of all t + i) ≡ Some x
+due-place all t i x differ here =
+    due_some t (slice_get (in_key_order all) (start_of all t + i)) x
+    (due-walked all t i differ (let within = slice_get_within (due_at all t) i x here in omega arith) ∙ here)
+  where
+    due_some : (t : ℕ) (found : Option Command) (x : Command) → due_or_none t found ≡ Some x → found ≡ Some x
+    due_some t None x e = absurd cc
+    due_some t (Some y) x e =
+        elim (eqb y.time t) as (λ v. cond {A = Option Command} v (Some y) None ≡ Some x → Some y ≡ Some x) [ true ↦ λ k. k | false ↦ λ k. absurd cc ] e
+
+-- what stands behind a command of a tick is the tick's next, if there is one
+pub due-after :
+    (all : List Command) (x : Command) (i place : ℕ) → NamesDiffer all → place ≤ length (in_key_order all)
+    → IsPartitionPoint (λ y. before y x ≡ true) (λ y. before y x ≡ false) (in_key_order all) place
+    → slice_get (due_at all x.time) i ≡ Some x
+    → due_or_none x.time (slice_get (in_key_order all) (place + 1)) ≡ slice_get (due_at all x.time) (i + 1)
+due-after all x i place differ upto parted here =
+    let own = parted-own (in_key_order all) x place (start_of all x.time + i) (KeysRise-in_key_order all differ) (due-place all x.time i x differ here) upto parted in
+    let e : place + 1 ≡ start_of all x.time + (i + 1) = omega arith in
+    ap (λ (k : ℕ). due_or_none x.time (slice_get (in_key_order all) k)) e
+    ∙ due-walked all x.time (i + 1) differ (let within = slice_get_within (due_at all x.time) i x here in omega arith)
