@@ -1,5 +1,5 @@
 -- The tests of equality decide equality.
-use Rattle.std.proofs.Common.{◌≡◌, ℕ, zero, suc, Bool, true, false, ◌&&◌, eqb, refl, ap, sym, ◌∙◌}
+use Rattle.std.proofs.Common.{◌≡◌, ℕ, zero, suc, true, false, refl, ap, sym, ◌∙◌}
 use Rattle.std.specs.Bool.{Decides}
 use Rattle.std.proofs.lemmas.Bool.Decides.{Decides-eqb, Decides-and, Decides-like}
 use Rattle.game_trait.specs.declared.command.Act.{Act}
@@ -8,8 +8,6 @@ use Rattle.game_trait.specs.declared.command.Command.{Command}
 use Rattle.game_trait.specs.declared.command.Item.{Item}
 use Rattle.game_trait.specs.declared.command.Item.TheVariants.{Cmd, Beat}
 use Rattle.game_trait.specs.Run.{act_place, same_command, same_item}
-use Rattle.game_trait.specs.contracts.command.ItemPartialEq.TheImpl as derived_item
-use Rattle.game_trait.specs.contracts.command.ActPartialEq.TheImpl as derived_act
 
 -- the act at a place
 act_at : ℕ → Act
@@ -60,28 +58,3 @@ same_item-Decides Beat Beat = (λ e. refl, λ e. refl)
 pub not_same : (x y : Command) → ((x ≡ y) → ⊥) → same_command x y ≡ false
 not_same x y differ =
     elim (same_command x y) as (λ v. same_command x y ≡ v → v ≡ false) [ true ↦ λ e. absurd (differ ((same_command-Decides x y).0 e)) | false ↦ λ e. refl ] refl
-
--- what holds of each act
-each_act : (P : Act → Type 0) → P Go → P Left → P Right → P Shoot → P Dash → (a : Act) → P a
-each_act P go left right shoot dash Go = go
-each_act P go left right shoot dash Left = left
-each_act P go left right shoot dash Right = right
-each_act P go left right shoot dash Shoot = shoot
-each_act P go left right shoot dash Dash = dash
-
--- the derived test of acts is that of their places
-act_place-derived : (a b : Act) → (derived_act.eq-value).it a b ≡ eqb (act_place a) (act_place b)
-act_place-derived Go b = each_act (λ b. (derived_act.eq-value).it Go b ≡ eqb 0 (act_place b)) refl refl refl refl refl b
-act_place-derived Left b = each_act (λ b. (derived_act.eq-value).it Left b ≡ eqb 1 (act_place b)) refl refl refl refl refl b
-act_place-derived Right b = each_act (λ b. (derived_act.eq-value).it Right b ≡ eqb 2 (act_place b)) refl refl refl refl refl b
-act_place-derived Shoot b = each_act (λ b. (derived_act.eq-value).it Shoot b ≡ eqb 3 (act_place b)) refl refl refl refl refl b
-act_place-derived Dash b = each_act (λ b. (derived_act.eq-value).it Dash b ≡ eqb 4 (act_place b)) refl refl refl refl refl b
-
--- the derived test of items is the plain one
-pub same_item-derived : (a b : Item) → (derived_item.eq-value).it a b ≡ same_item a b
-unfolding same_item same_command
-same_item-derived (Cmd x) (Cmd y) =
-    ap (λ (t : Bool). eqb x.time y.time && (eqb x.from y.from && (eqb x.number y.number && (eqb x.player y.player && t)))) (act_place-derived x.act y.act)
-same_item-derived (Cmd x) Beat = refl
-same_item-derived Beat (Cmd y) = refl
-same_item-derived Beat Beat = refl

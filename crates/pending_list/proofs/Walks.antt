@@ -1,5 +1,5 @@
 -- Walking the commands in key order, from where a tick's begin.
-use Rattle.std.proofs.Common.{◌≡◌, refl, ◌∙◌, sym, ap, ℕ, zero, suc, ◌+◌, ◌≤◌, ◌<◌, Bool, true, false, cond, List, [], ◌∷◌, length, map, filter, get_or, length-append, eqb, ltb, ⊎_elim, subst, eq-eqb, arith}
+use Rattle.std.proofs.Common.{◌≡◌, refl, ◌∙◌, sym, ap, ℕ, zero, suc, ◌+◌, ◌-◌, ◌≤◌, ◌<◌, Bool, true, false, cond, List, [], ◌∷◌, ◌++◌, length, map, take, filter, get_or, length-append, eqb, ltb, ⊎_elim, subst, eq-eqb, arith}
 use Rattle.std.proofs.lemmas.Bool.{lt-ltb, le-ltb, ne_eqb, cases_lt, cases_eq}
 use Rattle.std.proofs.lemmas.Bool.Decides.{nat_tests}
 use Rattle.std.proofs.lemmas.List.{length-map}
@@ -168,3 +168,69 @@ due-after all x i place differ upto parted here =
     let e : place + 1 ≡ start_of all x.time + (i + 1) = omega arith in
     ap (λ (k : ℕ). due_or_none x.time (slice_get (in_key_order all) k)) e
     ∙ due-walked all x.time (i + 1) differ (let within = slice_get_within (due_at all x.time) i x here in omega arith)
+
+-- one more of a list
+pub take-more : {X : Type 0} (xs : List X) (i : ℕ) (x : X) → slice_get xs i ≡ Some x → take (i + 1) xs ≡ take i xs ++ x ∷ []
+take-more [] i x here = absurd cc
+take-more {X} (y ∷ ys) zero x here = (let same : y ≡ x = cc in ap (λ (z : X). z ∷ []) same)
+take-more {X} (y ∷ ys) (suc i) x here =
+    (let e : suc i + 1 ≡ suc (i + 1) = omega arith in rw e (ap (λ (l : List X). y ∷ l) (take-more ys i x here)))
+
+-- where none is left
+at-end : {X : Type 0} (xs : List X) (i : ℕ) → i ≤ length xs → slice_get xs i ≡ None → (take i xs ≡ xs) × (i ≡ length xs)
+at-end [] zero within none = (refl, refl)
+at-end [] (suc i) within none = absurd (omega arith)
+at-end (x ∷ xs) zero within none = absurd cc
+at-end {X} (x ∷ xs) (suc i) within none =
+    let rest = at-end xs i (omega arith) none in
+    (ap (λ (l : List X). x ∷ l) rest.0, ap suc rest.1)
+
+-- a walk through a tick's commands has come from their start to a place
+pub record IsWalked (all : List Command) (t start place : ℕ) : Type 0 where
+  pub begun : start ≡ start_of all t
+  pub from : start ≤ place
+  pub within : place - start ≤ length (due_at all t)
+
+-- the commands that it has passed
+abbrev pub walked_by : List Command → ℕ → ℕ → ℕ → List Command
+walked_by all t start place = take (place - start) (due_at all t)
+
+-- what is found there
+abbrev pub FoundDue : List Command → ℕ → ℕ → Option Command → Type 0
+FoundDue all t place found = (i : ℕ) → place ≡ start_of all t + i → i ≤ length (due_at all t) → slice_get (due_at all t) i ≡ found
+
+pub walk-begun : (all : List Command) (t start : ℕ) → start ≡ start_of all t → IsWalked all t start start × (walked_by all t start start ≡ [])
+walk-begun all t start begun =
+    let e : start - start ≡ 0 = omega arith in
+    (record { begun = begun; from = omega arith; within = omega arith }, ap (λ (n : ℕ). take n (due_at all t)) e)
+
+module _ {all : List Command} {t start place : ℕ} (h : IsWalked all t start place) where
+  pub walk-here : (found : Option Command) → FoundDue all t place found → slice_get (due_at all t) (place - start) ≡ found
+  walk-here found at = at (place - start) (let begun = h.begun in let from = h.from in omega arith) h.within
+
+  -- one more
+  pub walk-more :
+      (x : Command) → FoundDue all t place (Some x)
+      → IsWalked all t start (place + 1) × (walked_by all t start (place + 1) ≡ walked_by all t start place ++ x ∷ [])
+  walk-more x at =
+      let here = walk-here (Some x) at in
+      let within = slice_get_within (due_at all t) (place - start) x here in
+      let from = h.from in
+      let e : (place + 1) - start ≡ (place - start) + 1 = omega arith in
+      (record { begun = h.begun; from = omega arith; within = omega arith },
+      ap (λ (n : ℕ). take n (due_at all t)) e ∙ take-more (due_at all t) (place - start) x here)
+
+  pub walk-left : (x : Command) → FoundDue all t place (Some x) → place - start < length (due_at all t)
+  walk-left x at = slice_get_within (due_at all t) (place - start) x (walk-here (Some x) at)
+
+  -- or none: all were passed, and the next tick's begin here
+  pub walk-done :
+      FoundDue all t place None
+      → (walked_by all t start place ≡ due_at all t) × ((place ≡ start_of all (t + 1)) × (place - start ≡ length (due_at all t)))
+  walk-done at =
+      let last = at-end (due_at all t) (place - start) h.within (walk-here None at) in
+      let next = start-next all t in
+      let begun = h.begun in
+      let from = h.from in
+      let long = last.1 in
+      (last.0, (omega arith, last.1))
