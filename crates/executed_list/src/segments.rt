@@ -1,0 +1,166 @@
+//! One list with an end for each copy.
+
+ghost use Rattle.std.specs.Prelude.{◌≡◌, ◌+◌, ◌-◌, ◌<◌, ◌≤◌, IfOk, [], ◌∷◌, ◌++◌, length, take, replicate, slice_get, slice_set};
+ghost use Rattle.game_trait.specs.declared.limits.TheConstants.{MOST_COPIES};
+ghost use Rattle.game_trait.specs.Run.{beats};
+ghost use Rattle.executed_list.specs.Segments.{end_of, filled, Falls};
+
+use crate::ends::{beats_in, beats_of, fill};
+use game_trait::{Item, Tick};
+use std::alloc::Global;
+use std::marker::Model;
+use tss_io::NoMemory;
+
+/// The runs of a mirror's copies, which are all fronts of copy 0's run, kept as one list of items with an end for each copy: a
+/// copy's run is the list up to its end (this project's own). No copy's end is past the end of the copy ahead, and copy 0's end
+/// is the list's. Contracts see the items, the ends and the room left, in items. Only `new` takes memory.
+#[derive(Drop)]
+pub struct Segments {
+    items: Vec<Item>,
+    ends: Vec<u32>,
+    // the ticks that each copy's run ends
+    clocks: Vec<Tick>,
+    spare: u32,
+}
+
+impl Model for Segments {
+    ghost use Rattle.std.specs.Prelude.{vec_capacity};
+    ghost use Rattle.executed_list.specs.Segments.{OneList, IsOneList};
+
+    ghost Value = { OneList };
+
+    ghost view = { λ s. record { items = s.items.items; ends = s.ends.items; spare = s.spare } };
+
+    ghost invariant = { λ s. IsOneList s.items.items s.ends.items s.clocks.items s.spare (vec_capacity s.items) };
+}
+
+impl Segments {
+    /// No items yet: 1 to 8 copies that have run nothing, and room for so many items. Want of memory makes nothing.
+    pub fn new(alloc: Global, copies: u8, room: u32) -> Result<Segments, NoMemory>
+        requires { (0 < copies) × (copies ≤ MOST_COPIES) }
+        ensures { IfOk result (λ s. s ≡ record { items = []; ends = replicate copies 0; spare = room }) }
+    {
+        let mut ends = Vec::with_capacity(alloc, copies as usize)?;
+        let mut clocks = Vec::with_capacity(alloc, copies as usize)?;
+        for made in 0..copies {
+            let _ = made;
+            ends.push_reserved(0);
+            clocks.push_reserved(0);
+        }
+        Ok(Segments {
+            items: Vec::with_capacity(alloc, room as usize)?,
+            ends,
+            clocks,
+            spare: room,
+        })
+    }
+
+    /// Appends an item, where there is room. Copy 0's end goes with it.
+    pub fn push(&mut self, x: &Item)
+        requires { 0 < self.old.spare }
+        ensures { self.new ≡ record {
+          items = self.old.items ++ x.now ∷ [];
+          ends = slice_set self.old.ends 0 (length self.old.items + 1);
+          spare = self.old.spare - 1;
+        } }
+    {
+        self.items.push_reserved(*x);
+        self.ends[0] += 1;
+        self.clocks[0] += beats_in(x);
+        self.spare -= 1;
+    }
+
+    /// Keeps the items up to the copy's end, which becomes the end of each copy ahead. The copy is there.
+    pub fn cut(&mut self, copy: u8)
+        requires { copy < length self.old.ends }
+        ensures { let end = end_of self.old.ends copy in self.new ≡ record {
+          items = take end self.old.items;
+          ends = filled copy end self.old.ends;
+          spare = self.old.spare + (length self.old.items - end);
+        } }
+    {
+        let c = copy as usize;
+        let end = self.ends[c];
+        let clock = self.clocks[c];
+        self.spare += self.items.len() as u32 - end;
+        self.items.truncate(end as usize);
+        fill(&mut self.ends, c, end);
+        fill(&mut self.clocks, c, clock);
+    }
+
+    // The ticks before an end that is at least the copy's and at most that of the copy ahead.
+    fn clock_at(&self, copy: u8, end: u32) -> Tick
+        requires copy { (0 < copy) × (copy < length self.now.ends) }
+        requires from { end_of self.now.ends copy ≤ end }
+        requires upto { end ≤ end_of self.now.ends (copy - 1) }
+        ensures { result ≡ beats (take end self.now.items) }
+    {
+        let c = copy as usize;
+        if end == self.ends[c - 1] {
+            return self.clocks[c - 1];
+        }
+        let (front, _) = self.items.split_at(end as usize);
+        let (_, passed) = front.split_at(self.ends[c] as usize);
+        self.clocks[c] + beats_of(passed)
+    }
+
+    /// The copy's end goes on by so many items, to at most the end of the copy ahead. The copy is there, and isn't copy 0.
+    pub fn pass(&mut self, copy: u8, by: u32)
+        requires copy { (0 < copy) × (copy < length self.old.ends) }
+        requires upto { end_of self.old.ends copy + by ≤ end_of self.old.ends (copy - 1) }
+        ensures { self.new ≡ record self.old { ends = slice_set self.old.ends copy (end_of self.old.ends copy + by) } }
+    {
+        let c = copy as usize;
+        let end = self.ends[c] + by;
+        let clock = self.clock_at(copy, end);
+        self.ends[c] = end;
+        self.clocks[c] = clock;
+    }
+
+    /// How many items there are. No copy's end is past the end of the copy ahead, and copy 0's is the list's.
+    pub fn len(&self) -> u32
+        ensures len { result ≡ length self.now.items }
+        ensures falls { Falls self.now.ends }
+        ensures first { end_of self.now.ends 0 ≡ length self.now.items }
+    {
+        self.items.len() as u32
+    }
+
+    /// How many more items there is room for.
+    pub fn spare(&self) -> u32
+        ensures { result ≡ self.now.spare }
+    {
+        self.spare
+    }
+
+    /// How many copies there are, 1 to 8.
+    pub fn copies(&self) -> u8
+        ensures { result ≡ length self.now.ends }
+    {
+        self.ends.len() as u8
+    }
+
+    /// How many items the copy has run. The copy is there.
+    pub fn end(&self, copy: u8) -> u32
+        requires { copy < length self.now.ends }
+        ensures { result ≡ end_of self.now.ends copy }
+    {
+        self.ends[copy as usize]
+    }
+
+    /// How many ticks the copy has run. The copy is there.
+    pub fn beats(&self, copy: u8) -> Tick
+        requires { copy < length self.now.ends }
+        ensures { result ≡ beats (take (end_of self.now.ends copy) self.now.items) }
+    {
+        self.clocks[copy as usize]
+    }
+
+    /// The item at this place of the list. The place is there.
+    pub fn item(&self, place: u32) -> Item
+        requires { place < length self.now.items }
+        ensures { slice_get self.now.items place ≡ Some result }
+    {
+        self.items[place as usize]
+    }
+}

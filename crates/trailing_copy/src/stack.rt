@@ -1,0 +1,371 @@
+//! The copies of a mirror over one list of runs.
+
+ghost use Rattle.std.specs.Prelude.{◌≡◌, ℕ, ◌+◌, ◌-◌, ◌<◌, ◌≤◌, false, true, Some, IfOk, [], ◌∷◌, ◌++◌, length, slice_get, slice_index_or, replicate};
+ghost use Rattle.std.specs.List.{list_any};
+ghost use Rattle.game_trait.specs.declared.limits.TheConstants.{LONGEST_MATCH, MOST_COPIES, MOST_ROOM};
+ghost use Rattle.game_trait.specs.Run.{world_of};
+ghost use Rattle.game_trait.specs.Keys.{same_name};
+ghost use Rattle.sync_model.specs.Settle.{begins_with, settle, repaired};
+ghost use Rattle.sync_model.specs.Change.{with_tick, proposed_by_arrival, proposed_by_step};
+ghost use Rattle.sync_model.specs.State.{copy_clock, last_clock};
+ghost use Rattle.sync_model.specs.Repairs.{is_late_at, IsLastLate};
+
+use crate::clocks::count_above;
+use crate::repairs::{apply_to_each, bring_up, repair_ahead};
+use divergence_check::diverges;
+use executed_list::Segments;
+use game_trait::{Command, Game, Item, Tick};
+use pending_list::Buckets;
+use repair_copy::{append_tick, execute_tick, replay, tick_len};
+use std::alloc::Global;
+use std::marker::Model;
+use tss_io::NoMemory;
+
+/// The copies of a mirror, each with its run and its live world: the trailing states of the paper of 2002, which execute a late
+/// command on arrival and are compared and repaired tick by tick (this project's own). All runs are kept as one list. Contracts
+/// see the opening world, the match's length in ticks, the accepted commands in order of acceptance, the runs from copy 0 on, and
+/// for how many more commands there is room. Only `new` takes memory.
+#[derive(Drop)]
+pub struct CopyStack<G: Game> {
+    opening: G,
+    list: Buckets,
+    run: Segments,
+    worlds: Vec<G>,
+    clocks: Vec<Tick>,
+}
+
+impl<G: Game> Model for CopyStack<G> {
+    ghost use Rattle.executed_list.specs.Segments.{runs_at};
+    ghost use Rattle.trailing_copy.specs.Stack.{CopyState, IsStack};
+
+    ghost Value = { CopyState G };
+
+    ghost view = { λ s. record {
+      opening = s.opening;
+      ticks = s.list.ticks;
+      accepted = s.list.all;
+      runs = runs_at s.run.items s.run.ends;
+      spare = s.list.spare;
+    } };
+
+    ghost invariant = { λ s. IsStack G.rules s.opening s.list.ticks s.list.all s.list.spare s.run s.worlds.items s.clocks.items };
+}
+
+impl<G: Game> CopyStack<G> {
+    /// 1 to 8 copies that have run nothing, in a match of 1 to 8,192 ticks, with room for so many commands, at most 1,048,576.
+    /// Want of memory makes nothing.
+    pub fn new(
+        alloc: Global,
+        opening: &G,
+        copies: u8,
+        length: Tick,
+        room: u32,
+    ) -> Result<CopyStack<G>, NoMemory>
+        requires copies { (0 < copies) × (copies ≤ MOST_COPIES) }
+        requires length { (0 < length) × (length ≤ LONGEST_MATCH) }
+        requires room { room ≤ MOST_ROOM }
+        ensures { IfOk result (λ s. s ≡ record {
+          opening = opening.now;
+          ticks = length;
+          accepted = [];
+          runs = replicate copies [];
+          spare = room;
+        }) }
+    {
+        let mut worlds = Vec::with_capacity(alloc, copies as usize)?;
+        let mut clocks = Vec::with_capacity(alloc, copies as usize)?;
+        for made in 0..copies {
+            let _ = made;
+            worlds.push_reserved(opening.twin());
+            clocks.push_reserved(0);
+        }
+        Ok(CopyStack {
+            opening: opening.twin(),
+            list: Buckets::new(alloc, length, room)?,
+            run: Segments::new(alloc, copies, length + room)?,
+            worlds,
+            clocks,
+        })
+    }
+
+    // A tick of copy 0, or of a copy whose new run the copy ahead doesn't begin with. The copies ahead are repaired.
+    fn tick_apart(&mut self, copy: u8)
+        requires copy { copy < length self.old.runs }
+        requires below { copy_clock self.old.runs copy < self.old.ticks }
+        requires behind { 0 < copy → copy_clock self.old.runs copy < copy_clock self.old.runs (copy - 1) }
+        requires apart { 0 < copy
+            → begins_with (slice_index_or self.old.runs (copy - 1) []) (with_tick self.old.accepted (slice_index_or self.old.runs copy [])) ≡ false }
+        ensures runs { self.new ≡ record self.old { runs = settle self.old.accepted (proposed_by_step self.old.accepted self.old.runs copy) } }
+        ensures repaired { copy ≡ repaired self.old.accepted (proposed_by_step self.old.accepted self.old.runs copy) }
+    {
+        let c = copy as usize;
+        let t = self.clocks[c];
+        let next = t + 1;
+        let _ = self.run.len();
+        self.run.cut(copy);
+        let from = self.run.len();
+        replay(&mut self.worlds[c], &self.list, t, next, &mut self.run);
+        bring_up(&mut self.run, copy, from);
+        self.clocks[c] = next;
+        repair_ahead(
+            &mut self.worlds,
+            &mut self.run,
+            &self.list,
+            &self.clocks,
+            copy,
+        );
+    }
+
+    // The same of a tick that another executed, and whose world it hands over.
+    fn commit_apart(&mut self, copy: u8, world: &G)
+        requires copy { copy < length self.old.runs }
+        requires below { copy_clock self.old.runs copy < self.old.ticks }
+        requires behind { 0 < copy → copy_clock self.old.runs copy < copy_clock self.old.runs (copy - 1) }
+        requires apart { 0 < copy
+            → begins_with (slice_index_or self.old.runs (copy - 1) []) (with_tick self.old.accepted (slice_index_or self.old.runs copy [])) ≡ false }
+        requires world { world.now ≡ world_of G.rules self.old.opening (with_tick self.old.accepted (slice_index_or self.old.runs copy [])) }
+        ensures runs { self.new ≡ record self.old { runs = settle self.old.accepted (proposed_by_step self.old.accepted self.old.runs copy) } }
+        ensures repaired { copy ≡ repaired self.old.accepted (proposed_by_step self.old.accepted self.old.runs copy) }
+    {
+        let c = copy as usize;
+        let t = self.clocks[c];
+        let next = t + 1;
+        let _ = self.run.len();
+        self.run.cut(copy);
+        let from = self.run.len();
+        self.worlds[c].set_from(world);
+        append_tick(&self.list, t, &mut self.run);
+        bring_up(&mut self.run, copy, from);
+        self.clocks[c] = next;
+        repair_ahead(
+            &mut self.worlds,
+            &mut self.run,
+            &self.list,
+            &self.clocks,
+            copy,
+        );
+    }
+
+    // A tick of a copy whose new run the copy ahead begins with.
+    fn tick_front(&mut self, copy: u8)
+        requires copy { (0 < copy) × (copy < length self.old.runs) }
+        requires below { copy_clock self.old.runs copy < self.old.ticks }
+        requires behind { copy_clock self.old.runs copy < copy_clock self.old.runs (copy - 1) }
+        requires front {
+            begins_with (slice_index_or self.old.runs (copy - 1) []) (with_tick self.old.accepted (slice_index_or self.old.runs copy [])) ≡ true }
+        ensures runs { self.new ≡ record self.old { runs = settle self.old.accepted (proposed_by_step self.old.accepted self.old.runs copy) } }
+        ensures repaired { 0 ≡ repaired self.old.accepted (proposed_by_step self.old.accepted self.old.runs copy) }
+    {
+        let c = copy as usize;
+        let t = self.clocks[c];
+        let next = t + 1;
+        let _ = self.run.len();
+        let by = tick_len(&self.list, t);
+        execute_tick(&mut self.worlds[c], &self.list, t);
+        self.run.pass(copy, by);
+        self.clocks[c] = next;
+    }
+
+    // The same of a tick that another executed, and whose world it hands over.
+    fn commit_front(&mut self, copy: u8, world: &G)
+        requires copy { (0 < copy) × (copy < length self.old.runs) }
+        requires below { copy_clock self.old.runs copy < self.old.ticks }
+        requires behind { copy_clock self.old.runs copy < copy_clock self.old.runs (copy - 1) }
+        requires front {
+            begins_with (slice_index_or self.old.runs (copy - 1) []) (with_tick self.old.accepted (slice_index_or self.old.runs copy [])) ≡ true }
+        requires world { world.now ≡ world_of G.rules self.old.opening (with_tick self.old.accepted (slice_index_or self.old.runs copy [])) }
+        ensures runs { self.new ≡ record self.old { runs = settle self.old.accepted (proposed_by_step self.old.accepted self.old.runs copy) } }
+        ensures repaired { 0 ≡ repaired self.old.accepted (proposed_by_step self.old.accepted self.old.runs copy) }
+    {
+        let c = copy as usize;
+        let t = self.clocks[c];
+        let next = t + 1;
+        let _ = self.run.len();
+        let by = tick_len(&self.list, t);
+        self.worlds[c].set_from(world);
+        self.run.pass(copy, by);
+        self.clocks[c] = next;
+    }
+
+    // Whether the run ahead begins with the copy's run and its due tick.
+    fn is_front(&self, copy: u8) -> bool
+        requires copy { (0 < copy) × (copy < length self.now.runs) }
+        requires behind { copy_clock self.now.runs copy < copy_clock self.now.runs (copy - 1) }
+        ensures {
+            result ≡ begins_with (slice_index_or self.now.runs (copy - 1) []) (with_tick self.now.accepted (slice_index_or self.now.runs copy [])) }
+    {
+        let t = self.clocks[copy as usize];
+        let _ = self.run.len();
+        let place = self.run.end(copy);
+        diverges(&self.run, place, &self.list, t).is_none()
+    }
+
+    /// Runs the due tick of a copy, which is there, below the match's end and behind the copy ahead, and compares it with the run
+    /// ahead: where that doesn't begin with the new run, the copies ahead are repaired. Answers how many were repaired. Where
+    /// none is, it costs the tick alone.
+    pub fn run_tick(&mut self, copy: u8) -> u8
+        requires there { copy < length self.old.runs }
+        requires below { copy_clock self.old.runs copy < self.old.ticks }
+        requires behind { 0 < copy → copy_clock self.old.runs copy < copy_clock self.old.runs (copy - 1) }
+        ensures state { self.new ≡ record self.old { runs = settle self.old.accepted (proposed_by_step self.old.accepted self.old.runs copy) } }
+        ensures repaired { result ≡ repaired self.old.accepted (proposed_by_step self.old.accepted self.old.runs copy) }
+    {
+        if copy == 0 {
+            self.tick_apart(copy);
+            return 0;
+        }
+        if self.is_front(copy) {
+            self.tick_front(copy);
+            return 0;
+        }
+        self.tick_apart(copy);
+        copy
+    }
+
+    /// Does what `run_tick` does, with the copy's world after its due tick given, which isn't executed again.
+    pub fn commit_tick(&mut self, copy: u8, world: &G) -> u8
+        requires there { copy < length self.old.runs }
+        requires below { copy_clock self.old.runs copy < self.old.ticks }
+        requires behind { 0 < copy → copy_clock self.old.runs copy < copy_clock self.old.runs (copy - 1) }
+        requires world { world.now ≡ world_of G.rules self.old.opening (with_tick self.old.accepted (slice_index_or self.old.runs copy [])) }
+        ensures state { self.new ≡ record self.old { runs = settle self.old.accepted (proposed_by_step self.old.accepted self.old.runs copy) } }
+        ensures repaired { result ≡ repaired self.old.accepted (proposed_by_step self.old.accepted self.old.runs copy) }
+    {
+        if copy == 0 {
+            self.commit_apart(copy, world);
+            return 0;
+        }
+        if self.is_front(copy) {
+            self.commit_front(copy, world);
+            return 0;
+        }
+        self.commit_apart(copy, world);
+        copy
+    }
+
+    // The arrival of a command that is late at the copies up to `last`, of which those from `first` on have one clock.
+    fn arrive_late(&mut self, x: &Command, first: u8, last: u8)
+        requires room { 0 < self.old.spare }
+        requires within { x.now.time < self.old.ticks }
+        requires new_name { list_any (same_name x.now) self.old.accepted ≡ false }
+        requires due { last_clock self.old.runs ≤ x.now.time }
+        requires late { IsLastLate x.now self.old.runs last }
+        requires order { first ≤ last }
+        requires level { (i : ℕ) → first ≤ i → i ≤ last → copy_clock self.old.runs i ≡ copy_clock self.old.runs last }
+        ensures { self.new ≡ record self.old {
+          accepted = self.old.accepted ++ x.now ∷ [];
+          runs = settle (self.old.accepted ++ x.now ∷ []) (proposed_by_arrival x.now self.old.runs);
+          spare = self.old.spare - 1;
+        } }
+    {
+        let _ = self.run.len();
+        self.list.insert(x);
+        self.run.cut(last);
+        let from = self.run.len();
+        apply_to_each(&mut self.worlds, first, last, x);
+        self.run.push(&Item::Cmd(*x));
+        bring_up(&mut self.run, last, from);
+        repair_ahead(
+            &mut self.worlds,
+            &mut self.run,
+            &self.list,
+            &self.clocks,
+            first,
+        );
+    }
+
+    // The arrival of a command that is late at no copy.
+    fn arrive_early(&mut self, x: &Command)
+        requires room { 0 < self.old.spare }
+        requires within { x.now.time < self.old.ticks }
+        requires new_name { list_any (same_name x.now) self.old.accepted ≡ false }
+        requires due { last_clock self.old.runs ≤ x.now.time }
+        requires early { list_any (is_late_at x.now) self.old.runs ≡ false }
+        ensures { self.new ≡ record self.old {
+          accepted = self.old.accepted ++ x.now ∷ [];
+          runs = settle (self.old.accepted ++ x.now ∷ []) (proposed_by_arrival x.now self.old.runs);
+          spare = self.old.spare - 1;
+        } }
+    {
+        let _ = self.run.len();
+        self.list.insert(x);
+    }
+
+    /// Accepts a command of a new name that is due within the match and not before the last copy's clock, where there is room.
+    /// The copies at which it is late execute it at once; those whose clock is above that of the last of these are repaired.
+    /// Answers how many were repaired. Where none is, it costs the command's place alone.
+    pub fn accept(&mut self, x: &Command) -> u8
+        requires room { 0 < self.old.spare }
+        requires within { x.now.time < self.old.ticks }
+        requires new_name { list_any (same_name x.now) self.old.accepted ≡ false }
+        requires due { last_clock self.old.runs ≤ x.now.time }
+        ensures state { self.new ≡ record self.old {
+          accepted = self.old.accepted ++ x.now ∷ [];
+          runs = settle (self.old.accepted ++ x.now ∷ []) (proposed_by_arrival x.now self.old.runs);
+          spare = self.old.spare - 1;
+        } }
+        ensures repaired { result ≡ repaired (self.old.accepted ++ x.now ∷ []) (proposed_by_arrival x.now self.old.runs) }
+    {
+        let _ = self.run.len();
+        let late = count_above(&self.clocks, x.time);
+        if late == 0 {
+            self.arrive_early(x);
+            return 0;
+        }
+        let last = late - 1;
+        let repaired = count_above(&self.clocks, self.clocks[last as usize]);
+        self.arrive_late(x, repaired, last);
+        repaired
+    }
+
+    /// For how many more commands there is room.
+    pub fn spare(&self) -> u32
+        ensures { result ≡ self.now.spare }
+    {
+        self.list.spare()
+    }
+
+    /// The accepted commands, in order of acceptance.
+    pub fn accepted(&self) -> &[Command]
+        ensures { result.now ≡ self.now.accepted }
+    {
+        self.list.all()
+    }
+
+    /// The copy's clock: how many ticks it has run. The copy is there.
+    pub fn clock(&self, copy: u8) -> Tick
+        requires { copy < length self.now.runs }
+        ensures { result ≡ copy_clock self.now.runs copy }
+    {
+        let _ = self.run.len();
+        self.clocks[copy as usize]
+    }
+
+    /// The copy's live world, which is the world of its run. The copy is there.
+    pub fn world(&self, copy: u8) -> &G
+        requires { copy < length self.now.runs }
+        ensures { result.now ≡ world_of G.rules self.now.opening (slice_index_or self.now.runs copy []) }
+    {
+        let _ = self.run.len();
+        &self.worlds[copy as usize]
+    }
+
+    /// How many items the copy has run. The copy is there.
+    pub fn run_len(&self, copy: u8) -> u32
+        requires { copy < length self.now.runs }
+        ensures { result ≡ length (slice_index_or self.now.runs copy []) }
+    {
+        let _ = self.run.len();
+        self.run.end(copy)
+    }
+
+    /// The item at a place of the copy's run. The copy and the place are there.
+    pub fn run_item(&self, copy: u8, place: u32) -> Item
+        requires copy { copy < length self.now.runs }
+        requires place { place < length (slice_index_or self.now.runs copy []) }
+        ensures { slice_get (slice_index_or self.now.runs copy []) place ≡ Some result }
+    {
+        let _ = self.run.len();
+        self.run.item(place)
+    }
+}
