@@ -1,17 +1,17 @@
 pub mod Walls
-pub mod Ahead
-pub mod Names
-pub mod Cells
-pub mod Changes
-pub mod Hits
-pub mod Flights
-pub mod Returns
-pub mod Players
-pub mod Shots
-pub mod Dead
-pub mod Lying
-pub mod Worlds
-pub mod Lines
-pub mod Same
-pub mod Computing
+mod Ahead
+mod Names
+mod Cells
+mod Changes
+mod Hits
+mod Flights
+mod Returns
+mod Players
+mod Shots
+mod Dead
+mod Lying
+mod Worlds
+mod Lines
+mod Same
+mod Computing
 pub mod Telling

@@ -1,1 +1,1 @@
-pub mod CommandLaws
+mod CommandLaws

@@ -1,1 +1,1 @@
-pub mod Differing
+mod Differing

@@ -4,8 +4,8 @@ pub mod Items
 pub mod Counts
 pub mod KeyOrder
 pub mod OrderedParts
-pub mod Sorting
-pub mod Front
+mod Sorting
+mod Front
 pub mod CommandLists
 pub mod Places
 pub mod Due

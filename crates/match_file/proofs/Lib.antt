@@ -10,5 +10,5 @@ mod ScriptLines
 mod ScriptTexts
 mod ScriptData
 mod FaultLaws
-pub mod MatchLaws
+mod MatchLaws
 pub mod TextLength

@@ -1,3 +1,3 @@
-pub mod Slots
+mod Slots
 pub mod Walks
-pub mod Kept
+mod Kept

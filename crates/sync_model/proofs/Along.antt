@@ -9,7 +9,7 @@ use Rattle.sync_model.specs.Change.{next, Fits, after}
 use Rattle.sync_model.specs.Staggered.{IsStaggered}
 use Rattle.sync_model.specs.WellFormed.{IsWellFormed}
 use Rattle.sync_model.specs.Turns.{steps_from, turn}
-use Rattle.sync_model.proofs.Staggered.{staggered-next}
+use Rattle.sync_model.proofs.Staggered.{staggered_kept}
 use Rattle.sync_model.proofs.Cases.{next-fixed, next-plan, restagger-cases}
 
 -- what fits still fits after any event
@@ -30,10 +30,10 @@ pub all-fit-next : {W : Type 0} (s : MirrorState W) (e : Event) (es : List Event
 all-fit-next s e es h = all-weaker (Fits s) (Fits (next s e)) es (λ f k. fits-next s e f k) h
 
 -- every list of events that fit keeps a mirror staggered
-pub staggered-after : {W : Type 0} (es : List Event) (s : MirrorState W) → AllByRecursion (Fits s) es → IsStaggered s → IsStaggered (after s es)
+pub staggered_along : {W : Type 0} (es : List Event) (s : MirrorState W) → AllByRecursion (Fits s) es → IsStaggered s → IsStaggered (after s es)
 unfolding after
-staggered-after [] s fit here = here
-staggered-after (e ∷ es) s fit here = staggered-after es (next s e) (all-fit-next s e es fit.1) (staggered-next s e fit.0 here)
+staggered_along [] s fit here = here
+staggered_along (e ∷ es) s fit here = staggered_along es (next s e) (all-fit-next s e es fit.1) (staggered_kept s e fit.0 here)
 
 -- the plan in force stays one that is there
 in_force-next : {W : Type 0} (s : MirrorState W) (e : Event) → Fits s e → s.plan < length s.plans → (next s e).plan < length s.plans
@@ -43,8 +43,8 @@ in_force-next s (Arrive x) fits here = rw (next-plan s (Arrive x) refl) here
 in_force-next s (Step c) fits here = rw (next-plan s (Step c) refl) here
 
 -- the fixed parts stay well formed
-pub well_formed-next : {W : Type 0} (s : MirrorState W) (e : Event) → Fits s e → IsWellFormed s → IsWellFormed (next s e)
-well_formed-next s e fits h =
+pub well_formed_kept : {W : Type 0} (s : MirrorState W) (e : Event) → Fits s e → IsWellFormed s → IsWellFormed (next s e)
+well_formed_kept s e fits h =
     let same = next-fixed s e in
     record {
       plans = rw (same.plans, same.length, same.copies) h.plans;

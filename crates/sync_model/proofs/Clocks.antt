@@ -37,18 +37,18 @@ pub ran-clocks :
 ran-clocks s c here e = beats-step here.trailing c (below_limit s c e).0
 
 -- the clocks after a step, and after an event of another kind
-pub step-clocks :
+pub step_moves_its_copy :
     {W : Type 0} (s : MirrorState W) (c : ℕ) → IsStaggered s
     → clocks_of (next s (Step c)) ≡ cond (is_idle s c) (clocks_of s) (set (clocks_of s) c (copy_clock s.runs c + 1))
-step-clocks s c here =
+step_moves_its_copy s c here =
     step-cases s c (λ t r. clocks_of t ≡ cond (is_idle s c) (clocks_of s) (set (clocks_of s) c (copy_clock s.runs c + 1)))
     (λ e. rw e refl) (λ e. rw e (ran-clocks s c here e))
 
-pub other-clocks : {W : Type 0} (s : MirrorState W) (e : Event) → IsStaggered s → is_step e ≡ false → clocks_of (next s e) ≡ clocks_of s
-other-clocks s Tick here not = tick-cases s (λ t r. clocks_of t ≡ clocks_of s) (λ e. refl) (λ e. refl)
-other-clocks s (Arrive x) here not = arrive-cases s x (λ t r. clocks_of t ≡ clocks_of s) (λ e. refl) (λ e l. refl) (λ e l. taken-clocks s x here)
-other-clocks s (Step c) here not = absurd cc
-other-clocks s (Restagger p) here not = restagger-cases s p (λ t r. clocks_of t ≡ clocks_of s) refl
+pub other_events_move_no_copy : {W : Type 0} (s : MirrorState W) (e : Event) → IsStaggered s → is_step e ≡ false → clocks_of (next s e) ≡ clocks_of s
+other_events_move_no_copy s Tick here not = tick-cases s (λ t r. clocks_of t ≡ clocks_of s) (λ e. refl) (λ e. refl)
+other_events_move_no_copy s (Arrive x) here not = arrive-cases s x (λ t r. clocks_of t ≡ clocks_of s) (λ e. refl) (λ e l. refl) (λ e l. taken-clocks s x here)
+other_events_move_no_copy s (Step c) here not = absurd cc
+other_events_move_no_copy s (Restagger p) here not = restagger-cases s p (λ t r. clocks_of t ≡ clocks_of s) refl
 
 -- where copies move
 pub ran-moves :

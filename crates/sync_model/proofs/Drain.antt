@@ -76,10 +76,10 @@ all-ordered accepted n (run ∷ behind) chained complete clocks last =
     (last ∙ ap (ordered accepted 0) (last-clock n run behind clocks.0 clocks.1))
 
 -- a staggered mirror that is drained has each copy at the ordered part of what was accepted
-pub drained-ordered :
+pub drained_in_order :
     {W : Type 0} (s : MirrorState W) → IsStaggered s → IsDrained s
     → AllByRecursion (λ run. run ≡ ordered s.accepted 0 s.length) s.runs
-drained-ordered s here drained = all-ordered s.accepted s.length s.runs here.trailing.chained here.trailing.complete drained here.trailing.last_ordered
+drained_in_order s here drained = all-ordered s.accepted s.length s.runs here.trailing.chained here.trailing.complete drained here.trailing.last_ordered
 
 -- no delay is longer than the last
 last-above : (n d : ℕ) (ds : List ℕ) → n ≤ d → AllByRecursion (λ e. n < e) ds → n ≤ last_of d ds
@@ -253,8 +253,8 @@ all-at_end-back n [] h = refl
 all-at_end-back n (run ∷ runs) h = and_from (beats run == n) (list_all (λ r. beats r == n) runs) (eq-eqb (beats run) n h.0) (all-at_end-back n runs h.1)
 
 -- drained as a test and as a fact are one
-pub is_drained-IsDrained : {W : Type 0} (s : MirrorState W) → (is_drained s ≡ true) ↔ IsDrained s
-is_drained-IsDrained s = (all-at_end s.length s.runs, all-at_end-back s.length s.runs)
+pub drained_is_tested : {W : Type 0} (s : MirrorState W) → (is_drained s ≡ true) ↔ IsDrained s
+drained_is_tested s = (all-at_end s.length s.runs, all-at_end-back s.length s.runs)
 
 pub is_drained-true : {W : Type 0} (s : MirrorState W) → is_drained s ≡ true → IsDrained s
 is_drained-true s e = all-at_end s.length s.runs e
@@ -291,8 +291,8 @@ drain_within-ends l ds n rise (suc k) (suc m) j s sum h =
     [ true ↦ λ e. is_drained-true s e | false ↦ λ e. drain_within-ends l ds n rise k m j (turn s) (omega arith) (turn-ticks l ds n m j s h) ]
     refl
 
-pub drain-ends : {W : Type 0} (s : MirrorState W) → DelaysRise (delays_of s) → IsStaggered s → IsDrained (drain s)
-drain-ends s rise here =
+pub draining_ends : {W : Type 0} (s : MirrorState W) → DelaysRise (delays_of s) → IsStaggered s → IsDrained (drain s)
+draining_ends s rise here =
     drain_within-ends s.length (delays_of s) (copies_of s) rise (drain_bound s) (clock_end (schedule_of s) - s.clock) s.length s refl
     (record { length_is = refl; delays_are = refl; copies_are = refl; clock = omega arith; staggered = here; near = λ i there. omega arith })
 
@@ -311,8 +311,8 @@ pub staggered-drain : {W : Type 0} (s : MirrorState W) → IsStaggered s → IsS
 staggered-drain s here = drain_within-keeps IsStaggered (λ t h. staggered-tick t h) (λ t c h. staggered-step t c h) (drain_bound s) s here
 
 -- draining accepts and turns away nothing, spends no room, and changes no plan
-pub drain-arrivals : {W : Type 0} (s : MirrorState W) → SameArrivals s (drain s)
-drain-arrivals s =
+pub draining_delivers_nothing : {W : Type 0} (s : MirrorState W) → SameArrivals s (drain s)
+draining_delivers_nothing s =
     drain_within-keeps (SameArrivals s)
     (λ t h. tick-cases t (λ u r. SameArrivals s u) (λ e. h) (λ e. record { accepted = h.accepted; turned = h.turned; plan = h.plan; spare = h.spare; plan_spare = h.plan_spare }))
     (λ t c h. step-cases t c (λ u r. SameArrivals s u) (λ e. h) (λ e. record { accepted = h.accepted; turned = h.turned; plan = h.plan; spare = h.spare; plan_spare = h.plan_spare }))
@@ -334,8 +334,8 @@ pub drain-ordered :
     {W : Type 0} (s : MirrorState W) → DelaysRise (delays_of s) → IsStaggered s
     → AllByRecursion (λ run. run ≡ ordered s.accepted 0 s.length) (drain s).runs
 drain-ordered s rise here =
-    let same = drain-arrivals s in
-    let each = drained-ordered (drain s) (staggered-drain s here) (drain-ends s rise here) in
+    let same = draining_delivers_nothing s in
+    let each = drained_in_order (drain s) (staggered-drain s here) (draining_ends s rise here) in
     all-weaker (λ run. run ≡ ordered (drain s).accepted 0 (drain s).length) (λ run. run ≡ ordered s.accepted 0 s.length) (drain s).runs
     (λ run e. e ∙ ap (λ (a : List Command). ordered a 0 (drain s).length) same.accepted ∙ ap (ordered s.accepted 0) (drain-fixed s).length) each
 
@@ -358,13 +358,13 @@ drain_within-turns {W} (suc k) s =
           (suc more.0, (let most = more.1 in omega arith), more.2 ∙ ap (λ (c : ℕ). after (turn s) (turns_of c more.0)) same ∙ sym (after-joined (turn_events (length s.runs)) (turns_of (length s.runs) more.0) s))
     ]
 
-pub drain-turns : {W : Type 0} (s : MirrorState W) → (n : ℕ) × (n ≤ drain_bound s) × (drain s ≡ after s (turns_of (length s.runs) n))
-drain-turns s = drain_within-turns (drain_bound s) s
+pub draining_is_turns : {W : Type 0} (s : MirrorState W) → (n : ℕ) × (n ≤ drain_bound s) × (drain s ≡ after s (turns_of (length s.runs) n))
+draining_is_turns s = drain_within-turns (drain_bound s) s
 
 -- the world of each copy of a drained mirror is the time-ordered execution
-pub drained-worlds :
+pub drained_worlds :
     {W : Type 0} (rules : Rules W) (s : MirrorState W) → IsStaggered s → IsDrained s
     → AllByRecursion (λ run. world_of rules s.opening run ≡ time_ordered rules s.opening s.accepted s.length) s.runs
-drained-worlds rules s here drained =
+drained_worlds rules s here drained =
     all-weaker (λ run. run ≡ ordered s.accepted 0 s.length) (λ run. world_of rules s.opening run ≡ time_ordered rules s.opening s.accepted s.length) s.runs
-    (λ run e. ap (world_of rules s.opening) e) (drained-ordered s here drained)
+    (λ run e. ap (world_of rules s.opening) e) (drained_in_order s here drained)

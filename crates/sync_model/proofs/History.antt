@@ -16,12 +16,12 @@ use Rattle.sync_model.specs.History.{changing, EachChanges}
 use Rattle.sync_model.proofs.Cases.{tick-cases, arrive-cases, step-cases, restagger-cases}
 
 -- an answer is of its event's kind
-pub said-kind : {W : Type 0} (s : MirrorState W) (e : Event) → IsOfKind e (said s e)
+pub answers_in_kind : {W : Type 0} (s : MirrorState W) (e : Event) → IsOfKind e (said s e)
 unfolding said
-said-kind s Tick = tt
-said-kind s (Arrive x) = tt
-said-kind s (Step c) = tt
-said-kind s (Restagger p) = tt
+answers_in_kind s Tick = tt
+answers_in_kind s (Arrive x) = tt
+answers_in_kind s (Step c) = tt
+answers_in_kind s (Restagger p) = tt
 
 -- the history grows by exactly the events that change the state
 pub history-next : {W : Type 0} (s : MirrorState W) (e : Event) → (next s e).history ≡ cond (changes s e) (s.history ++ e ∷ []) s.history
@@ -49,8 +49,8 @@ changed-next {W} s e same true h =
     omega arith)
 
 -- the state is unchanged exactly where the answer is Over, Repeat or Idle
-pub unchanged-exactly : {W : Type 0} (s : MirrorState W) (e : Event) → (next s e ≡ s) ↔ (changes s e ≡ false)
-unchanged-exactly s e = (λ same. changed-next s e same (changes s e) refl, unchanged-next s e)
+pub unchanged_exactly : {W : Type 0} (s : MirrorState W) (e : Event) → (next s e ≡ s) ↔ (changes s e ≡ false)
+unchanged_exactly s e = (λ same. changed-next s e same (changes s e) refl, unchanged-next s e)
 
 -- along a list of events
 pub after-append : {W : Type 0} (s : MirrorState W) (es fs : List Event) → after s (es ++ fs) ≡ after (after s es) fs
@@ -63,11 +63,11 @@ unfolding after answers
 answers-append s [] fs = refl
 answers-append s (e ∷ es) fs = ap (λ (rs : List Reply). said s e ∷ rs) (answers-append (next s e) es fs)
 
-pub history-after : {W : Type 0} (s : MirrorState W) (es : List Event) → (after s es).history ≡ s.history ++ changing s es
+pub history_grows : {W : Type 0} (s : MirrorState W) (es : List Event) → (after s es).history ≡ s.history ++ changing s es
 unfolding after changing
-history-after s [] = sym (append-nil s.history)
-history-after s (e ∷ es) =
-    history-after (next s e) es
+history_grows s [] = sym (append-nil s.history)
+history_grows s (e ∷ es) =
+    history_grows (next s e) es
     ∙ ap (λ (h : List Event). h ++ changing (next s e) es) (history-next s e)
     ∙ elim (changes s e) as (λ v. cond v (s.history ++ e ∷ []) s.history ++ changing (next s e) es ≡ s.history ++ (cond v (e ∷ []) [] ++ changing (next s e) es))
     [ true ↦ append_assoc s.history (e ∷ []) (changing (next s e) es) | false ↦ refl ]
@@ -79,19 +79,19 @@ clock-next s (Arrive x) = arrive-cases s x (λ t r. t.clock ≡ s.clock + cond (
 clock-next s (Step c) = step-cases s c (λ t r. t.clock ≡ s.clock + cond (is_moved r) 1 0) (λ e. omega arith) (λ e. omega arith)
 clock-next s (Restagger p) = restagger-cases s p (λ t r. t.clock ≡ s.clock + cond (is_moved r) 1 0) (omega arith)
 
-pub clock-after : {W : Type 0} (s : MirrorState W) (es : List Event) → (after s es).clock ≡ s.clock + moves (answers s es)
+pub clock_counts : {W : Type 0} (s : MirrorState W) (es : List Event) → (after s es).clock ≡ s.clock + moves (answers s es)
 unfolding after answers times
-clock-after s [] = omega arith
-clock-after s (e ∷ es) = omega (arith, clock-after (next s e) es, clock-next s e)
+clock_counts s [] = omega arith
+clock_counts s (e ∷ es) = omega (arith, clock_counts (next s e) es, clock-next s e)
 
 -- the state after all events is the state after those that change it
-pub after-changing : {W : Type 0} (es : List Event) (s : MirrorState W) → after s (changing s es) ≡ after s es
+pub changing_events_suffice : {W : Type 0} (es : List Event) (s : MirrorState W) → after s (changing s es) ≡ after s es
 unfolding after changing
-after-changing [] s = refl
-after-changing {W} (e ∷ es) s =
+changing_events_suffice [] s = refl
+changing_events_suffice {W} (e ∷ es) s =
     elim (changes s e) as (λ v. changes s e ≡ v → after s (cond v (e ∷ []) [] ++ changing (next s e) es) ≡ after (next s e) es) [
-      | true ↦ λ h. after-changing es (next s e)
-      | false ↦ λ h. ap (λ (t : MirrorState W). after t (changing (next s e) es)) (sym (unchanged-next s e h)) ∙ after-changing es (next s e)
+      | true ↦ λ h. changing_events_suffice es (next s e)
+      | false ↦ λ h. ap (λ (t : MirrorState W). after t (changing (next s e) es)) (sym (unchanged-next s e h)) ∙ changing_events_suffice es (next s e)
     ]
     refl
 
@@ -107,10 +107,10 @@ changing-each {W} (e ∷ es) s =
     refl
 
 -- Late exactly where a new command is older than the last copy's clock
-pub late-exactly :
+pub late_exactly :
     {W : Type 0} (s : MirrorState W) (x : Command) (bound : ℕ)
     → (said s (Arrive x) ≡ ToArrive (Late bound)) ↔ ((is_repeat s x ≡ false) × (x.time < last_clock s.runs) × (bound ≡ last_clock s.runs))
-late-exactly s x bound =
+late_exactly s x bound =
     arrive-cases s x (λ t r. (r ≡ ToArrive (Late bound)) ↔ ((is_repeat s x ≡ false) × (x.time < last_clock s.runs) × (bound ≡ last_clock s.runs)))
     (λ e. (λ h. absurd cc, λ h. absurd (both_ways (is_repeat s x) h.0 e)))
     (λ e l. (λ h. (e, ltb-true x.time (last_clock s.runs) l, cc), λ h. ap (λ (n : ℕ). ToArrive (Late n)) (sym h.2)))

@@ -11,8 +11,8 @@ use Rattle.sync_model.specs.Change.{next, after, changes, Fits}
 use Rattle.sync_model.specs.Staggered.{IsStaggered}
 use Rattle.sync_model.specs.History.{changing}
 use Rattle.sync_model.specs.Legal.{NamesWhatIsThere, IsLegal, IsLog}
-use Rattle.sync_model.proofs.Along.{staggered-after}
-use Rattle.sync_model.proofs.History.{after-changing, changing-each}
+use Rattle.sync_model.proofs.Along.{staggered_along}
+use Rattle.sync_model.proofs.History.{changing_events_suffice, changing-each}
 
 -- what holds of the events that were made holds of those that changed the state
 pub all-changing : {W : Type 0} (P : Event → Type 0) (s : MirrorState W) (es : List Event) → AllByRecursion P es → AllByRecursion P (changing s es)
@@ -42,16 +42,16 @@ pub legal-staggered :
     {W : Type 0} (commands : List Command) (s : MirrorState W) (log : List Event) → AllByRecursion (λ x. x.time < s.length) commands
     → IsStaggered s → IsLegal commands s log → (n : ℕ) → IsStaggered (after s (take n log))
 legal-staggered commands s log due here legal n =
-    staggered-after (take n log) s (all-take (Fits s) n log (all-weaker (NamesWhatIsThere commands s) (Fits s) log (λ e h. named-fits commands s due e h) legal.there)) here
+    staggered_along (take n log) s (all-take (Fits s) n log (all-weaker (NamesWhatIsThere commands s) (Fits s) log (λ e h. named-fits commands s due e h) legal.there)) here
 
 -- the changing ones of events that name what is there are a log, from any staggered state on
-pub changing-log :
+pub changing_events_are_a_log :
     {W : Type 0} (commands : List Command) (s : MirrorState W) (es : List Event) → AllByRecursion (λ x. x.time < s.length) commands
     → IsStaggered s → AllByRecursion (NamesWhatIsThere commands s) es → IsLog commands s (after s es) (changing s es)
-changing-log commands s es due here named =
+changing_events_are_a_log commands s es due here named =
     let legal : IsLegal commands s (changing s es) = record { changes = changing-each es s; there = all-changing (NamesWhatIsThere commands s) s es named } in
     record {
       legal = legal;
       staggered = legal-staggered commands s (changing s es) due here legal;
-      leads = after-changing es s;
+      leads = changing_events_suffice es s;
     }

@@ -4,16 +4,16 @@ pub mod Lists
 pub mod Trailing
 pub mod Staggered
 pub mod Cases
-pub mod Clocks
+mod Clocks
 pub mod Along
-pub mod Drain
-pub mod Played
+mod Drain
+mod Played
 pub mod History
 pub mod Room
 pub mod Legal
 pub mod Repairs
 pub mod Arrivals
 pub mod Rebuilt
-pub mod Replies
-pub mod Computing
-pub mod Alone
+mod Replies
+mod Computing
+mod Alone

@@ -7,13 +7,13 @@ use Rattle.sync_model.specs.State.{MirrorState, opening_state, delays_of}
 use Rattle.sync_model.specs.Change.{Fits, after}
 use Rattle.sync_model.specs.Staggered.{IsStaggered}
 use Rattle.sync_model.specs.Turns.{EndsInOrder}
-use Rattle.sync_model.proofs.Staggered.{staggered-opening}
-use Rattle.sync_model.proofs.Along.{staggered-after}
+use Rattle.sync_model.proofs.Staggered.{opening_staggered}
+use Rattle.sync_model.proofs.Along.{staggered_along}
 use Rattle.sync_model.proofs.Cases.{after-fixed}
-use Rattle.sync_model.proofs.Drain.{drain-ends, drain-ordered, drain-arrivals}
+use Rattle.sync_model.proofs.Drain.{draining_ends, drain-ordered, draining_delivers_nothing}
 
 pub ends_in_order : {W : Type 0} (s : MirrorState W) → DelaysRise (delays_of s) → IsStaggered s → EndsInOrder s
-ends_in_order s rise here = record { drained = drain-ends s rise here; arrivals = drain-arrivals s; in_order = drain-ordered s rise here }
+ends_in_order s rise here = record { drained = draining_ends s rise here; arrivals = draining_delivers_nothing s; in_order = drain-ordered s rise here }
 
 -- the delays of each plan rise, also of one that isn't there
 rise-each : (plans : List (List ℕ)) (p : ℕ) → AllByRecursion DelaysRise plans → DelaysRise (get_or plans p [])
@@ -28,6 +28,6 @@ pub played :
     → IsStaggered (after (opening_state opening length plans spare plan_spare) es) × EndsInOrder (after (opening_state opening length plans spare plan_spare) es)
 played opening length plans spare plan_spare es rise fit =
     let start = opening_state opening length plans spare plan_spare in
-    let here = staggered-after es (opening_state opening length plans spare plan_spare) fit (staggered-opening opening length plans spare plan_spare) in
+    let here = staggered_along es (opening_state opening length plans spare plan_spare) fit (opening_staggered opening length plans spare plan_spare) in
     let fixed = after-fixed es (opening_state opening length plans spare plan_spare) in
     (here, ends_in_order (after (opening_state opening length plans spare plan_spare) es) (rise-each (after start es).plans (after start es).plan (subst (AllByRecursion DelaysRise) (sym fixed.plans) rise)) here)

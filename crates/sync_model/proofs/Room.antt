@@ -88,9 +88,9 @@ reached-said : {W : Type 0} (s : MirrorState W) (e : Event) → IsReached s → 
 reached-said s e here = said-same (after (first_state s) s.history) s e (sym here)
 
 -- every event leaves a state that its history leads to
-pub reached-next : {W : Type 0} (s : MirrorState W) (e : Event) → IsReached s → IsReached (next s e)
+pub reached_kept : {W : Type 0} (s : MirrorState W) (e : Event) → IsReached s → IsReached (next s e)
 unfolding after
-reached-next {W} s e here =
+reached_kept {W} s e here =
     by-history s e (λ t h. without_room t ≡ without_room (after (first_state t) h))
     (λ h.
     next-same s (after (first_state s) s.history) e here
@@ -101,7 +101,7 @@ reached-next {W} s e here =
 pub reached-after : {W : Type 0} (es : List Event) (s : MirrorState W) → IsReached s → IsReached (after s es)
 unfolding after
 reached-after [] s here = here
-reached-after (e ∷ es) s here = reached-after es (next s e) (reached-next s e here)
+reached-after (e ∷ es) s here = reached-after es (next s e) (reached_kept s e here)
 
 -- each event of a history changed its state
 each_changes-append : {W : Type 0} (s : MirrorState W) (es : List Event) (e : Event) → EachChanges s es → changes (after s es) e ≡ true → EachChanges s (es ++ e ∷ [])
@@ -109,8 +109,8 @@ unfolding after EachChanges
 each_changes-append s [] e h here = (here, tt)
 each_changes-append s (f ∷ es) e h here = (h.0, each_changes-append (next s f) es e h.1 here)
 
-pub each_changes-next : {W : Type 0} (s : MirrorState W) (e : Event) → IsReached s → EachChanges (first_state s) s.history → EachChanges (first_state (next s e)) (next s e).history
-each_changes-next {W} s e here each =
+pub history_of_changes : {W : Type 0} (s : MirrorState W) (e : Event) → IsReached s → EachChanges (first_state s) s.history → EachChanges (first_state (next s e)) (next s e).history
+history_of_changes {W} s e here each =
     by-history s e (λ t h. EachChanges (first_state t) h)
     (λ h. subst (λ (t : MirrorState W). EachChanges t (s.history ++ e ∷ [])) (sym (first-next s e)) (each_changes-append (first_state s) s.history e each (ap is_change (reached-said s e here) ∙ h)))
     each
@@ -130,9 +130,9 @@ no_repair (ToStep (Ran n)) h = absurd cc
 no_repair (ToStep Idle) h = refl
 no_repair Restaggered h = refl
 
-pub repairs-next : {W : Type 0} (s : MirrorState W) (e : Event) → IsReached s → repairs (next s e) ≡ repairs s + repaired_in (said s e)
+pub repairs_add_up : {W : Type 0} (s : MirrorState W) (e : Event) → IsReached s → repairs (next s e) ≡ repairs s + repaired_in (said s e)
 unfolding answers repairs_in
-repairs-next {W} s e here =
+repairs_add_up {W} s e here =
     elim (changes s e) as (λ v. changes s e ≡ v → repairs (next s e) ≡ repairs s + repaired_in (said s e)) [
       | true ↦ λ h.
           let grown : (next s e).history ≡ s.history ++ e ∷ [] = rw h at (history-next s e) in
@@ -189,9 +189,9 @@ opening_of-next s e room h =
     λ i. opening_state (same.opening i) (same.length i) (same.plans i) (sum.0 i) (sum.1 i)
 
 -- an event that finds room leaves a state that its history leads to
-pub from_history-next : {W : Type 0} (s : MirrorState W) (e : Event) → HasRoom s e → IsFromHistory s → IsFromHistory (next s e)
+pub from_history_kept : {W : Type 0} (s : MirrorState W) (e : Event) → HasRoom s e → IsFromHistory s → IsFromHistory (next s e)
 unfolding after
-from_history-next {W} s e room here =
+from_history_kept {W} s e room here =
     by-history s e (λ t h. t ≡ after (opening_state t.opening t.length t.plans (t.spare + times is_arrival h) (t.plan_spare + times is_restagger h)) h)
     (λ h.
     let grown : (next s e).history ≡ s.history ++ e ∷ [] = rw h at (history-next s e) in
@@ -204,17 +204,17 @@ from_history-next {W} s e room here =
 pub from_history-after : {W : Type 0} (es : List Event) (s : MirrorState W) → HasRoomAlong s es → IsFromHistory s → IsFromHistory (after s es)
 unfolding after HasRoomAlong
 from_history-after [] s room here = here
-from_history-after (e ∷ es) s room here = from_history-after es (next s e) room.1 (from_history-next s e room.0 here)
+from_history-after (e ∷ es) s room here = from_history-after es (next s e) room.1 (from_history_kept s e room.0 here)
 
-pub from_history-opening :
+pub opening_from_history :
     {W : Type 0} (opening : W) (length : ℕ) (plans : List (List ℕ)) (spare plan_spare : ℕ) → IsFromHistory (opening_state opening length plans spare plan_spare)
 unfolding after times
-from_history-opening opening length plans spare plan_spare =
+opening_from_history opening length plans spare plan_spare =
     let a : spare ≡ spare + 0 = omega arith in
     let b : plan_spare ≡ plan_spare + 0 = omega arith in
     λ i. opening_state opening length plans (a i) (b i)
 
 -- with its room, and so without it
-pub from_history-reached : {W : Type 0} (s : MirrorState W) → IsFromHistory s → IsReached s
-from_history-reached {W} s here =
+pub from_history_reached : {W : Type 0} (s : MirrorState W) → IsFromHistory s → IsReached s
+from_history_reached {W} s here =
     ap (λ (t : MirrorState W). without_room t) here ∙ after-same s.history (opening_of s) (first_state s) refl

@@ -62,10 +62,10 @@ settle_one-chained accepted q (s ∷ rest) h =
     refl
 
 -- settled runs are chained, whatever was proposed
-pub settle-chained : (accepted : List Command) (qs : List (List Item)) → IsChained (settle accepted qs)
+pub settled_chained : (accepted : List Command) (qs : List (List Item)) → IsChained (settle accepted qs)
 unfolding settle IsChained
-settle-chained accepted [] = tt
-settle-chained accepted (q ∷ qs) = settle_one-chained accepted q (settle accepted qs) (settle-chained accepted qs)
+settled_chained accepted [] = tt
+settled_chained accepted (q ∷ qs) = settle_one-chained accepted q (settle accepted qs) (settled_chained accepted qs)
 
 settle_one-last : (accepted : List Command) (d q : List Item) (ss : List (List Item)) → last_of d (settle_one accepted q ss) ≡ last_of q ss
 unfolding settle_one last_of

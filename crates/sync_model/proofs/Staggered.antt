@@ -162,11 +162,11 @@ pub staggered-step : {W : Type 0} (s : MirrorState W) (c : ℕ) → IsStaggered 
 staggered-step s c here = step-cases s c (λ t r. IsStaggered t) (λ e. here) (λ e. staggered-ran s c here e)
 
 -- every event that fits keeps a mirror staggered
-pub staggered-next : {W : Type 0} (s : MirrorState W) (e : Event) → Fits s e → IsStaggered s → IsStaggered (next s e)
-staggered-next s Tick fits here = staggered-tick s here
-staggered-next s (Arrive x) fits here = staggered-arrive s x fits here
-staggered-next s (Step c) fits here = staggered-step s c here
-staggered-next s (Restagger p) fits here = staggered-restagger s p here
+pub staggered_kept : {W : Type 0} (s : MirrorState W) (e : Event) → Fits s e → IsStaggered s → IsStaggered (next s e)
+staggered_kept s Tick fits here = staggered-tick s here
+staggered_kept s (Arrive x) fits here = staggered-arrive s x fits here
+staggered_kept s (Step c) fits here = staggered-step s c here
+staggered_kept s (Restagger p) fits here = staggered-restagger s p here
 
 -- the opening state is staggered
 no-clocks : (n : ℕ) (delays : List ℕ) → AllByRecursion (λ run. beats run ≤ n) (map (λ delay. []) delays)
@@ -179,9 +179,9 @@ unfolding beats
 no-delays [] = tt
 no-delays (d ∷ ds) = (omega arith, no-delays ds)
 
-pub staggered-opening : {W : Type 0} (opening : W) (length : ℕ) (plans : List (List ℕ)) (spare plan_spare : ℕ) → IsStaggered (opening_state opening length plans spare plan_spare)
+pub opening_staggered : {W : Type 0} (opening : W) (length : ℕ) (plans : List (List ℕ)) (spare plan_spare : ℕ) → IsStaggered (opening_state opening length plans spare plan_spare)
 unfolding NamesDiffer
-staggered-opening opening length plans spare plan_spare =
+opening_staggered opening length plans spare plan_spare =
     let delays = get_or plans 0 [] in
     record {
       trailing = trailing-opening delays;

@@ -13,7 +13,7 @@ use Rattle.sync_model.specs.State.{copy_clock, last_clock}
 use Rattle.sync_model.specs.Settle.{settle}
 use Rattle.sync_model.specs.Change.{with_late, with_tick, proposed_by_arrival, proposed_by_step}
 use Rattle.sync_model.specs.Staggered.{IsAhead, IsChained, IsComplete, IsNeverEarly, IsTrailing}
-use Rattle.sync_model.proofs.Settle.{IsFirstAtMost, NeverRises, settle-beats, settle-chained, settle-last, settle-each}
+use Rattle.sync_model.proofs.Settle.{IsFirstAtMost, NeverRises, settle-beats, settled_chained, settle-last, settle-each}
 use Rattle.sync_model.proofs.Proposals.{beats-with_late, beats-with_tick, with_late-due, complete-rebuilt, complete-late, complete-tick, never_early-rebuilt, never_early-late, never_early-tick, ticks-later}
 use Rattle.sync_model.proofs.Lists.{all-map, all-set, last-map, last-set}
 
@@ -106,7 +106,7 @@ module _ {accepted : List Command} {runs : List (List Item)} (here : IsTrailing 
       let step = last-step accepted runs c here.last_ordered in
       let last = settle-last accepted [] proposed in
       record {
-        chained = settle-chained accepted proposed;
+        chained = settled_chained accepted proposed;
         complete = settle-each accepted (IsComplete accepted) (complete-rebuilt accepted) proposed falls (all-set (IsComplete accepted) (with_tick accepted) [] (complete-tick accepted) runs c here.complete);
         last_ordered = last ∙ step.0 ∙ ap (λ (run : List Item). ordered accepted 0 (beats run)) (sym last);
         never_early = settle-each accepted (IsNeverEarly zero) (never_early-rebuilt accepted) proposed falls (all-set (IsNeverEarly zero) (with_tick accepted) [] (never_early-tick accepted) runs c here.never_early);
@@ -135,7 +135,7 @@ module _ {accepted : List Command} {runs : List (List Item)} (here : IsTrailing 
       let falls = subst NeverRises (sym (late-beats x runs)) (chained-falls runs here.chained) in
       let last = last-arrival accepted x runs due in
       record {
-        chained = settle-chained all (map (with_late x) runs);
+        chained = settled_chained all (map (with_late x) runs);
         complete = settle-each all (IsComplete all) (complete-rebuilt all) (map (with_late x) runs) falls (all-map (IsComplete accepted) (IsComplete all) (with_late x) (complete-late accepted x) runs here.complete);
         last_ordered = last ∙ here.last_ordered ∙ sym (ticks-later accepted x 0 (beats (last_of [] runs) - 0) (omega arith)) ∙ ap (λ (run : List Item). ordered all 0 (beats run)) (sym last);
         never_early = settle-each all (IsNeverEarly zero) (never_early-rebuilt all) (map (with_late x) runs) falls (all-map (IsNeverEarly zero) (IsNeverEarly zero) (with_late x) (never_early-late x) runs here.never_early);

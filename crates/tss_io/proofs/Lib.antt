@@ -1,16 +1,16 @@
 pub mod DecimalLaws
 pub mod FormLaws
 pub mod KindLaws
-pub mod LineLaws
-pub mod LineSteps
-pub mod OverLaws
-pub mod Pairs
-pub mod Printing
-pub mod ReadFaults
+mod LineLaws
+mod LineSteps
+mod OverLaws
+mod Pairs
+mod Printing
+mod ReadFaults
 pub mod Results
-pub mod RunLaws
-pub mod RunToLaws
-pub mod Spaced
+mod RunLaws
+mod RunToLaws
+mod Spaced
 pub mod Streams
-pub mod WalkLaws
-pub mod WordLists
+mod WalkLaws
+mod WordLists

@@ -1,7 +1,7 @@
-pub mod Named
-pub mod Ready
-pub mod Steps
-pub mod Events
-pub mod OnWay
-pub mod Whole
-pub mod Ends
+mod Named
+mod Ready
+mod Steps
+mod Events
+mod OnWay
+mod Whole
+mod Ends

@@ -1,5 +1,5 @@
-use Rattle.sync_model.proofs.Drain.{drained-ordered}
+use Rattle.sync_model.proofs.Drain.{drained_in_order}
 use Rattle.sync_model.proofs.laws.draining.drained_in_order.Goals as goal
 
 pub returns : goal.returns
-returns g c = λ s here drained. drained-ordered s here drained
+returns g c = λ s here drained. drained_in_order s here drained

@@ -1,5 +1,5 @@
-use Rattle.sync_model.proofs.History.{unchanged-exactly}
+use Rattle.sync_model.proofs.History.{unchanged_exactly}
 use Rattle.sync_model.proofs.laws.history.unchanged_exactly.Goals as goal
 
 pub returns : goal.returns
-returns g c = λ s e. unchanged-exactly s e
+returns g c = λ s e. unchanged_exactly s e

@@ -1,5 +1,5 @@
-use Rattle.sync_model.proofs.Staggered.{staggered-next}
+use Rattle.sync_model.proofs.Staggered.{staggered_kept}
 use Rattle.sync_model.proofs.laws.staggered.staggered_kept.Goals as goal
 
 pub returns : goal.returns
-returns g c = λ s e fits here. staggered-next s e fits here
+returns g c = λ s e fits here. staggered_kept s e fits here
