@@ -87,6 +87,7 @@ impl Arena {
     }
 
     // Appends the lines after the block's head. On `NoMemory` some may have been appended.
+    #[tactic(auto, unfolding(crate::specs::Block::block_of))]
     fn push_lines(&self, roster: &Roster, out: &mut Vec<u8>) -> Result<(), NoMemory>
         ensures ok { OnOk result (out.new.items ≡ out.old.items ++ block_of self.now roster.now) }
         ensures front { take (length out.old.items) out.new.items ≡ out.old.items }
