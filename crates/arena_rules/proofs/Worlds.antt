@@ -1,5 +1,5 @@
 -- Every world of an arena is one: at the start, after each command, and after each beat.
-use Rattle.std.proofs.Common.{◌≡◌, min, ◌==◌, ℕ, ◌+◌, ◌-◌, ◌<◌, ◌||◌, nat_le, true, false, if◌then◌else◌, Option, Some, None, slice_get, List, [], ◌∷◌, ◌++◌, map, length, set, refl, sym, ap, ◌∙◌, subst, arith, lit<, length-set, length-append}
+use Rattle.std.proofs.Common.{◌≡◌, min, ◌==◌, ℕ, ◌+◌, ◌-◌, ◌<◌, ◌||◌, nat_le, true, false, if◌then◌else◌, Option, Some, None, slice_get, unwrap_or, List, [], ◌∷◌, ◌++◌, map, length, set, refl, sym, ap, ◌∙◌, subst, arith, lit<, length-set, length-append}
 use Rattle.std.specs.List.{All, AllByRecursion, IsDistinct, list_all}
 use Rattle.std.proofs.lemmas.Bool.{and_parts, or_parts}
 use Rattle.std.proofs.lemmas.Bool.Decides.{nat_tests}
@@ -12,7 +12,7 @@ use Rattle.arena_rules.specs.Ground.{Grid, is_open}
 use Rattle.arena_rules.specs.Setup.{Layout, Cell, same_cell, spot_cell, pickup_cell, IsLayout}
 use Rattle.arena_rules.specs.Player.{opening_player, alive, turned_to, place, place_in, same_place, is_held}
 use Rattle.arena_rules.specs.Pickup.{opening_pickup, ready_kind, given, waited}
-use Rattle.arena_rules.specs.Command.{ahead, open_ahead, with_player, by_player, if_there, if_live, turned, gone, gone_to, arrived, fired, shot_by}
+use Rattle.arena_rules.specs.Command.{ahead, open_ahead, with_player, by_player, by_live, live_in, live_of, turned, gone, gone_to, arrived, fired, shot_by}
 use Rattle.arena_rules.specs.Beat.{flights, returns, shots_flown, dead_returned, pickups_waited, time_risen, beaten}
 use Rattle.arena_rules.specs.World.{World, opening_world, IsBody, IsPlayer, IsShot, AreShots, IsPickup, IsWorld}
 use Rattle.arena_rules.specs.declared.face.Face.{Face}
@@ -73,17 +73,25 @@ IsWorld-opening_world layout possible =
       time = lit< tt;
     }
 
--- a change by a live player, who is there
-live-kept : (world : World) (state : State) (change : Body → World) → IsWorld world → ((body : Body) → state ≡ Live body → IsWorld (change body)) → IsWorld (if_live world state change)
-live-kept world (Live body) change sound kept = kept body refl
-live-kept world (Dead wait) change sound kept = sound
+-- a live player is there
+live_in-is : (there player : Player) (state : State) (body : Body) → there.state ≡ state → live_in there state ≡ Some (player, body) → (there ≡ player) × (player.state ≡ Live body)
+live_in-is there player (Live old) body state found =
+    let same : there ≡ player = ap (λ (o : Option (Player × Body)). (unwrap_or o (there, old)).0) found in
+    let bodies : old ≡ body = ap (λ (o : Option (Player × Body)). (unwrap_or o (there, old)).1) found in
+    (same, sym (ap (λ (p : Player). p.state) same) ∙ state ∙ ap Live bodies)
+live_in-is there player (Dead wait) body state found = absurd (let e : None ≡ Some (player, body) = found in cc)
 
-there-kept : (world : World) (there : Option Player) (change : Player → Body → World) → IsWorld world → ((player : Player) (body : Body) → there ≡ Some player → player.state ≡ Live body → IsWorld (change player body)) → IsWorld (if_there world there change)
-there-kept world None change sound kept = sound
-there-kept world (Some player) change sound kept = live-kept world player.state (change player) sound (λ body live. kept player body refl live)
+pub live_of-is : (there : Option Player) (player : Player) (body : Body) → live_of there ≡ Some (player, body) → (there ≡ Some player) × (player.state ≡ Live body)
+live_of-is None player body found = absurd (let e : None ≡ Some (player, body) = found in cc)
+live_of-is (Some there) player body found = let is = live_in-is there player there.state body refl found in (ap Some is.0, is.1)
+
+-- a change by a live player
+by_live-kept : (world : World) (live : Option (Player × Body)) (change : Player → Body → World) → IsWorld world → ((player : Player) (body : Body) → live ≡ Some (player, body) → IsWorld (change player body)) → IsWorld (by_live world live change)
+by_live-kept world None change sound kept = sound
+by_live-kept world (Some (player, body)) change sound kept = kept player body refl
 
 by_player-kept : (world : World) (number : ℕ) (change : Player → Body → World) → IsWorld world → ((player : Player) (body : Body) → slice_get world.players number ≡ Some player → player.state ≡ Live body → IsWorld (change player body)) → IsWorld (by_player world number change)
-by_player-kept world number change sound kept = there-kept world (slice_get world.players number) change sound kept
+by_player-kept world number change sound kept = by_live-kept world (live_of (slice_get world.players number)) change sound (λ player body live. let is = live_of-is (slice_get world.players number) player body live in kept player body is.0 is.1)
 
 -- the shots of a world where a player is replaced
 shots-kept : (world : World) (number : ℕ) (player : Player) → IsWorld world → AreShots world.grid (length (set world.players number player)) world.shots

@@ -56,5 +56,5 @@ unfoldable pub item_line : Pickup → List ℕ
 item_line p = line_of (codes "item" ∷ decimal p.place.x ∷ decimal p.place.y ∷ kind_word p.place.kind ∷ decimal p.wait ∷ [])
 
 -- the lines of a world: players, shots, pickups
-abbrev pub block_of : World → List (List ℕ) → List ℕ
+unfoldable pub block_of : World → List (List ℕ) → List ℕ
 block_of world names = player_lines names 0 world.players ++ (flat_map (shot_line names) world.shots ++ flat_map item_line world.pickups)

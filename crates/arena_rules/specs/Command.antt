@@ -47,17 +47,22 @@ open_spot grid face (negsuc x, y) = None
 abbrev pub open_ahead : Grid → Spot → Option Spot
 open_ahead grid spot = open_spot grid spot.face (ahead spot.face (spot_cell spot))
 
--- a change of the world by a live player; nothing changes where nobody is there, or where the player is dead
-abbrev pub if_live : World → State → (Body → World) → World
-if_live world (Live body) change = change body
-if_live world (Dead wait) change = world
+-- a player who is there and live, and the player's body
+abbrev pub live_in : Player → State → Option (Player × Body)
+live_in player (Live body) = Some (player, body)
+live_in player (Dead wait) = None
 
-abbrev pub if_there : World → Option Player → (Player → Body → World) → World
-if_there world None change = world
-if_there world (Some player) change = if_live world player.state (change player)
+abbrev pub live_of : Option Player → Option (Player × Body)
+live_of None = None
+live_of (Some player) = live_in player player.state
+
+-- a change of the world by a live player; nothing changes where there is none
+abbrev pub by_live : World → Option (Player × Body) → (Player → Body → World) → World
+by_live world None change = world
+by_live world (Some (player, body)) change = change player body
 
 abbrev pub by_player : World → ℕ → (Player → Body → World) → World
-by_player world number change = if_there world (slice_get world.players number) change
+by_player world number change = by_live world (live_of (slice_get world.players number)) change
 
 -- the world with another player under this number
 abbrev pub with_player : World → ℕ → Player → World

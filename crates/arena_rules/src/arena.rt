@@ -1,14 +1,16 @@
+//! The arena: a world that commands and beats change, and that a block shows.
+
 ghost use Rattle.std.specs.Prelude.{◌≡◌, ◌↔◌, ◌<◌, ◌≤◌, ◌++◌, IsTrue, length, take, OnOk, OnSome, slice_get, option_map};
 ghost use Rattle.arena_rules.specs.Block.{block_of};
 ghost use Rattle.arena_rules.specs.Setup.{layout_of, IsLayout};
-ghost use Rattle.arena_rules.specs.Command.{with_player, arrived, turned, gone, shot_by, applied, turned_left, turned_right};
+ghost use Rattle.arena_rules.specs.Command.{live_of, with_player, arrived, turned, gone, shot_by, applied, turned_left, turned_right};
 ghost use Rattle.arena_rules.specs.Beat.{beaten};
 ghost use Rattle.arena_rules.specs.World.{opening_world, IsWorld};
 
 use crate::block::{push_pickups, push_players, push_shots};
 use crate::ground::Ground;
 use crate::pickup::{MOST_PICKUPS, Pickup, all_ready, ready_kind, take, wait};
-use crate::player::{Body, MOST_PLAYERS, Player, State, all_at_home, is_held};
+use crate::player::{Body, MOST_PLAYERS, Player, all_at_home, is_held};
 use crate::returning::return_all;
 use crate::roster::Roster;
 use crate::setup::Setup;
@@ -85,6 +87,7 @@ impl Arena {
     }
 
     // Appends the lines after the block's head. On `NoMemory` some may have been appended.
+    #[tactic(auto, unfolding(crate::specs::Block::block_of))]
     fn push_lines(&self, roster: &Roster, out: &mut Vec<u8>) -> Result<(), NoMemory>
         ensures ok { OnOk result (out.new.items ≡ out.old.items ++ block_of self.now roster.now) }
         ensures front { take (length out.old.items) out.new.items ≡ out.old.items }
@@ -94,13 +97,16 @@ impl Arena {
         push_pickups(&self.pickups, out)
     }
 
-    // The player of this number, if there is one.
-    fn player(&self, number: u8) -> Option<Player>
-        ensures player { result ≡ slice_get self.now.players number }
+    // The player of this number and the body, where the player is there and live.
+    fn live(&self, number: u8) -> Option<(Player, Body)>
+        ensures live { result ≡ live_of (slice_get self.now.players number) }
         ensures there { OnSome result (number < length self.now.players) }
         ensures sound { IsWorld self.now }
     {
-        self.players.get(number as usize).copied()
+        match self.players.get(number as usize) {
+            Some(player) => player.live(),
+            None => None,
+        }
     }
 
     // Puts a player in the place of the one of this number.
@@ -128,10 +134,7 @@ impl Arena {
     fn go(&mut self, number: u8)
         ensures gone { self.new ≡ gone self.old number }
     {
-        let Some(player) = self.player(number) else {
-            return;
-        };
-        let State::Live(body) = player.state else {
+        let Some((player, body)) = self.live(number) else {
             return;
         };
         let Some(spot) = self.ground.open_ahead(body.spot) else {
@@ -146,10 +149,7 @@ impl Arena {
     fn turn_left(&mut self, number: u8)
         ensures turned { self.new ≡ turned self.old number turned_left }
     {
-        let Some(player) = self.player(number) else {
-            return;
-        };
-        if let State::Live(body) = player.state {
+        if let Some((player, body)) = self.live(number) {
             let face = body.spot.face.turned_left();
             self.put(number, player.with_body(body.turned_to(face)));
         }
@@ -159,10 +159,7 @@ impl Arena {
     fn turn_right(&mut self, number: u8)
         ensures turned { self.new ≡ turned self.old number turned_right }
     {
-        let Some(player) = self.player(number) else {
-            return;
-        };
-        if let State::Live(body) = player.state {
+        if let Some((player, body)) = self.live(number) {
             let face = body.spot.face.turned_right();
             self.put(number, player.with_body(body.turned_to(face)));
         }
@@ -172,10 +169,7 @@ impl Arena {
     fn shoot(&mut self, number: u8)
         ensures shot { self.new ≡ shot_by self.old number }
     {
-        let Some(player) = self.player(number) else {
-            return;
-        };
-        let State::Live(body) = player.state else {
+        let Some((player, body)) = self.live(number) else {
             return;
         };
         if body.ammo == 0 || self.shots.is_full() {

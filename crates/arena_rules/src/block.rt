@@ -1,3 +1,5 @@
+//! The lines of a world, one kind after the other.
+
 ghost use Rattle.std.specs.Prelude.{◌≡◌, ◌++◌, ◌≤◌, flat_map, length, take, OnOk};
 ghost use Rattle.arena_rules.specs.Block.{player_lines, shot_line, item_line};
 

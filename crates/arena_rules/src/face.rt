@@ -1,3 +1,5 @@
+//! The four facings.
+
 ghost use Rattle.std.specs.Prelude.{◌≡◌};
 ghost use Rattle.arena_rules.specs.Block.{face_word};
 ghost use Rattle.arena_rules.specs.Command.{turned_left, turned_right};

@@ -1,3 +1,5 @@
+//! The ground: a grid with walls.
+
 ghost use Rattle.std.specs.Prelude.{◌≡◌, ℕ, ◌≤◌, ◌<◌, ◌↔◌, ◌⊎◌};
 ghost use Rattle.arena_rules.specs.Ground.{open_grid, with_wall, is_walled, IsWalled, is_open, is_free, IsGrid};
 ghost use Rattle.arena_rules.specs.Command.{open_spot, open_ahead};

@@ -1,3 +1,5 @@
+//! What lies in the arena to be taken.
+
 ghost use Rattle.std.specs.Prelude.{◌≡◌, ◌≤◌, ◌++◌, map, length, OnOk, OnErr};
 ghost use Rattle.arena_rules.specs.Block.{kind_word, item_line};
 ghost use Rattle.arena_rules.specs.Setup.{spot_cell};

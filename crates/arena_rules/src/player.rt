@@ -1,8 +1,11 @@
+//! The players, live or dead.
+
 ghost use Rattle.std.specs.Prelude.{◌≡◌, ◌≤◌, ◌++◌, map, length, OnOk, OnErr};
 ghost use Rattle.arena_rules.specs.Block.{player_line};
 ghost use Rattle.arena_rules.specs.Setup.{spot_cell};
 ghost use Rattle.arena_rules.specs.Player.{opening_player, body_at_home, turned_to, alive, stands_in, is_held, holder, is_live, struck, with_gain, with_loss};
 ghost use Rattle.arena_rules.specs.Pickup.{given};
+ghost use Rattle.arena_rules.specs.Command.{live_of};
 
 use crate::face::Face;
 use crate::pickup::Kind;
@@ -87,6 +90,16 @@ impl Player {
         Player {
             state: State::Live(body),
             ..self
+        }
+    }
+
+    // The player and the body, where the player is live.
+    pub fn live(&self) -> Option<(Player, Body)>
+        ensures { result ≡ live_of (Some self.now) }
+    {
+        match self.state {
+            State::Live(body) => Some((*self, body)),
+            State::Dead { .. } => None,
         }
     }
 

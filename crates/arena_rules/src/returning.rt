@@ -1,3 +1,5 @@
+//! How the dead come back: the second part of a beat.
+
 ghost use Rattle.std.specs.Prelude.{◌≡◌, []};
 ghost use Rattle.arena_rules.specs.Beat.{returned, returns};
 

@@ -1,3 +1,5 @@
+//! The players' names.
+
 ghost use Rattle.std.specs.Prelude.{◌≡◌, [], IfOk, OnErr, not, slice_get, option_copied};
 ghost use Rattle.arena_rules.specs.Block.{name_of};
 ghost use Rattle.arena_rules.specs.Roster.{is_known, with_name, PlayerNamesDiffer};

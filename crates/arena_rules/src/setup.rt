@@ -1,3 +1,5 @@
+//! How a match begins.
+
 use crate::ground::Ground;
 use crate::pickup::PickupSpot;
 use crate::spot::Spot;

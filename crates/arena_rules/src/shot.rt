@@ -1,3 +1,5 @@
+//! The shots, and how they fly: the first part of a beat.
+
 ghost use Rattle.std.specs.Prelude.{◌++◌, OnOk, OnErr, ◌≡◌, ◌≤◌, ◌<◌, All, length};
 ghost use Rattle.arena_rules.specs.Block.{shot_line};
 ghost use Rattle.arena_rules.specs.Beat.{hit, scored, flying, flown, flights, Flight, Flights};

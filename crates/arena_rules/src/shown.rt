@@ -1,3 +1,5 @@
+//! What a block can show.
+
 ghost use Rattle.std.specs.Prelude.{◌≡◌, ℕ, List, ◌++◌, OnOk, OnErr};
 
 use crate::roster::Roster;

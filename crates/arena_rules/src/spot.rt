@@ -1,3 +1,5 @@
+//! A cell and a facing.
+
 ghost use Rattle.std.specs.Prelude.{◌≡◌};
 ghost use Rattle.arena_rules.specs.Setup.{spot_cell};
 ghost use Rattle.arena_rules.specs.Command.{ahead};

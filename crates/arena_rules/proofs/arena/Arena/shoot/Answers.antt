@@ -2,13 +2,14 @@ use Rattle.std.proofs.Common.{◌≡◌, ◌==◌, ◌<◌, ◌≤◌, false, So
 use Rattle.std.proofs.lemmas.Bool.Decides.{nat_tests}
 use Rattle.arena_rules.specs.World.{World}
 use Rattle.arena_rules.proofs.Changes.{refill-set}
-use Rattle.arena_rules.proofs.Worlds.{IsWorld-fired}
+use Rattle.arena_rules.proofs.Worlds.{IsWorld-fired, live_of-is}
 use Rattle.arena_rules.proofs.arena.Arena.shoot.Goals as goal
 
 pub invariant_of-self : goal.invariant_of-self
 invariant_of-self c =
-    let there = subst (λ (world : World). slice_get world.players c.args.number ≡ Some c.in-Some.player) (sym c.self.view_is) (sym c.in-Some.ensures.player) in
+    let is = live_of-is _ _ _ (sym c.in-Some.ensures.live) in
+    let there = subst (λ (world : World). slice_get world.players c.args.number ≡ Some c.in-Some.player) (sym c.self.view_is) is.0 in
     let full : (length c.self.inside.shots.items == 64) ≡ false = sym c.is_full.ensures.value ∙ c.if-is_full.false in
     let count : length c.self.inside.shots.items ≤ 64 = c.self.invariant.shots.count in
     let room : length c.self.inside.shots.items < 64 = grind (arith, nat_tests) in
-    rw (c.deref_mut.ensures.value, refill-set, c.with_body.ensures, c.push.ensures.items, c.fired.ensures) (IsWorld-fired _ c.args.number c.in-Some.player c.in-Live.body c.self.invariant there c.in-Live.is room)
+    rw (c.deref_mut.ensures.value, refill-set, c.with_body.ensures, c.push.ensures.items, c.fired.ensures) (IsWorld-fired _ c.args.number c.in-Some.player c.in-Some.body c.self.invariant there is.1 room)

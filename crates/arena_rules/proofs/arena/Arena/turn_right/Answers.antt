@@ -1,6 +1,8 @@
 use Rattle.std.proofs.Common.{sym}
-use Rattle.arena_rules.proofs.Worlds.{IsWorld-faced}
+use Rattle.arena_rules.proofs.Worlds.{IsWorld-faced, live_of-is}
 use Rattle.arena_rules.proofs.arena.Arena.turn_right.Goals as goal
 
 pub put-requires-clause-sound : goal.put-requires-clause-sound
-put-requires-clause-sound c = rw (c.with_body.ensures, c.turned_to.ensures) (IsWorld-faced _ _ _ _ _ c.player.ensures.sound (sym c.in-Some.ensures.player) c.in-Live.is)
+put-requires-clause-sound c =
+    let is = live_of-is _ _ _ (sym c.in-Some.ensures.live) in
+    rw (c.with_body.ensures, c.turned_to.ensures) (IsWorld-faced _ _ _ _ _ c.live.ensures.sound is.0 is.1)
