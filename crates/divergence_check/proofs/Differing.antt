@@ -1,8 +1,7 @@
 -- Items and those that are due, compared one after the other.
-use Rattle.std.proofs.Common.{◌≡◌, refl, ◌∙◌, sym, ap, ℕ, zero, suc, ◌+◌, ◌-◌, ◌≤◌, ◌<◌, Bool, true, false, List, [], ◌∷◌, ◌++◌, length, map, take, drop, arith, length-append}
+use Rattle.std.proofs.Common.{◌≡◌, refl, ◌∙◌, sym, ap, ℕ, zero, suc, ◌+◌, ◌-◌, ◌≤◌, ◌<◌, List, [], ◌∷◌, ◌++◌, length, map, take, drop, arith, length-append}
 use Rattle.std.proofs.lemmas.List.{length-map}
-use Rattle.std.proofs.lemmas.Option.{slice_get_within}
-use Rattle.std.specs.Prelude.{Option, Some, None, slice_get}
+use Rattle.std.specs.Prelude.{Some, None, slice_get}
 use Rattle.game_trait.specs.declared.command.Command.{Command}
 use Rattle.game_trait.specs.declared.command.Item.{Item}
 use Rattle.game_trait.specs.declared.command.Item.TheVariants.{Cmd, Beat}
@@ -98,10 +97,11 @@ module _ {all : List Command} {t start next : ℕ} (h : IsWalked all t start nex
         let n = next - start in
         let count = (walk-done h done).1.1 in
         let whole = long all t in
-        let same = same-more (drop place items) (tick_of all t) (next - start) Beat so_far (here ∙ stands) beat in
-        (drop ((next - start) + 1) (drop place items),
-        take-drop ((next - start) + 1) (drop place items)
-        ∙ ap (λ (l : List Item). l ++ drop ((next - start) + 1) (drop place items)) (same ∙ take-whole (tick_of all t) ((next - start) + 1) (omega arith)))
+        let same = same-more (drop place items) (tick_of all t) (next - start) Beat so_far (here ∙ stands) beat in (
+          drop ((next - start) + 1) (drop place items),
+          take-drop ((next - start) + 1) (drop place items)
+              ∙ ap (λ (l : List Item). l ++ drop ((next - start) + 1) (drop place items)) (same ∙ take-whole (tick_of all t) ((next - start) + 1) (omega arith)),
+        )
 
     -- or another item, or none
     pub differs-last :

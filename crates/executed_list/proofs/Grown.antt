@@ -1,5 +1,5 @@
 -- The one list with items more.
-use Rattle.std.proofs.Common.{◌≡◌, refl, ◌∙◌, sym, ap, ℕ, zero, suc, ◌+◌, ◌-◌, ◌≤◌, ◌<◌, List, [], ◌∷◌, ◌++◌, length, set, arith, length-append, append-nil, append_assoc}
+use Rattle.std.proofs.Common.{◌≡◌, refl, ◌∙◌, sym, ap, ℕ, ◌+◌, ◌-◌, List, [], ◌∷◌, ◌++◌, length, set, arith, length-append, append-nil, append_assoc}
 use Rattle.game_trait.specs.declared.command.Item.{Item}
 use Rattle.executed_list.specs.Segments.{OneList, run_grown, end_of}
 

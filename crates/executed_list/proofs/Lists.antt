@@ -6,7 +6,7 @@ use Rattle.game_trait.specs.declared.command.Item.{Item}
 use Rattle.game_trait.specs.declared.command.Item.TheVariants.{Cmd, Beat}
 use Rattle.game_trait.specs.Run.{beats}
 use Rattle.game_trait.proofs.Runs.{beats-append}
-use Rattle.executed_list.specs.Segments.{StartsAtMost, Falls, filled, end_of, clocks_at, runs_at, IsOneList}
+use Rattle.executed_list.specs.Segments.{StartsAtMost, Falls, filled, end_of, clocks_at, IsOneList}
 
 -- the beats of a front with one item more
 pub beats-more : (run : List Item) (i n m : ℕ) (d : Item) → i < length run → n ≡ beats (take i run) → m ≡ beats (get_or run i d ∷ []) → n + m ≡ beats (take (i + 1) run)

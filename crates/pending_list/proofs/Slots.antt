@@ -1,10 +1,10 @@
 -- Slots of commands in key order: where a test parts them, and how often it is passed.
-use Rattle.std.proofs.Common.{◌≡◌, refl, ◌∙◌, sym, ap, ℕ, zero, suc, ◌+◌, ◌≤◌, ◌<◌, Bool, true, false, cond, List, [], ◌∷◌, map, length, get_or, ltb, arith}
+use Rattle.std.proofs.Common.{◌≡◌, refl, ◌∙◌, sym, ap, ℕ, zero, suc, ◌≤◌, ◌<◌, Bool, true, false, List, [], ◌∷◌, map, length, get_or, ltb, arith}
 use Rattle.std.proofs.lemmas.Bool.{ltb-true, lt-ltb}
-use Rattle.std.proofs.lemmas.List.{get_or-map, length-map, get_or-append-add}
+use Rattle.std.proofs.lemmas.List.{get_or-map, length-map}
 use Rattle.std.proofs.lemmas.Option.{slice_get-get_or}
 use Rattle.std.specs.Prelude.{slice_get}
-use Rattle.std.specs.List.{AllByRecursion, insert}
+use Rattle.std.specs.List.{AllByRecursion}
 use Rattle.std.specs.List.Sorted.{IsPartitionedBy, IsPartitionPoint}
 use Rattle.game_trait.specs.declared.command.Command.{Command}
 use Rattle.game_trait.specs.Keys.{before, KeysRise}
@@ -58,13 +58,14 @@ pub point-commands :
     → IsPartitionPoint (λ slot. holds q (slice_get all slot) ≡ true) (λ slot. holds q (slice_get all slot) ≡ false) slots at → at ≤ length slots
     → IsPartitionPoint (λ x. q x ≡ true) (λ x. q x ≡ false) (map (command_in all) slots) at
 point-commands all q slots at there parted within =
-    let many = length-map slots (command_in all) in
-    (λ k d low h.
-    let here = get_or-map (command_in all) slots k 0 d (omega arith) in
-    ap q here ∙ sym (slot-holds all q (get_or slots k 0) (all-at (λ slot. slot < length all) slots k 0 there (omega arith))) ∙ parted.0 k 0 low h,
-    λ k d low h.
-    let here = get_or-map (command_in all) slots k 0 d (omega arith) in
-    ap q here ∙ sym (slot-holds all q (get_or slots k 0) (all-at (λ slot. slot < length all) slots k 0 there (omega arith))) ∙ parted.1 k 0 low (omega arith))
+    let many = length-map slots (command_in all) in (
+      λ k d low h.
+          let here = get_or-map (command_in all) slots k 0 d (omega arith) in
+          ap q here ∙ sym (slot-holds all q (get_or slots k 0) (all-at (λ slot. slot < length all) slots k 0 there (omega arith))) ∙ parted.0 k 0 low h,
+      λ k d low h.
+          let here = get_or-map (command_in all) slots k 0 d (omega arith) in
+          ap q here ∙ sym (slot-holds all q (get_or slots k 0) (all-at (λ slot. slot < length all) slots k 0 there (omega arith))) ∙ parted.1 k 0 low (omega arith),
+    )
 
 -- times never fall in key order
 times-rise : (xs : List Command) (i j : ℕ) (d : Command) → KeysRise xs → i ≤ j → j < length xs → (get_or xs i d).time ≤ (get_or xs j d).time

@@ -1,5 +1,5 @@
 -- Walking the commands in key order, from where a tick's begin.
-use Rattle.std.proofs.Common.{◌≡◌, refl, ◌∙◌, sym, ap, ℕ, zero, suc, ◌+◌, ◌-◌, ◌≤◌, ◌<◌, Bool, true, false, cond, List, [], ◌∷◌, ◌++◌, length, map, take, filter, get_or, length-append, eqb, ltb, ⊎_elim, subst, eq-eqb, arith}
+use Rattle.std.proofs.Common.{◌≡◌, refl, ◌∙◌, sym, ap, ℕ, zero, suc, ◌+◌, ◌-◌, ◌≤◌, ◌<◌, true, false, cond, List, [], ◌∷◌, ◌++◌, length, map, take, filter, get_or, length-append, eqb, ltb, ⊎_elim, subst, eq-eqb, arith}
 use Rattle.std.proofs.lemmas.Bool.{lt-ltb, le-ltb, ne_eqb, cases_lt, cases_eq}
 use Rattle.std.proofs.lemmas.Bool.Decides.{nat_tests}
 use Rattle.std.proofs.lemmas.List.{length-map}
@@ -83,7 +83,6 @@ walked t (x ∷ xs) i rises within =
     subst (Walked t (x ∷ xs)) (sym zero_is) (walked-later t x xs past none empty))
     (cases_eq x.time t))
     (cases_lt x.time t)
-
 
 -- the same of commands in order of insertion
 pub due-walked :
@@ -216,9 +215,10 @@ module _ {all : List Command} {t start place : ℕ} (h : IsWalked all t start pl
       let here = walk-here (Some x) at in
       let within = slice_get_within (due_at all t) (place - start) x here in
       let from = h.from in
-      let e : (place + 1) - start ≡ (place - start) + 1 = omega arith in
-      (record { begun = h.begun; from = omega arith; within = omega arith },
-      ap (λ (n : ℕ). take n (due_at all t)) e ∙ take-more (due_at all t) (place - start) x here)
+      let e : (place + 1) - start ≡ (place - start) + 1 = omega arith in (
+        record { begun = h.begun; from = omega arith; within = omega arith },
+        ap (λ (n : ℕ). take n (due_at all t)) e ∙ take-more (due_at all t) (place - start) x here,
+      )
 
   pub walk-left : (x : Command) → FoundDue all t place (Some x) → place - start < length (due_at all t)
   walk-left x at = slice_get_within (due_at all t) (place - start) x (walk-here (Some x) at)

@@ -1,15 +1,15 @@
 -- One command, one tick more, appended and executed.
-use Rattle.std.proofs.Common.{◌≡◌, refl, ◌∙◌, sym, ap, ℕ, zero, suc, ◌+◌, ◌-◌, ◌≤◌, ◌<◌, List, [], ◌∷◌, ◌++◌, length, map, take, set, arith, length-append}
+use Rattle.std.proofs.Common.{◌≡◌, refl, ◌∙◌, sym, ap, ℕ, ◌+◌, ◌-◌, ◌≤◌, ◌<◌, List, [], ◌∷◌, ◌++◌, length, map, set, arith, length-append}
 use Rattle.std.proofs.lemmas.List.{length-map, length-take-le, map-append}
-use Rattle.std.specs.Prelude.{Option, Some, None}
+use Rattle.std.specs.Prelude.{Some, None}
 use Rattle.game_trait.specs.declared.command.Command.{Command}
 use Rattle.game_trait.specs.declared.command.Item.{Item}
 use Rattle.game_trait.specs.declared.command.Item.TheVariants.{Cmd, Beat}
 use Rattle.game_trait.specs.Game.{Rules}
 use Rattle.game_trait.specs.Run.{world_of}
-use Rattle.game_trait.specs.Ordered.{ordered, ticks, tick_of, due_at}
+use Rattle.game_trait.specs.Ordered.{ordered, tick_of, due_at}
 use Rattle.game_trait.proofs.Runs.{world_of-append}
-use Rattle.game_trait.proofs.OrderedParts.{ordered-join, ordered-more, ordered-empty}
+use Rattle.game_trait.proofs.OrderedParts.{ordered-join, ordered-more}
 use Rattle.executed_list.specs.Segments.{OneList, run_grown, end_of}
 use Rattle.executed_list.proofs.Grown.{grown-none, grown-push, grown-grown}
 use Rattle.pending_list.specs.Buckets.{start_of}

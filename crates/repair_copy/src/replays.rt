@@ -57,13 +57,7 @@ fn replay_tick<G: Game>(
 
 /// Executes the ticks from `start` up to `stop` in time order, and appends each item, for which there is room, to the list. One
 /// search finds the first tick's commands; those of the ticks behind follow them.
-pub fn replay<G: Game>(
-    world: &mut G,
-    list: &Buckets,
-    start: Tick,
-    stop: Tick,
-    run: &mut Segments,
-)
+pub fn replay<G: Game>(world: &mut G, list: &Buckets, start: Tick, stop: Tick, run: &mut Segments)
     requires order { start ≤ stop }
     requires room { length (ordered list.now.all start stop) ≤ run.old.spare }
     ensures run { run.new ≡ run_grown run.old (ordered list.now.all start stop) }

@@ -1,8 +1,7 @@
 -- One copy more is brought to its clock.
-use Rattle.std.proofs.Common.{◌≡◌, refl, ◌∙◌, sym, ap, subst, ℕ, zero, suc, ◌+◌, ◌-◌, ◌≤◌, ◌<◌, List, [], ◌∷◌, ◌++◌, length, map, take, drop, get_or, set, replicate, arith, length-append, append_assoc, ⊎_elim}
+use Rattle.std.proofs.Common.{◌≡◌, refl, ◌∙◌, sym, ap, ℕ, zero, suc, ◌+◌, ◌-◌, ◌≤◌, ◌<◌, List, [], ◌∷◌, ◌++◌, length, take, drop, get_or, set, replicate, arith, length-append, append_assoc, ⊎_elim}
 use Rattle.std.proofs.lemmas.Bool.{cases_lt}
 use Rattle.std.proofs.lemmas.List.{append-nil, get_or-set_same, length-set, take-append-drop}
-use Rattle.std.specs.List.{AllByRecursion}
 use Rattle.game_trait.specs.declared.command.Command.{Command}
 use Rattle.game_trait.specs.declared.command.Item.{Item}
 use Rattle.game_trait.specs.Game.{Rules}
@@ -88,6 +87,7 @@ filled-over ends xs e n m there = ap (λ (l : List ℕ). replicate (e + 1) n ++ 
     after ends zero m there = refl
     after [] (suc e) m there = absurd (omega arith)
     after (k ∷ ks) (suc e) m there = after ks e m (omega arith)
+
     dropped : (ends : List ℕ) (e n m : ℕ) → e < length ends → drop (e + 1) (set (filled (e + 1) m ends) 0 n) ≡ drop (e + 1) ends
     dropped [] e n m there = absurd (omega arith)
     dropped (k ∷ ks) e n m there = (let s : e + 1 ≡ suc e = omega arith in rw s (after ks e m (omega arith)))

@@ -1,6 +1,6 @@
 -- An arrival as a change at one copy.
 use Rattle.std.proofs.Common.{◌≡◌, refl, ◌∙◌, sym, ap, subst, ℕ, zero, suc, ◌+◌, ◌-◌, ◌≤◌, ◌<◌, Bool, true, false, ◌||◌, cond, ltb, List, [], ◌∷◌, ◌++◌, length, map, take, drop, get_or, set, arith, length-append, take_all, ⊎_elim}
-use Rattle.std.proofs.lemmas.Bool.{cases_lt, lt-ltb, le-ltb, ltb-true, ltb-false}
+use Rattle.std.proofs.lemmas.Bool.{cases_lt, le-ltb, ltb-true, ltb-false}
 use Rattle.std.proofs.lemmas.List.{drop-drop, drop-set-lt, get_or-drop, get_or-set_same, get_or-set_other, length-set, take-append-drop, take-take}
 use Rattle.std.specs.List.{AllByRecursion, list_any}
 use Rattle.game_trait.specs.declared.command.Command.{Command}
@@ -26,7 +26,7 @@ use Rattle.sync_model.proofs.Rebuilt.{arrival_late, arrival_early, arrival_late_
 use Rattle.sync_model.proofs.Trailing.{trailing-arrival, beats-arrival}
 use Rattle.executed_list.specs.Segments.{OneList, Falls, StartsAtMost, end_of, runs_at}
 use Rattle.executed_list.proofs.Lists.{all-at, get-any}
-use Rattle.trailing_copy.specs.Stack.{CopyState, IsStack}
+use Rattle.trailing_copy.specs.Stack.{IsStack}
 use Rattle.trailing_copy.proofs.Ahead.{falls-between}
 use Rattle.trailing_copy.proofs.Remade.{Change, Put, run-many, clock-many, clock-at, run-at, world-at, clocks-fall}
 

@@ -1,22 +1,20 @@
 -- A step whose new run is a front of the run ahead.
-use Rattle.std.proofs.Common.{◌≡◌, refl, ◌∙◌, sym, ap, subst, ℕ, zero, suc, ◌+◌, ◌-◌, ◌≤◌, ◌<◌, Bool, true, false, List, [], ◌∷◌, ◌++◌, length, map, take, drop, get_or, set, arith, length-append, append_assoc, ⊎_elim}
+use Rattle.std.proofs.Common.{◌≡◌, refl, ◌∙◌, sym, ap, subst, ℕ, suc, ◌+◌, ◌≤◌, ◌<◌, Bool, true, false, List, [], ◌∷◌, ◌++◌, length, map, take, drop, get_or, set, arith, length-append, append_assoc, ⊎_elim}
 use Rattle.std.proofs.lemmas.List.{length-set, map-set, take-append-drop}
 use Rattle.std.proofs.Math.Seq.{take-append_seam, drop-append_seam}
 use Rattle.sync_model.proofs.Lists.{all-put}
 use Rattle.sync_model.proofs.Repairs.{step_count}
 use Rattle.std.proofs.lemmas.Bool.{false_from_ne_true}
-use Rattle.std.specs.List.{AllByRecursion}
 use Rattle.game_trait.specs.declared.command.Command.{Command}
 use Rattle.game_trait.specs.declared.command.Item.{Item}
-use Rattle.game_trait.specs.declared.command.Item.TheVariants.{Cmd, Beat}
+use Rattle.game_trait.specs.declared.command.Item.TheVariants.{Beat}
 use Rattle.game_trait.specs.Game.{Rules}
 use Rattle.game_trait.specs.Run.{beats, world_of, IsPrefix}
-use Rattle.game_trait.specs.Ordered.{tick_of, due_at}
-use Rattle.game_trait.proofs.Runs.{world_of-append, beats-append}
+use Rattle.game_trait.specs.Ordered.{tick_of}
+use Rattle.game_trait.proofs.Runs.{beats-append}
 use Rattle.sync_model.specs.Settle.{settle, begins_with, repaired}
 use Rattle.sync_model.specs.Change.{with_tick}
 use Rattle.sync_model.proofs.Settle.{begins_with-Decides}
-use Rattle.sync_model.proofs.Proposals.{beats-with_tick}
 use Rattle.sync_model.proofs.Trailing.{beats-front}
 use Rattle.sync_model.proofs.Repairs.{fronts-compare, front-snoc}
 use Rattle.sync_model.specs.Staggered.{IsTrailing}
@@ -25,7 +23,7 @@ use Rattle.sync_model.proofs.Trailing.{trailing-step, beats-step}
 use Rattle.executed_list.specs.Segments.{OneList, Falls, end_of, runs_at}
 use Rattle.executed_list.proofs.Lists.{length-taken}
 use Rattle.trailing_copy.specs.Stack.{IsStack}
-use Rattle.trailing_copy.proofs.Remade.{run-many, run-at, end-inside, world-at}
+use Rattle.trailing_copy.proofs.Remade.{run-many, run-at, end-inside}
 use Rattle.trailing_copy.proofs.Steps.{clock-read, new-run, behind-ahead, front-repaired}
 
 -- two tests that follow from each other are one

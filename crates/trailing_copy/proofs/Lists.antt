@@ -1,11 +1,9 @@
 -- Lists of which the first so many are changed.
-use Rattle.std.proofs.Common.{◌≡◌, refl, ◌∙◌, sym, ap, subst, ℕ, zero, suc, ◌+◌, ◌-◌, ◌≤◌, ◌<◌, List, [], ◌∷◌, ◌++◌, length, map, take, drop, get_or, set, replicate, arith, length-append, append_assoc, append-nil, take_all}
+use Rattle.std.proofs.Common.{◌≡◌, refl, ◌∙◌, sym, ap, ℕ, zero, suc, ◌+◌, ◌≤◌, ◌<◌, List, [], ◌∷◌, ◌++◌, length, take, drop, get_or, set, arith, append-nil, take_all}
 use Rattle.std.proofs.lemmas.List.{length-set}
-use Rattle.std.specs.List.{AllByRecursion}
 use Rattle.executed_list.specs.Segments.{OneList, end_of, filled}
-use Rattle.executed_list.proofs.Lists.{filled-more, length-filled}
+use Rattle.executed_list.proofs.Lists.{filled-more}
 use Rattle.executed_list.proofs.Grown.{one}
-use Rattle.trailing_copy.specs.Mixed.{mixed}
 
 drop-all : {X : Type 0} (xs : List X) → drop (length xs) xs ≡ []
 drop-all [] = refl

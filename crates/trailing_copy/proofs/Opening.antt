@@ -1,7 +1,6 @@
 -- Copies that have run nothing.
-use Rattle.std.proofs.Common.{◌≡◌, refl, ◌∙◌, sym, ap, ℕ, zero, suc, ◌+◌, ◌≤◌, ◌<◌, List, [], ◌∷◌, ◌++◌, length, map, replicate, take, subst, arith}
+use Rattle.std.proofs.Common.{◌≡◌, refl, ◌∙◌, sym, ap, ℕ, zero, suc, ◌+◌, ◌≤◌, ◌<◌, List, [], ◌∷◌, length, map, replicate, subst, arith}
 use Rattle.std.specs.List.{AllByRecursion}
-use Rattle.game_trait.specs.declared.command.Command.{Command}
 use Rattle.game_trait.specs.declared.command.Item.{Item}
 use Rattle.game_trait.specs.Game.{Rules}
 use Rattle.game_trait.specs.Count.{times}
@@ -10,7 +9,7 @@ use Rattle.game_trait.specs.Ordered.{ordered, ticks}
 use Rattle.sync_model.specs.Lists.{last_of}
 use Rattle.sync_model.specs.Staggered.{IsAhead, IsChained, IsComplete, IsNeverEarly}
 use Rattle.sync_model.specs.Staggered.{IsTrailing}
-use Rattle.executed_list.specs.Segments.{OneList, runs_at}
+use Rattle.executed_list.specs.Segments.{runs_at}
 use Rattle.trailing_copy.specs.Stack.{IsStack}
 
 empty-runs : (n : ℕ) → runs_at [] (replicate n 0) ≡ replicate n []

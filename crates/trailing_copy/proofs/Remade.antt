@@ -1,7 +1,7 @@
 -- What a change at one copy, and the repair of the copies ahead, leave of a stack.
-use Rattle.std.proofs.Common.{◌≡◌, refl, ◌∙◌, sym, ap, subst, ℕ, zero, suc, ◌+◌, ◌-◌, ◌≤◌, ◌<◌, Bool, true, List, [], ◌∷◌, ◌++◌, length, map, take, drop, get_or, set, replicate, arith, length-append, append_assoc, ⊎_elim, ltb}
+use Rattle.std.proofs.Common.{◌≡◌, refl, ◌∙◌, sym, ap, subst, ℕ, zero, suc, ◌+◌, ◌-◌, ◌≤◌, ◌<◌, Bool, true, List, [], ◌∷◌, ◌++◌, length, map, take, drop, get_or, set, replicate, arith, length-append, ⊎_elim, ltb}
 use Rattle.std.proofs.lemmas.Bool.{cases_lt}
-use Rattle.std.proofs.lemmas.List.{drop-map, drop-set-lt, length-set, get_or-set_same}
+use Rattle.std.proofs.lemmas.List.{drop-set-lt, length-set, get_or-set_same}
 use Rattle.std.specs.List.{AllByRecursion}
 use Rattle.game_trait.specs.declared.command.Command.{Command}
 use Rattle.game_trait.specs.declared.command.Item.{Item}
@@ -10,16 +10,16 @@ use Rattle.game_trait.specs.Game.{Rules}
 use Rattle.game_trait.specs.Count.{times}
 use Rattle.game_trait.specs.Run.{beats, world_of, commands_of}
 use Rattle.game_trait.specs.Ordered.{ordered}
-use Rattle.game_trait.proofs.Runs.{world_of-append, beats-append}
+use Rattle.game_trait.proofs.Runs.{beats-append}
 use Rattle.sync_model.specs.Settle.{rebuilt}
-use Rattle.sync_model.specs.Staggered.{IsChained, IsComplete}
-use Rattle.sync_model.proofs.Settle.{NeverRises, IsFirstAtMost, beats-rebuilt}
+use Rattle.sync_model.specs.Staggered.{IsComplete}
+use Rattle.sync_model.proofs.Settle.{NeverRises, beats-rebuilt}
 use Rattle.sync_model.proofs.Proposals.{complete-rebuilt}
 use Rattle.sync_model.proofs.Trailing.{chained-falls}
 use Rattle.sync_model.specs.Repairs.{rebuild}
 use Rattle.sync_model.specs.Staggered.{IsTrailing}
 use Rattle.executed_list.specs.Segments.{OneList, Falls, StartsAtMost, end_of, filled, runs_at, run_grown}
-use Rattle.executed_list.proofs.Lists.{within, all-at, get-map, length-map, length-filled, length-taken, get-any}
+use Rattle.executed_list.proofs.Lists.{within, all-at, get-map, length-map, length-filled, length-taken}
 use Rattle.trailing_copy.specs.Mixed.{mixed, grown_to, end_to, world_to}
 use Rattle.trailing_copy.specs.Stack.{IsStack}
 use Rattle.trailing_copy.proofs.Lists.{filled-below, filled-at}

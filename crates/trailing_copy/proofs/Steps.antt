@@ -1,6 +1,5 @@
 -- A step as a change at one copy.
-use Rattle.std.proofs.Common.{◌≡◌, refl, ◌∙◌, sym, ap, subst, ℕ, zero, suc, ◌+◌, ◌-◌, ◌≤◌, ◌<◌, ◌^◌, Bool, true, false, List, [], ◌∷◌, ◌++◌, length, map, take, drop, get_or, set, arith, length-append}
-use Rattle.std.specs.List.{AllByRecursion}
+use Rattle.std.proofs.Common.{◌≡◌, refl, ◌∙◌, sym, ap, subst, ℕ, zero, suc, ◌+◌, ◌-◌, ◌≤◌, ◌<◌, true, false, List, [], ◌∷◌, ◌++◌, length, take, get_or, set, arith}
 use Rattle.game_trait.specs.declared.command.Command.{Command}
 use Rattle.game_trait.specs.declared.command.Item.{Item}
 use Rattle.game_trait.specs.Game.{Rules}
@@ -21,11 +20,8 @@ use Rattle.sync_model.proofs.Trailing.{trailing-step, beats-step}
 use Rattle.executed_list.specs.Segments.{OneList, Falls, end_of, runs_at}
 use Rattle.executed_list.proofs.Lists.{all-at, get-any, falls-set, falls-push}
 use Rattle.trailing_copy.specs.Stack.{CopyState, IsStack}
-use Rattle.repair_copy.proofs.Walking.{length-commands}
-use Rattle.game_trait.specs.declared.command.Item.TheVariants.{Cmd, Beat}
 use Rattle.std.proofs.lemmas.List.{length-set, get_or-set_same, get_or-set_other}
 use Rattle.sync_model.proofs.Lists.{all-put}
-use Rattle.sync_model.specs.Change.{proposed_by_step}
 use Rattle.sync_model.specs.Repairs.{repaired_by_step}
 use Rattle.trailing_copy.proofs.Remade.{Change, Put, put-one, run-many, clock-many, world-many, clock-at, run-at, world-at, clocks-fall}
 

@@ -151,8 +151,7 @@ impl<G: Game> CopyStack<G> {
         requires copy { (0 < copy) × (copy < length self.old.runs) }
         requires below { copy_clock self.old.runs copy < self.old.ticks }
         requires behind { copy_clock self.old.runs copy < copy_clock self.old.runs (copy - 1) }
-        requires front {
-            begins_with (slice_index_or self.old.runs (copy - 1) []) (with_tick self.old.accepted (slice_index_or self.old.runs copy [])) ≡ true }
+        requires front { begins_with (slice_index_or self.old.runs (copy - 1) []) (with_tick self.old.accepted (slice_index_or self.old.runs copy [])) ≡ true }
         ensures runs { self.new ≡ record self.old { runs = settle self.old.accepted (proposed_by_step self.old.accepted self.old.runs copy) } }
         ensures repaired { 0 ≡ repaired self.old.accepted (proposed_by_step self.old.accepted self.old.runs copy) }
     {
@@ -171,8 +170,7 @@ impl<G: Game> CopyStack<G> {
         requires copy { (0 < copy) × (copy < length self.old.runs) }
         requires below { copy_clock self.old.runs copy < self.old.ticks }
         requires behind { copy_clock self.old.runs copy < copy_clock self.old.runs (copy - 1) }
-        requires front {
-            begins_with (slice_index_or self.old.runs (copy - 1) []) (with_tick self.old.accepted (slice_index_or self.old.runs copy [])) ≡ true }
+        requires front { begins_with (slice_index_or self.old.runs (copy - 1) []) (with_tick self.old.accepted (slice_index_or self.old.runs copy [])) ≡ true }
         requires world { world.now ≡ world_of G.rules self.old.opening (with_tick self.old.accepted (slice_index_or self.old.runs copy [])) }
         ensures runs { self.new ≡ record self.old { runs = settle self.old.accepted (proposed_by_step self.old.accepted self.old.runs copy) } }
         ensures repaired { 0 ≡ repaired self.old.accepted (proposed_by_step self.old.accepted self.old.runs copy) }
@@ -191,8 +189,7 @@ impl<G: Game> CopyStack<G> {
     fn is_front(&self, copy: u8) -> bool
         requires copy { (0 < copy) × (copy < length self.now.runs) }
         requires behind { copy_clock self.now.runs copy < copy_clock self.now.runs (copy - 1) }
-        ensures {
-            result ≡ begins_with (slice_index_or self.now.runs (copy - 1) []) (with_tick self.now.accepted (slice_index_or self.now.runs copy [])) }
+        ensures { result ≡ begins_with (slice_index_or self.now.runs (copy - 1) []) (with_tick self.now.accepted (slice_index_or self.now.runs copy [])) }
     {
         let t = self.clocks[copy as usize];
         let _ = self.run.len();

@@ -1,4 +1,4 @@
-use Rattle.std.proofs.Common.{◌≡◌, refl, Bool, ◌+◌, ◌-◌, ◌≤◌, ◌<◌, ℕ, true, false, Option, Some, None, length, arith}
+use Rattle.std.proofs.Common.{◌≡◌, refl, Bool, ℕ, true, false, Option, Some, None, arith}
 use Rattle.std.proofs.lemmas.Option.{slice_get_within}
 use Rattle.pending_list.proofs.Walks.{walk-more, walk-left}
 use Rattle.divergence_check.proofs.Differing.{differs-no-front, stands-more, differs-here, stands-whole, differs-last}

@@ -1,4 +1,4 @@
-use Rattle.std.proofs.Common.{◌≡◌, arith, rules, tests}
+use Rattle.std.proofs.Common.{arith, rules, tests}
 use Rattle.std.proofs.lemmas.List.Sorted.{IsPartitionPoint-from_clause}
 use Rattle.pending_list.specs.Buckets.{is_due_before}
 use Rattle.pending_list.proofs.Slots.{due-parted, partition-times}

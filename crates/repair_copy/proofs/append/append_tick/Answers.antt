@@ -1,4 +1,4 @@
-use Rattle.std.proofs.Common.{◌≡◌, ◌∙◌, ◌+◌, ◌≤◌, ◌<◌, refl, length, arith}
+use Rattle.std.proofs.Common.{◌∙◌, refl, arith}
 use Rattle.executed_list.proofs.Grown.{grown-push}
 use Rattle.game_trait.specs.Ordered.{due_at}
 use Rattle.repair_copy.proofs.Walking.{long, length-commands, grown-on, grown-spare}

@@ -1,4 +1,4 @@
-use Rattle.std.proofs.Common.{◌≡◌, ◌+◌, ◌-◌, ◌≤◌, arith}
+use Rattle.std.proofs.Common.{arith}
 use Rattle.pending_list.proofs.Walks.{start-next}
 use Rattle.repair_copy.proofs.Walking.{long}
 use Rattle.repair_copy.proofs.append.tick_len.Goals as goal

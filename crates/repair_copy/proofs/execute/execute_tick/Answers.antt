@@ -1,4 +1,4 @@
-use Rattle.std.proofs.Common.{◌≡◌, ◌∙◌, refl}
+use Rattle.std.proofs.Common.{◌∙◌, refl}
 use Rattle.repair_copy.proofs.Walking.{world-on, world-beat}
 use Rattle.repair_copy.proofs.execute.execute_tick.Goals as goal
 

@@ -1,5 +1,4 @@
-use Rattle.std.proofs.Common.{◌≡◌, ◌∙◌, ◌+◌, ◌≤◌, ◌<◌, ap, sym, List, [], length, arith}
-use Rattle.game_trait.specs.declared.command.Item.{Item}
+use Rattle.std.proofs.Common.{◌≡◌, ◌∙◌, ap, sym, [], arith}
 use Rattle.game_trait.specs.Run.{world_of}
 use Rattle.game_trait.specs.Ordered.{ordered}
 use Rattle.game_trait.proofs.OrderedParts.{ordered-empty, ordered-more}

@@ -1,5 +1,5 @@
-use Rattle.std.proofs.Common.{◌≡◌, ◌+◌, ◌≤◌, ◌<◌, vec_len, length, arith}
-use Rattle.trailing_copy.proofs.Arriving.{Applied, applied-none, applied-more}
+use Rattle.std.proofs.Common.{arith}
+use Rattle.trailing_copy.proofs.Arriving.{applied-none, applied-more}
 use Rattle.trailing_copy.proofs.repairs.apply_to_each.Goals as goal
 
 pub loop-c-init : goal.loop-c-init

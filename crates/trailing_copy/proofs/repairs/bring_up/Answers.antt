@@ -1,5 +1,5 @@
-use Rattle.std.proofs.Common.{◌≡◌, ◌+◌, ◌∙◌, ap, sym, arith, length, List, ℕ}
-use Rattle.executed_list.specs.Segments.{OneList, end_of, filled}
+use Rattle.std.proofs.Common.{◌≡◌, ◌∙◌, ap, arith, length}
+use Rattle.executed_list.specs.Segments.{OneList, end_of}
 use Rattle.trailing_copy.proofs.Lists.{brought-more, filled-at}
 use Rattle.trailing_copy.proofs.repairs.bring_up.Goals as goal
 

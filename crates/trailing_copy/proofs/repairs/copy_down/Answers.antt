@@ -1,4 +1,4 @@
-use Rattle.std.proofs.Common.{◌≡◌, ◌+◌, ◌∙◌, ap, sym, arith, take, drop, List, ℕ}
+use Rattle.std.proofs.Common.{◌∙◌, sym, arith}
 use Rattle.trailing_copy.proofs.Lists.{copied-down}
 use Rattle.trailing_copy.proofs.repairs.copy_down.Goals as goal
 

@@ -1,4 +1,4 @@
-use Rattle.std.proofs.Common.{◌≡◌, ◌+◌, ◌-◌, ◌≤◌, ◌<◌, ◌∙◌, ap, sym, subst, arith, length, List, ℕ}
+use Rattle.std.proofs.Common.{◌≡◌, ◌+◌, ◌-◌, ◌<◌, ◌∙◌, subst, arith, ℕ}
 use Rattle.trailing_copy.proofs.Ahead.{SoFar, Given, start, clocks-fall, room-for, grown-length, more}
 use Rattle.trailing_copy.proofs.repairs.repair_ahead.Goals as goal
 
@@ -12,7 +12,12 @@ loop-c-init g c =
     let given : Given c.args.list.now.all c.args.clocks.now c.args.last c.args.run.now c.args.worlds.now.items = record {
       there = r.there;
       as_many_worlds = (let ok = c.args.worlds.now.ok.0 in let many = r.as_many_worlds in omega arith);
-      as_many_clocks = r.as_many_clocks; level = r.level; clock = r.clock; falls = r.falls; room = r.room } in
+      as_many_clocks = r.as_many_clocks;
+      level = r.level;
+      clock = r.clock;
+      falls = r.falls;
+      room = r.room;
+    } in
     record { upto = omega arith; given = given; so_far = start g.G.Game.rules given; len = search (arith) }
 
 pub replay-requires-clause-order : goal.replay-requires-clause-order

@@ -1,5 +1,4 @@
-use Rattle.std.proofs.Common.{length, ◌≤◌, ◌≡◌, ◌∙◌, ◌-◌, ◌+◌, ◌<◌, ap, sym, arith, suc, ℕ}
-use Rattle.sync_model.specs.Repairs.{IsLastLate}
+use Rattle.std.proofs.Common.{◌≡◌, ◌∙◌, ◌-◌, arith, suc, ℕ}
 use Rattle.trailing_copy.proofs.Arriving.{none-above, above-last, count-late, count-repaired, early-repaired, first-upto, level-from}
 use Rattle.trailing_copy.proofs.Remade.{run-many}
 use Rattle.trailing_copy.proofs.stack.CopyStack.accept.Goals as goal

@@ -1,4 +1,3 @@
-use Rattle.std.proofs.Common.{◌≡◌, ◌∙◌, ap, sym, arith}
 use Rattle.trailing_copy.proofs.Arriving.{early-kept, early-settled}
 use Rattle.trailing_copy.proofs.Steps.{same-state}
 use Rattle.trailing_copy.proofs.stack.CopyStack.arrive_early.Goals as goal

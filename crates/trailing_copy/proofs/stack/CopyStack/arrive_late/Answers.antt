@@ -1,8 +1,8 @@
-use Rattle.std.proofs.Common.{◌≡◌, ◌∙◌, ◌+◌, ◌<◌, ◌≤◌, ap, sym, length, arith}
+use Rattle.std.proofs.Common.{◌∙◌, sym, arith}
 use Rattle.executed_list.proofs.Grown.{grown-push}
 use Rattle.trailing_copy.proofs.Arriving.{late-change, late-put}
 use Rattle.trailing_copy.proofs.Steps.{same-state}
-use Rattle.trailing_copy.proofs.Remade.{room-before, ends-at, given, runs-remade, kept-remade, world-many, run-many}
+use Rattle.trailing_copy.proofs.Remade.{room-before, ends-at, given, runs-remade, kept-remade}
 use Rattle.trailing_copy.proofs.stack.CopyStack.arrive_late.Goals as goal
 
 pub push-requires : goal.push-requires

@@ -1,9 +1,5 @@
-use Rattle.std.proofs.Common.{◌≡◌, ◌∙◌, ◌+◌, ◌<◌, ◌≤◌, ap, sym, List, set, length, arith}
-use Rattle.game_trait.specs.declared.command.Item.{Item}
-use Rattle.game_trait.specs.Ordered.{tick_of, ordered}
-use Rattle.game_trait.specs.Run.{world_of}
-use Rattle.executed_list.specs.Segments.{run_grown}
-use Rattle.trailing_copy.proofs.Steps.{apart-change, apart-put, apart-repaired, handed-world, one-tick, same-state, ticked-world}
+use Rattle.std.proofs.Common.{◌∙◌, sym}
+use Rattle.trailing_copy.proofs.Steps.{apart-change, apart-put, apart-repaired, handed-world, same-state}
 use Rattle.trailing_copy.proofs.Remade.{room-before, ends-at, given, runs-remade, kept-remade}
 use Rattle.trailing_copy.proofs.stack.CopyStack.commit_apart.Goals as goal
 

@@ -1,4 +1,4 @@
-use Rattle.std.proofs.Common.{◌≡◌, ◌∙◌, ◌<◌, ◌≤◌, ap, sym, arith, length}
+use Rattle.std.proofs.Common.{◌∙◌, arith}
 use Rattle.trailing_copy.proofs.Remade.{run-many, end-inside}
 use Rattle.trailing_copy.proofs.Running.{none-stands, none-told, test-same}
 use Rattle.trailing_copy.proofs.stack.CopyStack.is_front.Goals as goal

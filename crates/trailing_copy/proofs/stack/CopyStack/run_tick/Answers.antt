@@ -1,4 +1,4 @@
-use Rattle.std.proofs.Common.{◌≡◌, ◌∙◌, sym}
+use Rattle.std.proofs.Common.{◌∙◌, sym}
 use Rattle.trailing_copy.proofs.stack.CopyStack.run_tick.Goals as goal
 
 pub tick_front-requires-clause-front : goal.tick_front-requires-clause-front

@@ -1,9 +1,8 @@
-use Rattle.std.proofs.Common.{◌≡◌, ◌∙◌, ◌+◌, ◌<◌, ◌≤◌, ap, sym, List, set, length, arith}
+use Rattle.std.proofs.Common.{◌∙◌, ap, sym, List, length, arith}
 use Rattle.game_trait.specs.declared.command.Item.{Item}
-use Rattle.game_trait.specs.Ordered.{tick_of, ordered}
 use Rattle.game_trait.specs.Run.{world_of}
 use Rattle.executed_list.specs.Segments.{run_grown}
-use Rattle.trailing_copy.proofs.Steps.{apart-change, apart-put, apart-repaired, handed-world, one-tick, same-state, ticked-world}
+use Rattle.trailing_copy.proofs.Steps.{apart-change, apart-put, apart-repaired, one-tick, same-state, ticked-world}
 use Rattle.trailing_copy.proofs.Remade.{room-before, ends-at, given, runs-remade, kept-remade}
 use Rattle.trailing_copy.proofs.stack.CopyStack.tick_apart.Goals as goal
 

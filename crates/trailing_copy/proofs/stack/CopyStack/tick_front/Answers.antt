@@ -1,6 +1,4 @@
-use Rattle.std.proofs.Common.{◌≡◌, ◌∙◌, ap, sym, arith, ◌+◌, ◌-◌, ◌<◌, ◌≤◌, length}
-use Rattle.game_trait.specs.Ordered.{tick_of}
-use Rattle.game_trait.specs.Run.{world_of}
+use Rattle.std.proofs.Common.{arith, ◌-◌}
 use Rattle.trailing_copy.proofs.Steps.{same-state, ticked-world, own-world}
 use Rattle.trailing_copy.proofs.Remade.{run-many, end-inside}
 use Rattle.trailing_copy.proofs.Running.{front-fits, front-runs, front-kept}
