@@ -5,3 +5,4 @@ pub mod Events
 pub mod OnWay
 pub mod Whole
 pub mod Ends
+pub mod Headline

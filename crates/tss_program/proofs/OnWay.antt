@@ -17,6 +17,8 @@ use Rattle.game_trait.specs.Events.{is_arrival, is_restagger}
 use Rattle.sync_model.specs.History.{HasRoomAlong}
 use Rattle.sync_model.specs.Turns.{turn_events}
 use Rattle.sync_model.specs.Legal.{NamesWhatIsThere}
+use Rattle.sync_model.specs.Staggered.{IsStaggered}
+use Rattle.sync_model.proofs.Staggered.{staggered-opening}
 use Rattle.sync_model.proofs.Cases.{after-fixed}
 use Rattle.sync_model.proofs.History.{after-append}
 use Rattle.match_file.specs.Data.{MatchData, IsCommand, IsMatch, IsScriptLine}
@@ -44,13 +46,25 @@ pub record AllOnWay {W : Type 0} (m : MatchData) (opening : W) (ls : List Script
 
 -- ---- one mirror
 
-opening-copies : {W : Type 0} (m : MatchData) (opening : W) (i : ℕ) → length (opening_mirror opening m i).runs ≡ length m.delays
+pub opening-copies : {W : Type 0} (m : MatchData) (opening : W) (i : ℕ) → length (opening_mirror opening m i).runs ≡ length m.delays
 unfolding opening_mirror
 opening-copies m opening i = length-map m.delays (λ delay. [])
 
-opening-length : {W : Type 0} (m : MatchData) (opening : W) (i : ℕ) → (opening_mirror opening m i).length ≡ m.length
+pub opening-length : {W : Type 0} (m : MatchData) (opening : W) (i : ℕ) → (opening_mirror opening m i).length ≡ m.length
 unfolding opening_mirror
 opening-length m opening i = refl
+
+pub opening-history : {W : Type 0} (m : MatchData) (opening : W) (i : ℕ) → (opening_mirror opening m i).history ≡ []
+unfolding opening_mirror
+opening-history m opening i = refl
+
+opening-plans : {W : Type 0} (m : MatchData) (opening : W) (i : ℕ) → (opening_mirror opening m i).plans ≡ m.delays ∷ []
+unfolding opening_mirror
+opening-plans m opening i = refl
+
+pub opening-staggered : {W : Type 0} (m : MatchData) (opening : W) (i : ℕ) → IsStaggered (opening_mirror opening m i)
+unfolding opening_mirror
+opening-staggered m opening i = staggered-opening opening m.length (m.delays ∷ []) (times (arrives_at i) m.script) 0
 
 opening-spare : {W : Type 0} (m : MatchData) (opening : W) (i : ℕ) → (opening_mirror opening m i).spare ≡ times (arrives_at i) m.script
 unfolding opening_mirror
@@ -63,6 +77,10 @@ way-copies {W} m opening i ls s way =
 pub way-length : {W : Type 0} (m : MatchData) (opening : W) (i : ℕ) (ls : List ScriptLine) (s : MirrorState W) → OnWay m opening i ls s → s.length ≡ m.length
 way-length {W} m opening i ls s way =
     ap (λ (t : MirrorState W). t.length) way.reached ∙ (after-fixed way.es (opening_mirror opening m i)).length ∙ opening-length m opening i
+
+pub way-plans : {W : Type 0} (m : MatchData) (opening : W) (i : ℕ) (ls : List ScriptLine) (s : MirrorState W) → OnWay m opening i ls s → s.plans ≡ m.delays ∷ []
+way-plans {W} m opening i ls s way =
+    ap (λ (t : MirrorState W). t.plans) way.reached ∙ (after-fixed way.es (opening_mirror opening m i)).plans ∙ opening-plans m opening i
 
 pub way-room : {W : Type 0} (m : MatchData) (opening : W) (i : ℕ) (ls : List ScriptLine) (s : MirrorState W) → OnWay m opening i ls s → times (arrives_at i) ls ≤ s.spare
 way-room {W} m opening i ls s way =
@@ -238,7 +256,7 @@ pub record IsNext {W : Type 0} (m : MatchData) (l : ScriptLine) (mirrors : List 
   pub fits : (d : MirrorState W) → let s = get_or mirrors (mirror_of l) d in AllByRecursion (Fits s) (events_of m.commands (length s.runs) l)
   pub room : (d : MirrorState W) → let s = get_or mirrors (mirror_of l) d in HasRoomAlong s (events_of m.commands (length s.runs) l)
 
-line-mirror : (m : MatchData) (l : ScriptLine) → IsScriptLine m l → mirror_of l < m.mirrors
+pub line-mirror : (m : MatchData) (l : ScriptLine) → IsScriptLine m l → mirror_of l < m.mirrors
 line-mirror m (lines.Tick mirror) here = here
 line-mirror m (lines.Turn mirror) here = here
 line-mirror m (lines.Arrive mirror from number) here = here.0
