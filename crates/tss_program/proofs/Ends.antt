@@ -15,13 +15,13 @@ use Rattle.tss_io.specs.Streams.{Rose}
 use Rattle.arena_rules.specs.World.{opening_world, arena_rules}
 use Rattle.run_recorder.specs.declared.log.MirrorLog.{MirrorLog}
 use Rattle.match_file.specs.Reading.{read_text}
-use Rattle.match_file.proofs.MatchLaws.{read_text-match_text}
+use Rattle.match_file.proofs.MatchLaws.{read_text-match_text, match_text-read_text}
 use Rattle.tss_program.specs.declared.subcommand.Subcommand.{Subcommand}
 use Rattle.tss_program.specs.declared.subcommand.Subcommand.TheVariants.{Order, Play}
 use Rattle.tss_program.specs.declared.status.Status.{Status}
 use Rattle.tss_program.specs.declared.status.Status.TheVariants.{Complete, WrongWords, Refusal}
 use Rattle.tss_program.specs.Subcommands.{subcommand_of}
-use Rattle.tss_program.specs.Due.{Due, IsDue, usage, match, refusal, due_of_match, usage_due, refusal_due, code, text_limit, IsNoMatch, refusal_of}
+use Rattle.tss_program.specs.Due.{Due, IsDue, usage, match, refusal, due_of_match, usage_due, refusal_due, usage_text, refused_text, code, text_limit, IsNoMatch, refusal_of}
 use Rattle.tss_program.proofs.Headline.{played-AllPlayed}
 use Rattle.tss_io.specs.declared.faults.ReadFault.{ReadFault}
 use Rattle.tss_io.specs.declared.faults.ReadFault.TheVariants as reads
@@ -294,3 +294,138 @@ ends-IsRun words old new status kept e wrong read_steady write_steady whole fron
     no-stop : (status : ℕ) → (status ≡ 1 → ⊥) → (status ≡ 3 → ⊥) → (status ≡ 1) ⊎ (status ≡ 3) → ⊥
     no-stop status one three (inl e) = one e
     no-stop status one three (inr e) = three e
+
+-- ---- each end of a run
+
+-- something is due for any words and input
+some-due : (words : List (List ℕ)) (input : List ℕ) → (due : Due) × IsDue words input due
+some-due words input = asked (subcommand_of words) refl
+  where
+    read : (subcommand : Subcommand) → subcommand_of words ≡ Some subcommand → (r : Result MatchData Refused) → read_text input ≡ r → (due : Due) × IsDue words input due
+    read subcommand said (Ok m) is =
+        (let found = match_text-read_text input m is in (due_of_match subcommand m, match subcommand m said found.0 found.1 refl))
+    read subcommand said (Err e) is =
+        (refusal_due (refusal_of input), refusal subcommand said (λ m plain text. never m (sym (read_text-match_text m plain) ∙ ap read_text (sym text) ∙ is)) refl)
+      where
+        never : (m : MatchData) → same_result m ≡ Err e → ⊥
+        never m h = absurd cc
+    asked : (o : Option Subcommand) → subcommand_of words ≡ o → (due : Due) × IsDue words input due
+    asked None none = (usage_due, usage none refl)
+    asked (Some subcommand) said = read subcommand said (read_text input) refl
+
+pub run-usage :
+    (words : List (List ℕ)) (old new : Streams) (status : ℕ) (kept : List MirrorLog) → subcommand_of words ≡ None
+    → IsPut WrongWords usage_text [] (new.write_faults ≡ old.write_faults) (Rose old.write_faults new.write_faults) old.taken new.taken status kept
+    → new.left ≡ old.left → new.reads ≡ old.reads → new.read_faults ≡ old.read_faults → IsRun words old new status kept
+run-usage words old new status kept none put same calls faults =
+    let input = some-input old.left in
+    ends-IsRun words old new status kept
+    (record { input = input.0; told = input.1; due = usage_due; is_due = usage none refl; ends = put-ends usage_due old new status kept put })
+    (λ h. put-status WrongWords usage_text [] kept _ _ old.taken new.taken status put (λ e steady. inl e) (λ e. inr e))
+    (inr faults)
+    (put-status WrongWords usage_text [] kept _ _ old.taken new.taken status put (λ e steady. inr steady) (λ e. inl e))
+    (λ when. absurd (put-status WrongWords usage_text [] kept _ _ old.taken new.taken status put
+        (λ e steady. no-five_or_zero 2 status refl refl e when) (λ e. no-five_or_zero 4 status refl refl e when)))
+    ([], omega arith, subst (λ (l : Option (List ℕ)). Yields old.left [] l) (sym same) (Yields-none old.left))
+    (omega arith)
+  where
+    no-five_or_zero : (n status : ℕ) → nat_eq n 0 ≡ false → nat_eq n 5 ≡ false → status ≡ n → (status ≡ 0) ⊎ (status ≡ 5) → ⊥
+    no-five_or_zero n status zero five is (inl e) = not n 0 status zero is e
+    no-five_or_zero n status zero five is (inr e) = not n 5 status five is e
+
+pub run-answered :
+    (words : List (List ℕ)) (old new : Streams) (status : ℕ) (kept : List MirrorLog) (subcommand : Subcommand) (m : MatchData) (text : List ℕ) (logs : List MirrorLog)
+    → subcommand_of words ≡ Some subcommand → IsPlain m → IsInput old.left (match_text m)
+    → text ≡ (due_of_match subcommand m).text → logs ≡ (due_of_match subcommand m).kept
+    → IsPut Complete text logs (new.write_faults ≡ old.write_faults) (Rose old.write_faults new.write_faults) old.taken new.taken status kept
+    → new.read_faults ≡ old.read_faults → new.left ≡ behind_limit old.left
+    → (front : List ℕ) × (length front ≤ text_limit + 1) × Yields old.left front new.left
+    → new.reads ≤ old.reads + (text_limit + 1) → IsRun words old new status kept
+run-answered words old new status kept subcommand m text logs said plain told is are put steady left front reads =
+    let due = due_of_match subcommand m in
+    let done : (s : Subcommand) → Complete ≡ (due_of_match s m).status = complete m in
+    let same = subst (λ (l : List ℕ). IsPut Complete l logs (new.write_faults ≡ old.write_faults) (Rose old.write_faults new.write_faults) old.taken new.taken status kept) is put in
+    let all = subst (λ (l : List MirrorLog). IsPut Complete due.text l (new.write_faults ≡ old.write_faults) (Rose old.write_faults new.write_faults) old.taken new.taken status kept) are same in
+    let whole = subst (λ (s : Status). IsPut s due.text due.kept (new.write_faults ≡ old.write_faults) (Rose old.write_faults new.write_faults) old.taken new.taken status kept) (done subcommand) all in
+    ends-IsRun words old new status kept
+    (record { input = match_text m; told = told; due = due; is_due = match subcommand m said plain refl refl; ends = put-ends due old new status kept whole })
+    (λ none. no_subcommand words subcommand none said)
+    (inr steady)
+    (put-status Complete text logs kept _ _ old.taken new.taken status put (λ e same. inr same) (λ e. inl e))
+    (λ when. left) front reads
+  where
+    complete : (m : MatchData) (s : Subcommand) → Complete ≡ (due_of_match s m).status
+    complete m Order = refl
+    complete m Play = refl
+
+pub run-refused :
+    (words : List (List ℕ)) (old new : Streams) (status : ℕ) (kept : List MirrorLog) (subcommand : Subcommand) (refused : Refused)
+    → subcommand_of words ≡ Some subcommand → RefusesText old.left refused
+    → IsPut Refusal (refused_text refused) [] (new.write_faults ≡ old.write_faults) (Rose old.write_faults new.write_faults) old.taken new.taken status kept
+    → new.read_faults ≡ old.read_faults → new.left ≡ behind_limit old.left
+    → (front : List ℕ) × (length front ≤ text_limit + 1) × Yields old.left front new.left
+    → new.reads ≤ old.reads + (text_limit + 1) → IsRun words old new status kept
+run-refused words old new status kept subcommand refused said refuses put steady left front reads =
+    let due = refusal_due (refusal_of refuses.input) in
+    let whole = subst (λ (r : Refused). IsPut Refusal (refused_text r) [] (new.write_faults ≡ old.write_faults) (Rose old.write_faults new.write_faults) old.taken new.taken status kept) refuses.cause put in
+    ends-IsRun words old new status kept
+    (record { input = refuses.input; told = refuses.told; due = due; is_due = refusal subcommand said refuses.no_match refl; ends = put-ends due old new status kept whole })
+    (λ none. no_subcommand words subcommand none said)
+    (inr steady)
+    (put-status Refusal (refused_text refused) [] kept _ _ old.taken new.taken status put (λ e same. inr same) (λ e. inl e))
+    (λ when. left) front reads
+
+pub run-stopped :
+    (words : List (List ℕ)) (old new : Streams) (status : ℕ) (kept : List MirrorLog) (subcommand : Subcommand)
+    → subcommand_of words ≡ Some subcommand → (status ≡ 1) ⊎ ((status ≡ 3) × Rose old.read_faults new.read_faults) → kept ≡ []
+    → new.taken ≡ old.taken → new.write_faults ≡ old.write_faults → (status ≡ 3) ⊎ (new.read_faults ≡ old.read_faults)
+    → (front : List ℕ) × (length front ≤ text_limit + 1) × Yields old.left front new.left
+    → new.reads ≤ old.reads + (text_limit + 1) → IsRun words old new status kept
+run-stopped words old new status kept subcommand said why nothing taken faults steady front reads =
+    let input = some-input old.left in
+    let due = some-due words input.0 in
+    let silent = subst (λ (l : Option (List ℕ)). Gains old.taken [] l) (sym taken) (Gains-none old.taken) in
+    ends-IsRun words old new status kept
+    (record { input = input.0; told = input.1; due = due.0; is_due = due.1; ends = ends due.0 silent why })
+    (λ none. no_subcommand words subcommand none said)
+    steady (inr faults) (λ when. absurd (later why when)) front reads
+  where
+    ends : (due : Due) → Gains old.taken [] new.taken → (status ≡ 1) ⊎ ((status ≡ 3) × Rose old.read_faults new.read_faults) → EndsWith due old new status kept
+    ends due silent (inl one) = inl (one, nothing, silent)
+    ends due silent (inr three) = inr (inl (three.0, three.1, nothing, silent))
+    later : (status ≡ 1) ⊎ ((status ≡ 3) × Rose old.read_faults new.read_faults) → (status ≡ 0) ⊎ (status ≡ 5) → ⊥
+    later (inl one) (inl e) = not 1 0 status refl one e
+    later (inl one) (inr e) = not 1 5 status refl one e
+    later (inr three) (inl e) = not 3 0 status refl three.0 e
+    later (inr three) (inr e) = not 3 5 status refl three.0 e
+
+-- where no read failed, the count of faults is as it was
+pub steady-ok : {T : Type 0} (r : Result T Stop) (x : T) (P : Type 0) → r ≡ Ok x → (r ≡ Err stops.ReadFault) ⊎ P → P
+steady-ok r x P is (inl failed) = absurd (let never = sym is ∙ failed in cc)
+steady-ok r x P is (inr same) = same
+
+pub steady-refused : {T : Type 0} (r : Result T Stop) (refused : Refused) (P : Type 0) → r ≡ Err (stops.Refused refused) → (r ≡ Err stops.ReadFault) ⊎ P → P
+steady-refused r refused P is (inl failed) = absurd (let never = sym is ∙ failed in cc)
+steady-refused r refused P is (inr same) = same
+
+pub steady-memory : {T : Type 0} (r : Result T Stop) (P : Type 0) → r ≡ Err stops.NoMemory → (r ≡ Err stops.ReadFault) ⊎ P → P
+steady-memory r P is (inl failed) = absurd (let never = sym is ∙ failed in cc)
+steady-memory r P is (inr same) = same
+
+-- what was put, by another name of the text and of the logs
+pub put-same :
+    (due : Status) (bytes text : List ℕ) (logs others : List MirrorLog) (steady fault : Type 0) (old new : Option (List ℕ)) (status : ℕ) (kept : List MirrorLog)
+    → bytes ≡ text → logs ≡ others → IsPut due bytes logs steady fault old new status kept → IsPut due text others steady fault old new status kept
+put-same due bytes text logs others steady fault old new status kept same are put =
+    subst (λ (ls : List MirrorLog). IsPut due text ls steady fault old new status kept) are
+    (subst (λ (l : List ℕ). IsPut due l logs steady fault old new status kept) same put)
+
+-- why there is no match, by the stop that it is
+pub why-refused : (left : Option (List ℕ)) (R : Type 0) (stop : Stop) (refused : Refused) → stop ≡ stops.Refused refused → WhyStopped left R stop → RefusesText left refused
+why-refused left R stop refused is why = subst (WhyStopped left R) is why
+
+pub why-failed : (left : Option (List ℕ)) (R : Type 0) (stop : Stop) → stop ≡ stops.ReadFault → WhyStopped left R stop → R
+why-failed left R stop is why = subst (WhyStopped left R) is why
+
+pub refused-at : (stop : Stop) (refused : Refused) (P : Type 0) → stop ≡ stops.Refused refused → IfRefused stop P → P
+refused-at stop refused P is p = subst (λ (s : Stop). IfRefused s P) is p

@@ -3,7 +3,7 @@
 ghost use Rattle.std.specs.Prelude.{◌≡◌, ◌≢◌, ◌≤◌, ◌<◌, ◌+◌, ◌⊎◌, ℕ, List, [], None, Some, map, length, take, drop, IfSome, IfOk, OnOk, IfErr, IsErrOf, option_map};
 ghost use Rattle.std.specs.String.{string_bytes};
 ghost use Rattle.std.specs.IoError.{error_kind};
-ghost use Rattle.std.specs.declared.io.ErrorKind.TheVariants as kinds;
+ghost use Rattle.std.specs.declared.io.ErrorKind.TheVariants.{OutOfMemory};
 ghost use Rattle.tss_io.specs.Streams.{Rose, Yields, Gains};
 ghost use Rattle.match_file.specs.Data.{MatchData, IsPlain};
 ghost use Rattle.match_file.specs.Text.{match_text};
@@ -112,8 +112,8 @@ pub fn run_arguments<S: Source, K: Sink>(
         IfOk arguments (λ all. IsRun (drop 1 (map string_bytes all.items)) old new result.status result.kept) }
     ensures no_text { let old : Streams = record { left = S.left source.old; read_faults = S.faults source.old; reads = S.calls source.old; taken = K.taken sink.old; write_faults = K.faults sink.old } in
         let new : Streams = record { left = S.left source.new; read_faults = S.faults source.new; reads = S.calls source.new; taken = K.taken sink.new; write_faults = K.faults sink.new } in
-        IfErr arguments (λ fault. error_kind fault ≢ kinds.OutOfMemory → IsRun [] old new result.status result.kept) }
-    ensures no_memory { IfErr arguments (λ fault. error_kind fault ≡ kinds.OutOfMemory
+        IfErr arguments (λ fault. error_kind fault ≢ OutOfMemory → IsRun [] old new result.status result.kept) }
+    ensures no_memory { IfErr arguments (λ fault. error_kind fault ≡ OutOfMemory
         → (result.status ≡ 1) × (result.kept ≡ []) × (source.new ≡ source.old) × (sink.new ≡ sink.old)) }
 {
     match arguments {
