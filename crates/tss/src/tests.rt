@@ -3,10 +3,10 @@
 
 mod arena;
 mod commands;
-mod counting_game;
+// mod counting_game;
 mod delays;
 mod match_texts;
-mod mirror;
-mod plain_mirror;
+// mod mirror;
+// mod plain_mirror;
 mod program;
 mod tss_io_tests;

@@ -3,7 +3,7 @@ use Rattle.std.proofs.Common.{◌≡◌, false, lit≤, ℕ, ◌+◌, ◌<◌, �
 use Rattle.std.specs.Prelude.{IfSome, IfErr, option_map, nat_eq}
 use Rattle.std.proofs.lemmas.Bool.Decides.{nat_tests}
 use Rattle.std.specs.Result.{IsErrAnd}
-use Rattle.std.proofs.lemmas.List.{append-nil, drop_all}
+use Rattle.std.proofs.lemmas.List.{append-nil, drop_all, length-append, length-take-le}
 use Rattle.std.proofs.Math.Seq.{drop-append_seam}
 use Rattle.tss_io.specs.Streams.{Gains, Yields}
 use Rattle.tss_io.proofs.Streams.{Gains-none, Yields-none}
@@ -125,7 +125,7 @@ abbrev same_result : MatchData → Result MatchData Refused
 same_result m = Ok m
 
 -- a match has one text
-match_text-injective : (m n : MatchData) → IsPlain m → IsPlain n → match_text m ≡ match_text n → m ≡ n
+pub match_text-injective : (m n : MatchData) → IsPlain m → IsPlain n → match_text m ≡ match_text n → m ≡ n
 match_text-injective m n plain other same =
     (let read : same_result m ≡ same_result n = sym (read_text-match_text m plain) ∙ ap read_text same ∙ read_text-match_text n other in cc)
 
@@ -298,7 +298,7 @@ ends-IsRun words old new status kept e wrong read_steady write_steady whole fron
 -- ---- each end of a run
 
 -- something is due for any words and input
-some-due : (words : List (List ℕ)) (input : List ℕ) → (due : Due) × IsDue words input due
+pub some-due : (words : List (List ℕ)) (input : List ℕ) → (due : Due) × IsDue words input due
 some-due words input = asked (subcommand_of words) refl
   where
     read : (subcommand : Subcommand) → subcommand_of words ≡ Some subcommand → (r : Result MatchData Refused) → read_text input ≡ r → (due : Due) × IsDue words input due
@@ -429,3 +429,32 @@ why-failed left R stop is why = subst (WhyStopped left R) is why
 
 pub refused-at : (stop : Stop) (refused : Refused) (P : Type 0) → stop ≡ stops.Refused refused → IfRefused stop P → P
 refused-at stop refused P is p = subst (λ (s : Stop). IfRefused s P) is p
+
+-- ---- laws
+
+pub one-due : (words : List (List ℕ)) (input : List ℕ) (a b : Due) → IsDue words input a → IsDue words input b → a ≡ b
+one-due words input a b (usage none is) (usage also its) = is ∙ sym its
+one-due words input a b (usage none is) (match s m said plain text its) = no_subcommand words s none said
+one-due words input a b (usage none is) (refusal s said lacks its) = no_subcommand words s none said
+one-due words input a b (match s m said plain text is) other = is ∙ sym (due-of_match words input b s m other said plain text)
+one-due words input a b (refusal s said lacks is) (usage none its) = no_subcommand words s none said
+one-due words input a b (refusal s said lacks is) (match t m also plain text its) = absurd (lacks m plain text)
+one-due words input a b (refusal s said lacks is) (refusal t also none its) = is ∙ sym its
+
+gained-less : (bytes text : List ℕ) (old new : Option (List ℕ)) (n : ℕ) → old ≡ Some bytes → new ≡ Some (bytes ++ text) → n < length text → Gains old (take n text) new → ⊥
+gained-less bytes text old new n first then less gains =
+    (let same : bytes ++ text ≡ bytes ++ take n text = subst (λ (o : Option (List ℕ)). Gains (Some bytes) (take n text) o) then (subst (λ (o : Option (List ℕ)). Gains o (take n text) new) first gains) in
+    let long = ap length same in
+    let whole = length-append bytes text in
+    let front = length-append bytes (take n text) in
+    let short = length-take-le n text in
+    omega arith)
+
+pub whole-no_fault :
+    (words : List (List ℕ)) (input bytes : List ℕ) (due : Due) (old new : Streams) (kept : List MirrorLog) → IsDue words input due
+    → old.taken ≡ Some bytes → new.taken ≡ Some (bytes ++ due.text) → EndsWith due old new 4 kept → ⊥
+whole-no_fault words input bytes due old new kept is first then (inl out) = not 4 1 4 refl refl out.0
+whole-no_fault words input bytes due old new kept is first then (inr (inl unread)) = not 4 3 4 refl refl unread.0
+whole-no_fault words input bytes due old new kept is first then (inr (inr (inl unwritten))) =
+    gained-less bytes due.text old.taken new.taken unwritten.3.0 first then unwritten.3.1 unwritten.3.2
+whole-no_fault words input bytes due old new kept is first then (inr (inr (inr done))) = due-no 4 words input due is refl refl refl 4 done.0 refl

@@ -1,14 +1,19 @@
 -- Each mirror of a match that is played keeps the headline's promise.
-use Rattle.std.proofs.Common.{◌≡◌, ℕ, zero, suc, ◌+◌, ◌≤◌, ◌<◌, List, [], ◌∷◌, ◌++◌, length, get_or, map, take, refl, ap, sym, ◌∙◌, subst, arith}
+use Rattle.std.proofs.Common.{◌≡◌, ℕ, zero, suc, ◌+◌, ◌≤◌, ◌<◌, List, [], ◌∷◌, ◌++◌, length, get_or, map, take, refl, ap, sym, ◌∙◌, ◌↔◌, false, subst, append-nil, arith}
 use Rattle.std.specs.List.{AllByRecursion}
+use Rattle.std.proofs.Math.Seq.{take-append_seam}
+use Rattle.game_trait.specs.declared.command.Command.{Command}
 use Rattle.game_trait.specs.declared.event.Event.{Event}
+use Rattle.game_trait.specs.declared.event.Event.TheVariants.{Arrive}
+use Rattle.game_trait.specs.declared.event.Reply.TheVariants.{Arrive as ToArrive}
+use Rattle.game_trait.specs.declared.event.Arrived.TheVariants.{Late}
 use Rattle.game_trait.specs.Game.{Rules}
 use Rattle.game_trait.specs.Run.{world_of}
 use Rattle.game_trait.specs.Ordered.{time_ordered}
 use Rattle.game_trait.proofs.KeyOrder.{all-weaker}
 use Rattle.sync_model.specs.Schedule.{DelaysRise}
-use Rattle.sync_model.specs.State.{MirrorState, delays_of}
-use Rattle.sync_model.specs.Change.{after, Fits}
+use Rattle.sync_model.specs.State.{MirrorState, delays_of, last_clock}
+use Rattle.sync_model.specs.Change.{said, after, is_repeat, Fits}
 use Rattle.sync_model.specs.Staggered.{IsStaggered}
 use Rattle.sync_model.specs.History.{changing}
 use Rattle.sync_model.specs.Turns.{turns_of, IsDrained, drain}
@@ -123,3 +128,27 @@ played-AllPlayed {W} rules m opening sound =
     let all = all-script m opening m.script (opening_mirrors opening m) sound.script (all-opening m opening) in
     ways-AllPlayed rules m opening (scripted opening m) 0 sound
     (λ j d below. (let same : j ≡ 0 + j = omega arith in subst (λ (k : ℕ). OnWay m opening k [] (get_or (scripted opening m) j d)) same (all.each j d below)))
+
+-- ---- what being played comes to
+
+pub played-front :
+    {W : Type 0} (rules : Rules W) (m : MatchData) (start end : MirrorState W) (log front rest : List Event)
+    → IsPlayed rules m start end log → log ≡ front ++ rest → IsStaggered (after start front)
+played-front {W} rules m start end log front rest played whole =
+    let at : take (length front) log ≡ front = ap (λ (l : List Event). take (length front) l) whole ∙ take-append_seam front rest in
+    subst (λ (l : List Event). IsStaggered (after start l)) at (played.staggered (length front))
+
+pub played-end : {W : Type 0} (rules : Rules W) (m : MatchData) (start end : MirrorState W) (log : List Event) → IsPlayed rules m start end log → IsStaggered end
+played-end rules m start end log played = subst IsStaggered played.leads (played-front rules m start end log log [] played (sym (append-nil log)))
+
+pub played-late :
+    {W : Type 0} (rules : Rules W) (m : MatchData) (start end : MirrorState W) (log front rest : List Event) (x : Command)
+    → IsPlayed rules m start end log → log ≡ front ++ Arrive x ∷ rest
+    → (said (after start front) (Arrive x) ≡ ToArrive (Late (last_clock (after start front).runs)))
+    ↔ ((is_repeat (after start front) x ≡ false) × (x.time < last_clock (after start front).runs))
+played-late {W} rules m start end log front rest x played whole =
+    let at : take (length front) log ≡ front = ap (λ (l : List Event). take (length front) l) whole ∙ take-append_seam front (Arrive x ∷ rest) in
+    let late = subst (λ (l : List Event). (bound : ℕ) → (said (after start l) (Arrive x) ≡ ToArrive (Late bound))
+        ↔ ((is_repeat (after start l) x ≡ false) × (x.time < last_clock (after start l).runs) × (bound ≡ last_clock (after start l).runs)))
+        at (λ bound. played.late (length front) x bound) (last_clock (after start front).runs) in
+    (λ h. (let k = late.0 h in (k.0, k.1)), λ h. late.1 (h.0, h.1, refl))

@@ -55,22 +55,63 @@ const LATE_ORDERED: &str = "order 6\nlive ann 2 0 s 3 5 0\ndone\n";
 const LATE_PLAYED: &str =
     "repeat 0 0 0\nlate 0 0 2 5\nmirror 0 accepted 2 turned 1 repairs 0\nworld 0 0 6\nlive ann 2 0 e 3 5 0\ndone\n";
 
+// The arrivals of these matches.
+const ARRIVES_GO_AT_1: Event = Event::Arrive(Command {
+    time: 1,
+    from: 0,
+    number: 0,
+    player: 0,
+    act: Act::Go,
+});
+
+const ARRIVES_GO_AT_2: Event = Event::Arrive(Command {
+    time: 2,
+    from: 0,
+    number: 0,
+    player: 0,
+    act: Act::Go,
+});
+
+const ARRIVES_GO_AT_3: Event = Event::Arrive(Command {
+    time: 3,
+    from: 0,
+    number: 1,
+    player: 0,
+    act: Act::Go,
+});
+
+const ARRIVES_RIGHT_AT_4: Event = Event::Arrive(Command {
+    time: 4,
+    from: 0,
+    number: 2,
+    player: 0,
+    act: Act::Right,
+});
+
+const ARRIVES_RIGHT_AT_800: Event = Event::Arrive(Command {
+    time: 800,
+    from: 0,
+    number: 7,
+    player: 0,
+    act: Act::Right,
+});
+
 const LATE_LOG: [Event; 17] = [
     Event::Tick,
     Event::Tick,
-    arrival(3, 1, Act::Go),
+    ARRIVES_GO_AT_3,
     Event::Tick,
     Event::Step(0),
-    arrival(1, 0, Act::Go),
-    Event::Tick,
-    Event::Step(0),
-    Event::Tick,
-    Event::Step(0),
+    ARRIVES_GO_AT_1,
     Event::Tick,
     Event::Step(0),
     Event::Tick,
     Event::Step(0),
-    arrival(4, 2, Act::Right),
+    Event::Tick,
+    Event::Step(0),
+    Event::Tick,
+    Event::Step(0),
+    ARRIVES_RIGHT_AT_4,
     Event::Tick,
     Event::Step(0),
 ];
@@ -82,8 +123,8 @@ const LATE_BY_ONE_LOG: [Event; 10] = [
     Event::Step(0),
     Event::Tick,
     Event::Step(0),
-    arrival(2, 0, Act::Go),
-    arrival(2, 0, Act::Go),
+    ARRIVES_GO_AT_2,
+    ARRIVES_GO_AT_2,
     Event::Tick,
     Event::Step(0),
 ];
@@ -93,23 +134,12 @@ const IN_TIME_LOG: [Event; 9] = [
     Event::Step(0),
     Event::Tick,
     Event::Step(0),
-    arrival(2, 0, Act::Go),
+    ARRIVES_GO_AT_2,
     Event::Tick,
     Event::Step(0),
     Event::Tick,
     Event::Step(0),
 ];
-
-// The arrival of a command of mirror 0 and player 0.
-const fn arrival(time: u32, number: u32, act: Act) -> Event {
-    Event::Arrive(Command {
-        time,
-        from: 0,
-        number,
-        player: 0,
-        act,
-    })
-}
 
 // What a run is given, and how it has to end. A read gives at most 16 bytes, a put takes at most 8.
 #[derive(Clone, Copy)]
@@ -281,7 +311,7 @@ fn sink_of(alloc: Global, case: &Case) -> Result<MemSink, NoMemory> {
     MemSink::new(alloc, 4096, 8, calls(alloc, case.failing_put)?)
 }
 
-fn outcome(
+fn ended_so(
     alloc: Global,
     name: &'static str,
     done: &Done,
@@ -305,7 +335,7 @@ fn ended(alloc: Global, case: &Case) -> Result<Outcome, NoMemory> {
     let mut source = source_of(alloc, case)?;
     let mut sink = sink_of(alloc, case)?;
     let done = run_plain(alloc, words.as_slice(), &mut source, &mut sink);
-    outcome(alloc, case.name, &done, sink.taken())
+    ended_so(alloc, case.name, &done, sink.taken())
 }
 
 fn due(alloc: Global, case: &Case) -> Result<Outcome, NoMemory> {
@@ -375,7 +405,7 @@ fn a_sink_may_fail_anywhere(rt: HostRuntime) {
 // The events of a match whose copy lags far behind when its script ends.
 fn long_drain_log(alloc: Global) -> Result<Vec<Event>, NoMemory> {
     let mut events = Vec::new(alloc);
-    events.push(arrival(800, 7, Act::Right))?;
+    events.push(ARRIVES_RIGHT_AT_800)?;
     events.push(Event::Tick)?;
     for clock in 2..=940 {
         events.push(Event::Tick)?;
