@@ -27,7 +27,7 @@ use Rattle.tss_io.specs.declared.faults.ReadFault.{ReadFault}
 use Rattle.tss_io.specs.declared.faults.ReadFault.TheVariants as reads
 use Rattle.tss_program.specs.declared.stop.Stop.{Stop}
 use Rattle.tss_program.specs.declared.stop.Stop.TheVariants as stops
-use Rattle.tss_program.specs.Stops.{stop_of_read, stop_of_text}
+use Rattle.tss_program.specs.Stops.{stop_of_read}
 use Rattle.tss_program.specs.Run.{Streams, EndsWith, EndsAsDue, IsPut, Keeps, KeepsAMatch, IsRun, IsInput, behind_limit, RefusesText, WhyStopped, IfRefused}
 
 -- ---- what was read
@@ -278,19 +278,23 @@ ends-IsRun words old new status kept e wrong read_steady write_steady whole fron
     no-zero_or_four : (n status : ℕ) → nat_eq n 0 ≡ false → nat_eq n 4 ≡ false → status ≡ n → (status ≡ 0) ⊎ (status ≡ 4) → ⊥
     no-zero_or_four n status zero four is (inl e) = not n 0 status zero is e
     no-zero_or_four n status zero four is (inr e) = not n 4 status four is e
+
     kept-at : (due : Due) (old new : Streams) (status : ℕ) (kept : List MirrorLog) → EndsWith due old new status kept → (status ≡ 0) ⊎ (status ≡ 4) → kept ≡ due.kept
     kept-at due old new status kept ends when =
         by-status (kept ≡ due.kept) due old new status kept ends (λ h. absurd (no-zero_or_four 1 status refl refl h.0 when)) (λ h. absurd (no-zero_or_four 3 status refl refl h.0 when)) (λ h. h.2) (λ h. h.1)
+
     no-four : (status : ℕ) → status ≡ 4 → (status ≡ 1) ⊎ (status ≡ 2) ⊎ (status ≡ 3) ⊎ (status ≡ 5) → ⊥
     no-four status is (inl e) = not 4 1 status refl is e
     no-four status is (inr (inl e)) = not 4 2 status refl is e
     no-four status is (inr (inr (inl e))) = not 4 3 status refl is e
     no-four status is (inr (inr (inr e))) = not 4 5 status refl is e
+
     no-zero : (status : ℕ) → status ≡ 0 → (status ≡ 1) ⊎ (status ≡ 2) ⊎ (status ≡ 3) ⊎ (status ≡ 5) → ⊥
     no-zero status is (inl e) = not 0 1 status refl is e
     no-zero status is (inr (inl e)) = not 0 2 status refl is e
     no-zero status is (inr (inr (inl e))) = not 0 3 status refl is e
     no-zero status is (inr (inr (inr e))) = not 0 5 status refl is e
+
     no-stop : (status : ℕ) → (status ≡ 1 → ⊥) → (status ≡ 3 → ⊥) → (status ≡ 1) ⊎ (status ≡ 3) → ⊥
     no-stop status one three (inl e) = one e
     no-stop status one three (inr e) = three e
@@ -309,6 +313,7 @@ some-due words input = asked (subcommand_of words) refl
       where
         never : (m : MatchData) → same_result m ≡ Err e → ⊥
         never m h = absurd cc
+
     asked : (o : Option Subcommand) → subcommand_of words ≡ o → (due : Due) × IsDue words input due
     asked None none = (usage_due, usage none refl)
     asked (Some subcommand) said = read subcommand said (read_text input) refl
@@ -325,7 +330,7 @@ run-usage words old new status kept none put same calls faults =
     (inr faults)
     (put-status WrongWords usage_text [] kept _ _ old.taken new.taken status put (λ e steady. inr steady) (λ e. inl e))
     (λ when. absurd (put-status WrongWords usage_text [] kept _ _ old.taken new.taken status put
-        (λ e steady. no-five_or_zero 2 status refl refl e when) (λ e. no-five_or_zero 4 status refl refl e when)))
+    (λ e steady. no-five_or_zero 2 status refl refl e when) (λ e. no-five_or_zero 4 status refl refl e when)))
     ([], omega arith, subst (λ (l : Option (List ℕ)). Yields old.left [] l) (sym same) (Yields-none old.left))
     (omega arith)
   where
@@ -393,6 +398,7 @@ run-stopped words old new status kept subcommand said why nothing taken faults s
     ends : (due : Due) → Gains old.taken [] new.taken → (status ≡ 1) ⊎ ((status ≡ 3) × Rose old.read_faults new.read_faults) → EndsWith due old new status kept
     ends due silent (inl one) = inl (one, nothing, silent)
     ends due silent (inr three) = inr (inl (three.0, three.1, nothing, silent))
+
     later : (status ≡ 1) ⊎ ((status ≡ 3) × Rose old.read_faults new.read_faults) → (status ≡ 0) ⊎ (status ≡ 5) → ⊥
     later (inl one) (inl e) = not 1 0 status refl one e
     later (inl one) (inr e) = not 1 5 status refl one e

@@ -1,5 +1,5 @@
 -- Each mirror of a match that is played keeps the headline's promise.
-use Rattle.std.proofs.Common.{◌≡◌, ℕ, zero, suc, ◌+◌, ◌≤◌, ◌<◌, List, [], ◌∷◌, ◌++◌, length, get_or, map, take, refl, ap, sym, ◌∙◌, ◌↔◌, false, subst, append-nil, arith}
+use Rattle.std.proofs.Common.{◌≡◌, ℕ, zero, suc, ◌+◌, ◌<◌, List, [], ◌∷◌, ◌++◌, length, get_or, map, take, refl, ap, sym, ◌∙◌, ◌↔◌, false, subst, append-nil, arith}
 use Rattle.std.specs.List.{AllByRecursion}
 use Rattle.std.proofs.Math.Seq.{take-append_seam}
 use Rattle.game_trait.specs.declared.command.Command.{Command}
@@ -19,14 +19,12 @@ use Rattle.sync_model.specs.History.{changing}
 use Rattle.sync_model.specs.Turns.{turns_of, IsDrained, drain}
 use Rattle.sync_model.specs.Legal.{NamesWhatIsThere, IsLegal}
 use Rattle.sync_model.proofs.Cases.{after-fixed}
-use Rattle.sync_model.proofs.Staggered.{staggered-opening}
 use Rattle.sync_model.proofs.Along.{staggered-after}
 use Rattle.sync_model.proofs.History.{after-append, history-after, late-exactly}
 use Rattle.sync_model.proofs.Legal.{named-fits, changing-log}
 use Rattle.sync_model.proofs.Drain.{drain-ends, drain-turns, drained-worlds}
 use Rattle.match_file.specs.Data.{MatchData, IsMatch, IsScriptLine}
 use Rattle.match_file.specs.declared.script_line.ScriptLine.{ScriptLine}
-use Rattle.run_recorder.specs.declared.log.MirrorLog.{MirrorLog}
 use Rattle.tss_program.specs.Hall.{mirror_of, changed_at, after_line, opening_mirror, opening_mirrors, after_script, scripted, played, logs_from}
 use Rattle.tss_program.specs.Headline.{IsPlayed, AllPlayed}
 use Rattle.tss_program.proofs.Ready.{DelaysRise-from_next}
@@ -115,12 +113,11 @@ ways-AllPlayed :
 unfolding AllPlayed logs_from
 ways-AllPlayed rules m opening [] i sound ways = tt
 ways-AllPlayed {W} rules m opening (s ∷ ss) i sound ways =
-    let here : OnWay m opening i [] s = (let same : i + 0 ≡ i = omega arith in subst (λ (k : ℕ). OnWay m opening k [] s) same (ways 0 s (omega arith))) in
-    (
+    let here : OnWay m opening i [] s = (let same : i + 0 ≡ i = omega arith in subst (λ (k : ℕ). OnWay m opening k [] s) same (ways 0 s (omega arith))) in (
       refl,
       way-IsPlayed rules m opening i s sound here,
       ways-AllPlayed rules m opening ss (i + 1) sound
-      (λ j d below. (let same : i + suc j ≡ (i + 1) + j = omega arith in subst (λ (k : ℕ). OnWay m opening k [] (get_or ss j d)) same (ways (suc j) d (omega arith)))),
+          (λ j d below. (let same : i + suc j ≡ (i + 1) + j = omega arith in subst (λ (k : ℕ). OnWay m opening k [] (get_or ss j d)) same (ways (suc j) d (omega arith)))),
     )
 
 pub played-AllPlayed : {W : Type 0} (rules : Rules W) (m : MatchData) (opening : W) → IsMatch m → AllPlayed rules opening m 0 (played opening m) (logs_from 0 (played opening m))
@@ -149,6 +146,6 @@ pub played-late :
 played-late {W} rules m start end log front rest x played whole =
     let at : take (length front) log ≡ front = ap (λ (l : List Event). take (length front) l) whole ∙ take-append_seam front (Arrive x ∷ rest) in
     let late = subst (λ (l : List Event). (bound : ℕ) → (said (after start l) (Arrive x) ≡ ToArrive (Late bound))
-        ↔ ((is_repeat (after start l) x ≡ false) × (x.time < last_clock (after start l).runs) × (bound ≡ last_clock (after start l).runs)))
-        at (λ bound. played.late (length front) x bound) (last_clock (after start front).runs) in
+    ↔ ((is_repeat (after start l) x ≡ false) × (x.time < last_clock (after start l).runs) × (bound ≡ last_clock (after start l).runs)))
+    at (λ bound. played.late (length front) x bound) (last_clock (after start front).runs) in
     (λ h. (let k = late.0 h in (k.0, k.1)), λ h. late.1 (h.0, h.1, refl))

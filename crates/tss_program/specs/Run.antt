@@ -74,7 +74,7 @@ abbrev pub IsPut :
 IsPut due text kept steady fault old new status left =
     (left ≡ kept)
     × (((status ≡ code due) × steady × Gains old text new)
-        ⊎ ((status ≡ code WriteFault) × fault × ((n : ℕ) × (n < length text) × Gains old (take n text) new)))
+    ⊎ ((status ≡ code WriteFault) × fault × ((n : ℕ) × (n < length text) × Gains old (take n text) new)))
 
 -- ---- a run
 

@@ -1,4 +1,4 @@
-use Rattle.std.proofs.Common.{◌≡◌, ℕ, List, [], Err, Ok, Result, inl, inr, refl, ap, sym, ◌∙◌, subst}
+use Rattle.std.proofs.Common.{[], Err, inl, inr, refl, ap, sym, ◌∙◌}
 use Rattle.tss_program.specs.declared.status.Status.TheVariants.{WrongWords, Refusal}
 use Rattle.tss_program.specs.Due.{usage_text, refused_text}
 use Rattle.tss_program.proofs.Ends.{run-usage, run-answered, run-refused, run-stopped, steady-ok, steady-refused, steady-memory, put-same, why-refused, why-failed, refused-at}
