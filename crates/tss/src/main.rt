@@ -1,44 +1,28 @@
-//! The program `tss`: the real words, streams and status.
+//! The program `tss`: the real arguments, streams and exit code. What it does with them is `run_arguments`.
 #![tactic(auto)]
 
 #[cfg(test)]
 mod tests;
 
 use std::alloc::Global;
-use std::io::ErrorKind;
 use std::process::ExitCode;
 use std::rt::Env;
 use std::{env, io};
-use tss_io::{Seq, Sink, Source, StdSink, StdSource};
-use tss_program::{Done, Status, run_plain};
+use tss_io::{StdSink, StdSource};
+use tss_program::run_arguments;
 
-// The words behind the program's own name.
-fn words(rt: &(impl Env + Alloc<A = Global>)) -> io::Result<Vec<String>> {
-    let mut words = env::args(rt)?;
-    let _program = words.next();
-    Ok(words.collect(rt.alloc())?)
-}
-
-// Words that aren't text have no form, like no words at all.
-fn run<S: Source, K: Sink>(
-    alloc: Global,
-    words: io::Result<Vec<String>>,
-    source: &mut S,
-    sink: &mut K,
-) -> Done {
-    match words {
-        Ok(words) => run_plain(alloc, words.as_slice(), source, sink),
-        Err(fault) if fault.kind() == ErrorKind::OutOfMemory => Done::of(
-            Status::NoMemory,
-            Seq::new(alloc),
-        ),
-        Err(_) => run_plain(alloc, &[], source, sink),
-    }
+// The program's own name and the words behind it, as the system tells them.
+fn arguments(rt: &(impl Env + Alloc<A = Global>)) -> io::Result<Vec<String>> {
+    Ok(env::args(rt)?.collect(rt.alloc())?)
 }
 
 fn main(rt: HostRuntime) -> ExitCode {
     let mut source = StdSource::new(rt.stdin());
     let mut sink = StdSink::new(rt.stdout());
-    let done = run(rt.alloc(), words(&rt), &mut source, &mut sink);
-    ExitCode::from(done.status)
+    let done = run_arguments(rt.alloc(), arguments(&rt), &mut source, &mut sink);
+    if let Some(failure) = done.failure() {
+        // Where standard error fails too, the exit code still tells.
+        let _ = eprintln!(rt; "tss: {failure}");
+    }
+    done.exit_code()
 }

@@ -1,7 +1,8 @@
-mod Named
-mod Ready
-mod Steps
-mod Events
-mod OnWay
-mod Whole
-mod Ends
+pub mod Named
+pub mod Ready
+pub mod Steps
+pub mod Events
+pub mod OnWay
+pub mod Whole
+pub mod Ends
+pub mod Headline

@@ -1,9 +1,9 @@
 -- Mirrors along a match's script: what each has made names what is there, and leaves room for what is to come.
-use Rattle.std.proofs.Common.{◌≡◌, ◌≢◌, ℕ, zero, suc, ◌+◌, ◌-◌, ◌≤◌, ◌<◌, true, false, cond, ◌==◌, List, [], ◌∷◌, ◌++◌, length, get_or, set, drop, Option, Some, None, inl, inr, refl, ap, sym, ◌∙◌, subst, append_assoc, arith}
-use Rattle.std.specs.Prelude.{Contains, find, nat_eq}
+use Rattle.std.proofs.Common.{◌≡◌, ℕ, zero, suc, ◌+◌, ◌≤◌, ◌<◌, true, cond, ◌==◌, List, [], ◌∷◌, ◌++◌, length, get_or, set, drop, Option, Some, None, inl, inr, refl, ap, sym, ◌∙◌, subst, append_assoc, arith}
+use Rattle.std.specs.Prelude.{Contains}
 use Rattle.std.specs.List.{AllByRecursion}
 use Rattle.std.proofs.lemmas.List.{append-nil, drop_more, drop_all, length-map, length-set, get_or-set_same, get_or-set_other}
-use Rattle.std.proofs.lemmas.List.Elements.{All-from_recursion, All-get_or, All-contains}
+use Rattle.std.proofs.lemmas.List.Elements.{All-from_recursion, All-get_or}
 use Rattle.std.proofs.lemmas.Bool.{cases_eq}
 use Rattle.game_trait.specs.declared.command.Command.{Command}
 use Rattle.game_trait.specs.declared.event.Event.{Event}
@@ -12,11 +12,12 @@ use Rattle.game_trait.specs.Count.{times}
 use Rattle.game_trait.proofs.Counts.{times-append}
 use Rattle.game_trait.proofs.KeyOrder.{all-weaker}
 use Rattle.sync_model.specs.State.{MirrorState}
-use Rattle.sync_model.specs.Change.{after, answers, Fits}
+use Rattle.sync_model.specs.Change.{after, Fits}
 use Rattle.game_trait.specs.Events.{is_arrival, is_restagger}
 use Rattle.sync_model.specs.History.{HasRoomAlong}
-use Rattle.sync_model.specs.Turns.{turn_events}
 use Rattle.sync_model.specs.Legal.{NamesWhatIsThere}
+use Rattle.sync_model.specs.Staggered.{IsStaggered}
+use Rattle.sync_model.proofs.Staggered.{staggered-opening}
 use Rattle.sync_model.proofs.Cases.{after-fixed}
 use Rattle.sync_model.proofs.History.{after-append}
 use Rattle.match_file.specs.Data.{MatchData, IsCommand, IsMatch, IsScriptLine}
@@ -44,13 +45,25 @@ pub record AllOnWay {W : Type 0} (m : MatchData) (opening : W) (ls : List Script
 
 -- ---- one mirror
 
-opening-copies : {W : Type 0} (m : MatchData) (opening : W) (i : ℕ) → length (opening_mirror opening m i).runs ≡ length m.delays
+pub opening-copies : {W : Type 0} (m : MatchData) (opening : W) (i : ℕ) → length (opening_mirror opening m i).runs ≡ length m.delays
 unfolding opening_mirror
 opening-copies m opening i = length-map m.delays (λ delay. [])
 
-opening-length : {W : Type 0} (m : MatchData) (opening : W) (i : ℕ) → (opening_mirror opening m i).length ≡ m.length
+pub opening-length : {W : Type 0} (m : MatchData) (opening : W) (i : ℕ) → (opening_mirror opening m i).length ≡ m.length
 unfolding opening_mirror
 opening-length m opening i = refl
+
+pub opening-history : {W : Type 0} (m : MatchData) (opening : W) (i : ℕ) → (opening_mirror opening m i).history ≡ []
+unfolding opening_mirror
+opening-history m opening i = refl
+
+opening-plans : {W : Type 0} (m : MatchData) (opening : W) (i : ℕ) → (opening_mirror opening m i).plans ≡ m.delays ∷ []
+unfolding opening_mirror
+opening-plans m opening i = refl
+
+pub opening-staggered : {W : Type 0} (m : MatchData) (opening : W) (i : ℕ) → IsStaggered (opening_mirror opening m i)
+unfolding opening_mirror
+opening-staggered m opening i = staggered-opening opening m.length (m.delays ∷ []) (times (arrives_at i) m.script) 0
 
 opening-spare : {W : Type 0} (m : MatchData) (opening : W) (i : ℕ) → (opening_mirror opening m i).spare ≡ times (arrives_at i) m.script
 unfolding opening_mirror
@@ -63,6 +76,10 @@ way-copies {W} m opening i ls s way =
 pub way-length : {W : Type 0} (m : MatchData) (opening : W) (i : ℕ) (ls : List ScriptLine) (s : MirrorState W) → OnWay m opening i ls s → s.length ≡ m.length
 way-length {W} m opening i ls s way =
     ap (λ (t : MirrorState W). t.length) way.reached ∙ (after-fixed way.es (opening_mirror opening m i)).length ∙ opening-length m opening i
+
+pub way-plans : {W : Type 0} (m : MatchData) (opening : W) (i : ℕ) (ls : List ScriptLine) (s : MirrorState W) → OnWay m opening i ls s → s.plans ≡ m.delays ∷ []
+way-plans {W} m opening i ls s way =
+    ap (λ (t : MirrorState W). t.plans) way.reached ∙ (after-fixed way.es (opening_mirror opening m i)).plans ∙ opening-plans m opening i
 
 pub way-room : {W : Type 0} (m : MatchData) (opening : W) (i : ℕ) (ls : List ScriptLine) (s : MirrorState W) → OnWay m opening i ls s → times (arrives_at i) ls ≤ s.spare
 way-room {W} m opening i ls s way =
@@ -238,7 +255,7 @@ pub record IsNext {W : Type 0} (m : MatchData) (l : ScriptLine) (mirrors : List 
   pub fits : (d : MirrorState W) → let s = get_or mirrors (mirror_of l) d in AllByRecursion (Fits s) (events_of m.commands (length s.runs) l)
   pub room : (d : MirrorState W) → let s = get_or mirrors (mirror_of l) d in HasRoomAlong s (events_of m.commands (length s.runs) l)
 
-line-mirror : (m : MatchData) (l : ScriptLine) → IsScriptLine m l → mirror_of l < m.mirrors
+pub line-mirror : (m : MatchData) (l : ScriptLine) → IsScriptLine m l → mirror_of l < m.mirrors
 line-mirror m (lines.Tick mirror) here = here
 line-mirror m (lines.Turn mirror) here = here
 line-mirror m (lines.Arrive mirror from number) here = here.0

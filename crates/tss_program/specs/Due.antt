@@ -1,5 +1,5 @@
 -- What is due for words and an input, and how a run may end.
-use Rattle.std.specs.Prelude.{◌≡◌, ◌≢◌, ℕ, ◌<◌, ◌⊎◌, ◌==◌, List, [], ◌∷◌, ◌++◌, Option, Some, None, IfSome, length, take, codes, decimal, if◌then◌else◌}
+use Rattle.std.specs.Prelude.{◌≡◌, ◌≢◌, ℕ, ◌<◌, ◌⊎◌, ◌==◌, List, [], ◌∷◌, ◌++◌, Option, Some, None, length, take, codes, decimal, if◌then◌else◌}
 use Rattle.tss_io.specs.Streams.{Gains}
 use Rattle.tss_io.specs.Lines.{as_line, spaced}
 use Rattle.arena_rules.specs.World.{World, opening_world, arena_rules}

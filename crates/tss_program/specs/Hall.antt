@@ -1,5 +1,5 @@
 -- What happens to the mirrors of a match: along its script, and while they are drained. Nothing is printed here.
-use Rattle.std.specs.Prelude.{◌≡◌, ℕ, zero, suc, ◌+◌, Bool, false, ◌==◌, ◌&&◌, List, [], ◌∷◌, Option, Some, None, find, map, length}
+use Rattle.std.specs.Prelude.{ℕ, zero, suc, ◌+◌, Bool, false, ◌==◌, ◌&&◌, List, [], ◌∷◌, Option, Some, None, find, map, length}
 use Rattle.game_trait.specs.declared.command.Command.{Command}
 use Rattle.game_trait.specs.declared.event.Event.{Event}
 use Rattle.game_trait.specs.declared.event.Event.TheVariants.{Tick, Arrive, Step}

@@ -4,9 +4,9 @@ use Rattle.game_trait.specs.declared.command.Command.{Command}
 use Rattle.game_trait.specs.declared.command.Item.{Item}
 use Rattle.game_trait.specs.declared.event.Reply.{Reply}
 use Rattle.game_trait.specs.declared.event.Reply.TheVariants.{Tick as ToTick, Arrive as ToArrive, Step as ToStep}
-use Rattle.game_trait.specs.declared.event.Ticked.TheVariants.{Moved, Over}
-use Rattle.game_trait.specs.declared.event.Arrived.TheVariants.{Taken, Repeat, Late}
-use Rattle.game_trait.specs.declared.event.Stepped.TheVariants.{Ran, Idle}
+use Rattle.game_trait.specs.declared.event.Ticked.TheVariants.{Over}
+use Rattle.game_trait.specs.declared.event.Arrived.TheVariants.{Repeat, Late}
+use Rattle.game_trait.specs.declared.event.Stepped.TheVariants.{Idle}
 use Rattle.game_trait.specs.Game.{Rules}
 use Rattle.game_trait.specs.Run.{beats, world_of}
 use Rattle.game_trait.specs.Ordered.{time_ordered}

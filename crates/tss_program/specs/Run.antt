@@ -69,11 +69,12 @@ IfRefused stops.ReadFault P = Unit {0}
 IfRefused (stops.Refused refused) P = P
 
 -- a due text was put whole, or a proper front of it
-abbrev pub IsPut : Status → List ℕ → List MirrorLog → Type 0 → Option (List ℕ) → Option (List ℕ) → ℕ → List MirrorLog → Type 0
-IsPut due text kept write_fault old new status left =
+abbrev pub IsPut :
+    Status → List ℕ → List MirrorLog → Type 0 → Type 0 → Option (List ℕ) → Option (List ℕ) → ℕ → List MirrorLog → Type 0
+IsPut due text kept steady fault old new status left =
     (left ≡ kept)
-    × (((status ≡ code due) × Gains old text new)
-    ⊎ ((status ≡ code WriteFault) × write_fault × ((n : ℕ) × (n < length text) × Gains old (take n text) new)))
+    × (((status ≡ code due) × steady × Gains old text new)
+    ⊎ ((status ≡ code WriteFault) × fault × ((n : ℕ) × (n < length text) × Gains old (take n text) new)))
 
 -- ---- a run
 
@@ -108,6 +109,8 @@ pub record IsRun (words : List (List ℕ)) (old new : Streams) (status : ℕ) (k
   pub only_wrong_words : status ≡ 2 → subcommand_of words ≡ None
   pub read_fault : status ≡ 3 → Rose old.read_faults new.read_faults
   pub write_fault : status ≡ 4 → Rose old.write_faults new.write_faults
+  pub read_steady : (status ≡ 3) ⊎ (new.read_faults ≡ old.read_faults)
+  pub write_steady : (status ≡ 4) ⊎ (new.write_faults ≡ old.write_faults)
   -- what is kept and written at most
   pub nothing_kept : (status ≡ 1) ⊎ (status ≡ 2) ⊎ (status ≡ 3) ⊎ (status ≡ 5) → kept ≡ []
   pub order_keeps_nothing : subcommand_of words ≡ Some Order → kept ≡ []

@@ -3,6 +3,7 @@
 
 mod done;
 mod hall;
+pub mod laws;
 mod names;
 mod play;
 mod refusal;

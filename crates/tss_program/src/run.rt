@@ -1,9 +1,9 @@
 //! One run of the program: words and a source in, bytes and a status out.
 
-ghost use Rattle.std.specs.Prelude.{◌≡◌, ◌≢◌, ◌≤◌, ◌<◌, ◌+◌, ◌⊎◌, ℕ, List, [], None, Some, map, length, take, drop, IfSome, IfOk, OnOk, IfErr, option_map};
+ghost use Rattle.std.specs.Prelude.{◌≡◌, ◌≢◌, ◌≤◌, ◌<◌, ◌+◌, ◌⊎◌, ℕ, List, [], None, Some, map, length, take, drop, IfSome, IfOk, OnOk, IfErr, IsErrOf, option_map};
 ghost use Rattle.std.specs.String.{string_bytes};
 ghost use Rattle.std.specs.IoError.{error_kind};
-ghost use Rattle.std.specs.declared.io.ErrorKind.TheVariants as kinds;
+ghost use Rattle.std.specs.declared.io.ErrorKind.TheVariants.{OutOfMemory};
 ghost use Rattle.tss_io.specs.Streams.{Rose, Yields, Gains};
 ghost use Rattle.match_file.specs.Data.{MatchData, IsPlain};
 ghost use Rattle.match_file.specs.Text.{match_text};
@@ -37,6 +37,7 @@ fn read_input<S: Source>(alloc: Global, source: &mut S) -> Result<Match, Stop>
     ensures why { IfErr result (λ stop. WhyStopped (S.left source.old) (Rose (S.faults source.old) (S.faults source.new)) stop) }
     ensures whole { OnOk result (S.left source.new ≡ behind_limit (S.left source.old)) }
     ensures refused { IfErr result (λ stop. IfRefused stop (S.left source.new ≡ behind_limit (S.left source.old))) }
+    ensures steady { IsErrOf result Stop.ReadFault ⊎ (S.faults source.new ≡ S.faults source.old) }
     ensures front { (front : List ℕ) × (length front ≤ text_limit + 1) × Yields (S.left source.old) front (S.left source.new) }
     ensures reads { S.calls source.new ≤ S.calls source.old + (text_limit + 1) }
 {
@@ -58,7 +59,7 @@ fn answer(alloc: Global, subcommand: Subcommand, m: &Match) -> Result<Answer, No
 
 // Puts a text that is due, and ends with the status that goes with it, or with a write fault.
 fn put<K: Sink>(sink: &mut K, status: Status, text: &[u8], kept: Seq<MirrorLog>) -> Done
-    ensures { IsPut status text.now kept (Rose (K.faults sink.old) (K.faults sink.new)) (K.taken sink.old) (K.taken sink.new) result.status result.kept }
+    ensures { IsPut status text.now kept (K.faults sink.new ≡ K.faults sink.old) (Rose (K.faults sink.old) (K.faults sink.new)) (K.taken sink.old) (K.taken sink.new) result.status result.kept }
 {
     match put_all(sink, text) {
         Ok(()) => Done::of(status, kept),
@@ -111,8 +112,8 @@ pub fn run_arguments<S: Source, K: Sink>(
         IfOk arguments (λ all. IsRun (drop 1 (map string_bytes all.items)) old new result.status result.kept) }
     ensures no_text { let old : Streams = record { left = S.left source.old; read_faults = S.faults source.old; reads = S.calls source.old; taken = K.taken sink.old; write_faults = K.faults sink.old } in
         let new : Streams = record { left = S.left source.new; read_faults = S.faults source.new; reads = S.calls source.new; taken = K.taken sink.new; write_faults = K.faults sink.new } in
-        IfErr arguments (λ fault. error_kind fault ≢ kinds.OutOfMemory → IsRun [] old new result.status result.kept) }
-    ensures no_memory { IfErr arguments (λ fault. error_kind fault ≡ kinds.OutOfMemory
+        IfErr arguments (λ fault. error_kind fault ≢ OutOfMemory → IsRun [] old new result.status result.kept) }
+    ensures no_memory { IfErr arguments (λ fault. error_kind fault ≡ OutOfMemory
         → (result.status ≡ 1) × (result.kept ≡ []) × (source.new ≡ source.old) × (sink.new ≡ sink.old)) }
 {
     match arguments {

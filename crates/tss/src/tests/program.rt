@@ -1,8 +1,11 @@
-//! Runs of the program.
+//! Runs of the program: how each ends, what is written, and which events are kept.
 
+use game_trait::{Act, Command, Event};
 use std::alloc::Global;
+use std::io;
+use std::io::ErrorKind;
 use tss_io::{MemSink, MemSource, NoMemory};
-use tss_program::{Done, run_plain};
+use tss_program::{Done, run_arguments, run_plain};
 
 const USAGE: &str = "usage: tss order|play|race|audit|score|soak N\n";
 
@@ -43,157 +46,245 @@ const LONG_DRAIN_TEXT: &str =
 const UNKNOWN_COMMAND: &str =
     "tss match 1\nlength 4\ngrid 5 1\nmirrors 1\ndelays 0\npace 0\nplayer ann 0 0 e\ncmd 2 0 0 0 go\nscript\narrive 0 0 1\nend\n";
 
-// What a run is given, and how it has to end: how many events its logs keep in all among it. A put takes at most 8 bytes.
+// The match that README follows: a command just in time, the same once more, and one that is late.
+const LATE: &str =
+    "tss match 1\nlength 6\ngrid 7 1\nmirrors 1\ndelays 2\npace 1\nplayer ann 0 0 e\ncmd 1 0 0 0 go\ncmd 3 0 1 0 go\ncmd 4 0 2 0 right\nscript\nturn 0\nturn 0\narrive 0 0 1\nturn 0\narrive 0 0 0\narrive 0 0 0\nturn 0\nturn 0\nturn 0\nturn 0\narrive 0 0 2\nend\n";
+
+const LATE_ORDERED: &str = "order 6\nlive ann 2 0 s 3 5 0\ndone\n";
+
+const LATE_PLAYED: &str =
+    "repeat 0 0 0\nlate 0 0 2 5\nmirror 0 accepted 2 turned 1 repairs 0\nworld 0 0 6\nlive ann 2 0 e 3 5 0\ndone\n";
+
+// The arrivals of these matches.
+const ARRIVES_GO_AT_1: Event = Event::Arrive(Command {
+    time: 1,
+    from: 0,
+    number: 0,
+    player: 0,
+    act: Act::Go,
+});
+
+const ARRIVES_GO_AT_2: Event = Event::Arrive(Command {
+    time: 2,
+    from: 0,
+    number: 0,
+    player: 0,
+    act: Act::Go,
+});
+
+const ARRIVES_GO_AT_3: Event = Event::Arrive(Command {
+    time: 3,
+    from: 0,
+    number: 1,
+    player: 0,
+    act: Act::Go,
+});
+
+const ARRIVES_RIGHT_AT_4: Event = Event::Arrive(Command {
+    time: 4,
+    from: 0,
+    number: 2,
+    player: 0,
+    act: Act::Right,
+});
+
+const ARRIVES_RIGHT_AT_800: Event = Event::Arrive(Command {
+    time: 800,
+    from: 0,
+    number: 7,
+    player: 0,
+    act: Act::Right,
+});
+
+const LATE_LOG: [Event; 17] = [
+    Event::Tick,
+    Event::Tick,
+    ARRIVES_GO_AT_3,
+    Event::Tick,
+    Event::Step(0),
+    ARRIVES_GO_AT_1,
+    Event::Tick,
+    Event::Step(0),
+    Event::Tick,
+    Event::Step(0),
+    Event::Tick,
+    Event::Step(0),
+    Event::Tick,
+    Event::Step(0),
+    ARRIVES_RIGHT_AT_4,
+    Event::Tick,
+    Event::Step(0),
+];
+
+const LATE_BY_ONE_LOG: [Event; 10] = [
+    Event::Tick,
+    Event::Step(0),
+    Event::Tick,
+    Event::Step(0),
+    Event::Tick,
+    Event::Step(0),
+    ARRIVES_GO_AT_2,
+    ARRIVES_GO_AT_2,
+    Event::Tick,
+    Event::Step(0),
+];
+
+const IN_TIME_LOG: [Event; 9] = [
+    Event::Tick,
+    Event::Step(0),
+    Event::Tick,
+    Event::Step(0),
+    ARRIVES_GO_AT_2,
+    Event::Tick,
+    Event::Step(0),
+    Event::Tick,
+    Event::Step(0),
+];
+
+// What a run is given, and how it has to end. A read gives at most 16 bytes, a put takes at most 8.
 #[derive(Clone, Copy)]
 struct Case {
+    name: &'static str,
     words: &'static [&'static str],
     input: &'static str,
-    failing_reads: &'static [u32],
-    failing_puts: &'static [u32],
+    failing_read: Option<u32>,
+    failing_put: Option<u32>,
     status: u8,
     written: &'static str,
-    kept: usize,
+    // the events that are kept of mirror 0, where a log is kept
+    log: Option<&'static [Event]>,
 }
 
-const NO_FAULTS: Case = Case {
-    words: &[],
-    input: "",
-    failing_reads: &[],
-    failing_puts: &[],
+const ORDERED: Case = Case {
+    name: "the opening world",
+    words: &["order"],
+    input: OPENING,
+    failing_read: None,
+    failing_put: None,
     status: 0,
-    written: "",
-    kept: 0,
+    written: OPENING_WORLD,
+    log: None,
 };
 
-const CASES: [Case; 18] = [
+const USED_WRONG: Case = Case {
+    name: "no words",
+    words: &[],
+    status: 2,
+    written: USAGE,
+    ..ORDERED
+};
+
+const REFUSED: Case = Case {
+    name: "an empty text",
+    input: "",
+    status: 5,
+    written: SHAPE,
+    ..ORDERED
+};
+
+const PLAYED: Case = Case {
+    name: "README's match, played",
+    words: &["play"],
+    input: LATE,
+    written: LATE_PLAYED,
+    log: Some(&LATE_LOG),
+    ..ORDERED
+};
+
+const CASES: [Case; 17] = [
+    ORDERED,
+    USED_WRONG,
     Case {
-        input: OPENING,
-        status: 2,
-        written: USAGE,
-        ..NO_FAULTS
-    },
-    Case {
+        name: "a subcommand that isn't built",
         words: &["race"],
-        input: OPENING,
-        status: 2,
-        written: USAGE,
-        ..NO_FAULTS
+        ..USED_WRONG
     },
     Case {
+        name: "a flag",
         words: &["--help"],
-        input: OPENING,
-        status: 2,
-        written: USAGE,
-        ..NO_FAULTS
+        ..USED_WRONG
     },
     Case {
+        name: "a word too many",
         words: &["order", "extra"],
-        input: OPENING,
-        status: 2,
-        written: USAGE,
-        ..NO_FAULTS
+        ..USED_WRONG
     },
     Case {
+        name: "another subcommand that isn't built",
         words: &["soak", "07"],
-        input: OPENING,
-        status: 2,
-        written: USAGE,
-        ..NO_FAULTS
+        ..USED_WRONG
     },
     Case {
-        words: &["order"],
-        input: OPENING,
-        written: OPENING_WORLD,
-        ..NO_FAULTS
+        name: "the usage line isn't written",
+        words: &["race"],
+        failing_put: Some(0),
+        status: 4,
+        written: "",
+        ..USED_WRONG
     },
     Case {
-        words: &["order"],
+        name: "keys, not lines, order commands",
         input: TURN_BEFORE_MOVE,
         written: "order 2\nlive ann 0 0 s 3 5 0\ndone\n",
-        ..NO_FAULTS
+        ..ORDERED
     },
     Case {
-        words: &["order"],
-        input: TWO_MIRRORS,
-        status: 5,
-        written: SHAPE,
-        ..NO_FAULTS
-    },
-    Case {
-        words: &["order"],
-        input: "",
-        status: 5,
-        written: SHAPE,
-        ..NO_FAULTS
-    },
-    Case {
-        words: &["order"],
-        input: OPENING,
-        failing_puts: &[1],
-        status: 4,
-        written: "order 1\n",
-        ..NO_FAULTS
-    },
-    Case {
-        words: &["race"],
-        input: OPENING,
-        failing_puts: &[0],
-        status: 4,
-        written: "",
-        ..NO_FAULTS
-    },
-    Case {
-        words: &["order"],
-        input: OPENING,
-        failing_reads: &[0],
-        status: 3,
-        written: "",
-        ..NO_FAULTS
-    },
-    Case {
-        words: &["order"],
+        name: "the script isn't used by order",
         input: JUST_IN_TIME,
         written: "order 4\nlive ann 1 0 e 3 5 0\ndone\n",
-        ..NO_FAULTS
+        ..ORDERED
     },
     Case {
+        name: "README's match, ordered",
+        input: LATE,
+        written: LATE_ORDERED,
+        ..ORDERED
+    },
+    REFUSED,
+    Case {
+        name: "two mirrors aren't read yet",
+        input: TWO_MIRRORS,
+        ..REFUSED
+    },
+    Case {
+        name: "an arrival of no command",
         words: &["play"],
         input: UNKNOWN_COMMAND,
-        status: 5,
-        written: SHAPE,
-        ..NO_FAULTS
+        ..REFUSED
     },
     Case {
-        words: &["play"],
-        input: LATE_BY_ONE,
-        kept: 10,
-        written: LATE_TEXT,
-        ..NO_FAULTS
-    },
-    Case {
-        words: &["play"],
-        input: JUST_IN_TIME,
-        kept: 9,
-        written: IN_TIME_TEXT,
-        ..NO_FAULTS
-    },
-    Case {
-        words: &["play"],
-        input: LONG_DRAIN,
-        kept: 1841,
-        written: LONG_DRAIN_TEXT,
-        ..NO_FAULTS
-    },
-    Case {
-        words: &["play"],
-        input: JUST_IN_TIME,
-        failing_puts: &[3],
-        kept: 9,
+        name: "the refusal isn't written",
+        failing_put: Some(2),
         status: 4,
-        written: "repeat 0 0 0\nmirror 0 ac",
-        ..NO_FAULTS
+        written: "refused line 0 c",
+        ..REFUSED
+    },
+    PLAYED,
+    Case {
+        name: "late by one tick, twice",
+        input: LATE_BY_ONE,
+        written: LATE_TEXT,
+        log: Some(&LATE_BY_ONE_LOG),
+        ..PLAYED
+    },
+    Case {
+        name: "just in time, and again",
+        input: JUST_IN_TIME,
+        written: IN_TIME_TEXT,
+        log: Some(&IN_TIME_LOG),
+        ..PLAYED
     },
 ];
+
+// How a run ended, or how it has to end, in one value that a failure shows whole.
+#[derive(Debug, Drop, PartialEq)]
+struct Outcome {
+    name: &'static str,
+    status: u8,
+    written: String,
+    logs: usize,
+    events: Vec<Event>,
+}
 
 fn words_of(alloc: Global, words: &[&str]) -> Result<Vec<String>, NoMemory> {
     let mut owned = Vec::new(alloc);
@@ -203,36 +294,172 @@ fn words_of(alloc: Global, words: &[&str]) -> Result<Vec<String>, NoMemory> {
     Ok(owned)
 }
 
+fn calls(alloc: Global, failing: Option<u32>) -> Result<Vec<u32>, NoMemory> {
+    let mut calls = Vec::new(alloc);
+    if let Some(call) = failing {
+        calls.push(call)?;
+    }
+    Ok(calls)
+}
+
 fn source_of(alloc: Global, case: &Case) -> Result<MemSource, NoMemory> {
     let input = Vec::from_slice(alloc, case.input.as_bytes())?;
-    let fails = Vec::from_slice(alloc, case.failing_reads)?;
-    Ok(MemSource::new(input, 50, fails))
+    Ok(MemSource::new(input, 16, calls(alloc, case.failing_read)?))
 }
 
 fn sink_of(alloc: Global, case: &Case) -> Result<MemSink, NoMemory> {
-    let fails = Vec::from_slice(alloc, case.failing_puts)?;
-    MemSink::new(alloc, 4096, 8, fails)
+    MemSink::new(alloc, 4096, 8, calls(alloc, case.failing_put)?)
 }
 
-fn is_as_due(case: &Case, done: &Done, written: &[u8]) -> bool {
-    let kept = match done.kept.as_slice() {
-        [log] => log.events.len(),
-        _ => 0,
-    };
-    done.status == case.status && written == case.written.as_bytes() && kept == case.kept
+fn ended_so(
+    alloc: Global,
+    name: &'static str,
+    done: &Done,
+    written: &[u8],
+) -> Result<Outcome, NoMemory> {
+    let mut events = Vec::new(alloc);
+    for log in done.kept.as_slice() {
+        events.extend_from_slice(log.events.as_slice())?;
+    }
+    Ok(Outcome {
+        name,
+        status: done.status,
+        written: String::from_utf8_lossy(alloc, written)?,
+        logs: done.kept.as_slice().len(),
+        events,
+    })
 }
 
-fn does_end_as_due(alloc: Global, case: &Case) -> Result<bool, NoMemory> {
+fn ended(alloc: Global, case: &Case) -> Result<Outcome, NoMemory> {
     let words = words_of(alloc, case.words)?;
     let mut source = source_of(alloc, case)?;
     let mut sink = sink_of(alloc, case)?;
     let done = run_plain(alloc, words.as_slice(), &mut source, &mut sink);
-    Ok(is_as_due(case, &done, sink.taken()))
+    ended_so(alloc, case.name, &done, sink.taken())
+}
+
+fn due(alloc: Global, case: &Case) -> Result<Outcome, NoMemory> {
+    let log = case.log.unwrap_or(&[]);
+    Ok(Outcome {
+        name: case.name,
+        status: case.status,
+        written: String::from_str(alloc, case.written)?,
+        logs: usize::from(case.log.is_some()),
+        events: Vec::from_slice(alloc, log)?,
+    })
 }
 
 #[test]
-fn runs_end_as_they_have_to(rt: HostRuntime) {
-    for (at, case) in CASES.iter().enumerate() {
-        assert!(rt; does_end_as_due(rt.alloc(), case) == Ok(true), "case {at}");
+fn runs_end_as_is_due(rt: HostRuntime) {
+    for case in &CASES {
+        assert_eq!(rt; ended(rt.alloc(), case), due(rt.alloc(), case));
     }
+}
+
+// A source that fails at one of its calls: status 3, and nothing is written. `order` of the opening reads 6 times.
+#[test]
+fn a_source_may_fail_anywhere(rt: HostRuntime) {
+    for call in 0..6 {
+        let case = Case {
+            name: "a read fails",
+            failing_read: Some(call),
+            status: 3,
+            written: "",
+            ..ORDERED
+        };
+        assert_eq!(rt; ended(rt.alloc(), &case), due(rt.alloc(), &case));
+    }
+    let case = Case {
+        name: "no read is left to fail",
+        failing_read: Some(6),
+        ..ORDERED
+    };
+    assert_eq!(rt; ended(rt.alloc(), &case), due(rt.alloc(), &case));
+}
+
+// A sink that fails at one of its calls: status 4, and the front of the text before it is written. Logs are kept whole.
+#[test]
+fn a_sink_may_fail_anywhere(rt: HostRuntime) {
+    for whole in &[ORDERED, PLAYED] {
+        let puts = whole.written.len().div_ceil(8);
+        for call in 0..puts {
+            let (front, _) = whole.written.split_at(call * 8);
+            let case = Case {
+                name: "a put fails",
+                failing_put: Some(call as u32),
+                status: 4,
+                written: front,
+                ..*whole
+            };
+            assert_eq!(rt; ended(rt.alloc(), &case), due(rt.alloc(), &case));
+        }
+        let case = Case {
+            name: "no put is left to fail",
+            failing_put: Some(puts as u32),
+            ..*whole
+        };
+        assert_eq!(rt; ended(rt.alloc(), &case), due(rt.alloc(), &case));
+    }
+}
+
+// The events of a match whose copy lags far behind when its script ends.
+fn long_drain_log(alloc: Global) -> Result<Vec<Event>, NoMemory> {
+    let mut events = Vec::new(alloc);
+    events.push(ARRIVES_RIGHT_AT_800)?;
+    events.push(Event::Tick)?;
+    for clock in 2..=940 {
+        events.push(Event::Tick)?;
+        if clock > 40 {
+            events.push(Event::Step(0))?;
+        }
+    }
+    Ok(events)
+}
+
+fn long_drain_due(alloc: Global, case: &Case) -> Result<Outcome, NoMemory> {
+    Ok(Outcome {
+        name: case.name,
+        status: case.status,
+        written: String::from_str(alloc, case.written)?,
+        logs: 1,
+        events: long_drain_log(alloc)?,
+    })
+}
+
+#[test]
+fn a_long_drain_keeps_each_event(rt: HostRuntime) {
+    let case = Case {
+        name: "a long drain",
+        input: LONG_DRAIN,
+        written: LONG_DRAIN_TEXT,
+        ..PLAYED
+    };
+    assert_eq!(rt; ended(rt.alloc(), &case), long_drain_due(rt.alloc(), &case));
+}
+
+// A run on arguments as the system may tell them: its status, and what it says has failed.
+fn ended_on(
+    alloc: Global,
+    arguments: io::Result<Vec<String>>,
+) -> Result<(u8, Option<&'static str>), NoMemory> {
+    let mut source = source_of(alloc, &ORDERED)?;
+    let mut sink = sink_of(alloc, &ORDERED)?;
+    let done = run_arguments(alloc, arguments, &mut source, &mut sink);
+    Ok((done.status, done.failure()))
+}
+
+fn ended_on_words(alloc: Global, words: &[&str]) -> Result<(u8, Option<&'static str>), NoMemory> {
+    ended_on(alloc, Ok(words_of(alloc, words)?))
+}
+
+#[test]
+fn arguments_are_words_behind_a_name(rt: HostRuntime) {
+    let alloc = rt.alloc();
+    assert_eq!(rt; ended_on_words(alloc, &["tss", "order"]), Ok((0, None)));
+    assert_eq!(rt; ended_on_words(alloc, &["order"]), Ok((2, None)));
+    assert_eq!(rt; ended_on_words(alloc, &[]), Ok((2, None)));
+    let no_text = Err(io::Error::from(ErrorKind::InvalidData));
+    assert_eq!(rt; ended_on(alloc, no_text), Ok((2, None)));
+    let no_memory = Err(io::Error::from(ErrorKind::OutOfMemory));
+    assert_eq!(rt; ended_on(alloc, no_memory), Ok((1, Some("out of memory"))));
 }

@@ -1,4 +1,3 @@
-use Rattle.std.proofs.Common.{sym}
 use Rattle.tss_program.proofs.Steps.{turn-fits, turn-room}
 use Rattle.tss_program.proofs.hall.turn.Goals as goal
 

@@ -1,4 +1,4 @@
-use Rattle.std.proofs.Common.{◌≡◌, ℕ, ◌-◌, List, ◌++◌, refl, ap, sym, ◌∙◌, arith}
+use Rattle.std.proofs.Common.{ℕ, ◌-◌, List, ◌++◌, ap, sym, ◌∙◌, arith}
 use Rattle.std.proofs.lemmas.List.{append-nil}
 use Rattle.tss_program.proofs.Steps.{drained-state, drained-text, no-turns-state, no-turns-text, drain-state, drain-text}
 use Rattle.tss_program.proofs.play.drain_mirror.Goals as goal

@@ -1,8 +1,8 @@
-use Rattle.std.proofs.Common.{◌≡◌, ◌≤◌, List, length, map, ap, ◌∙◌, subst, sym}
-use Rattle.match_file.specs.Data.{MatchData, IsMatch}
+use Rattle.std.proofs.Common.{List, map, ap, ◌∙◌, subst}
+use Rattle.match_file.specs.Data.{IsMatch}
 use Rattle.sync_model.specs.State.{MirrorState}
 use Rattle.sync_model.specs.Turns.{drain}
-use Rattle.tss_program.specs.Hall.{opening_mirrors, after_script, scripted, played, logs_from}
+use Rattle.tss_program.specs.Hall.{after_script, logs_from}
 use Rattle.tss_program.proofs.Whole.{scripted-few, played-few, play-parts, scripted-written, scripted-long, drained-written}
 use Rattle.tss_program.proofs.play.play.Goals as goal
 
@@ -13,7 +13,7 @@ drain_mirrors-requires g c =
     let lent = c.as_mut_slice.ensures.value in
     let script = c.in_ok-play_script.ensures.state in
     let made = c.as_mut_slice-2.ensures.value ∙ scripted-written m.commands m.script _ _ _ _ held lent script ∙ script
-        ∙ ap (λ (ss : List (MirrorState _)). after_script m.commands ss m.script) (lent ∙ c.in_ok-mirrors.ensures) in
+    ∙ ap (λ (ss : List (MirrorState _)). after_script m.commands ss m.script) (lent ∙ c.in_ok-mirrors.ensures) in
     rw made (scripted-few c.args.opening.now m (subst IsMatch c.m.view_is c.m.invariant))
 
 pub push_mirrors-requires : goal.push_mirrors-requires
@@ -23,10 +23,10 @@ push_mirrors-requires g c =
     let lent = c.as_mut_slice.ensures.value in
     let script = c.in_ok-play_script.ensures.state in
     let made = c.as_mut_slice-2.ensures.value ∙ scripted-written m.commands m.script _ _ _ _ held lent script ∙ script
-        ∙ ap (λ (ss : List (MirrorState _)). after_script m.commands ss m.script) (lent ∙ c.in_ok-mirrors.ensures) in
+    ∙ ap (λ (ss : List (MirrorState _)). after_script m.commands ss m.script) (lent ∙ c.in_ok-mirrors.ensures) in
     let long = scripted-long m.commands m.script _ _ _ _ held lent script in
     let drained = c.as_slice-2.ensures.value ∙ drained-written _ _ _ _ long c.as_mut_slice-2.ensures.value c.in_ok-drain_mirrors.ensures.state
-        ∙ c.in_ok-drain_mirrors.ensures.state ∙ ap (λ (ss : List (MirrorState _)). map (λ s. drain s) ss) made in
+    ∙ c.in_ok-drain_mirrors.ensures.state ∙ ap (λ (ss : List (MirrorState _)). map (λ s. drain s) ss) made in
     rw drained (played-few c.args.opening.now m (subst IsMatch c.m.view_is c.m.invariant))
 
 pub logs-requires : goal.logs-requires
@@ -36,10 +36,10 @@ logs-requires g c =
     let lent = c.as_mut_slice.ensures.value in
     let script = c.in_ok-play_script.ensures.state in
     let made = c.as_mut_slice-2.ensures.value ∙ scripted-written m.commands m.script _ _ _ _ held lent script ∙ script
-        ∙ ap (λ (ss : List (MirrorState _)). after_script m.commands ss m.script) (lent ∙ c.in_ok-mirrors.ensures) in
+    ∙ ap (λ (ss : List (MirrorState _)). after_script m.commands ss m.script) (lent ∙ c.in_ok-mirrors.ensures) in
     let long = scripted-long m.commands m.script _ _ _ _ held lent script in
     let drained = c.as_slice-3.ensures.value ∙ drained-written _ _ _ _ long c.as_mut_slice-2.ensures.value c.in_ok-drain_mirrors.ensures.state
-        ∙ c.in_ok-drain_mirrors.ensures.state ∙ ap (λ (ss : List (MirrorState _)). map (λ s. drain s) ss) made in
+    ∙ c.in_ok-drain_mirrors.ensures.state ∙ ap (λ (ss : List (MirrorState _)). map (λ s. drain s) ss) made in
     rw drained (played-few c.args.opening.now m (subst IsMatch c.m.view_is c.m.invariant))
 
 pub returns : goal.returns
@@ -51,11 +51,10 @@ returns g c =
     let opened = lent ∙ c.in_ok-mirrors.ensures in
     let made = c.as_mut_slice-2.ensures.value ∙ scripted-written m.commands m.script _ _ _ _ held lent script ∙ script in
     let long = scripted-long m.commands m.script _ _ _ _ held lent script in
-    let end = drained-written _ _ _ _ long c.as_mut_slice-2.ensures.value c.in_ok-drain_mirrors.ensures.state ∙ c.in_ok-drain_mirrors.ensures.state in
-    (
+    let end = drained-written _ _ _ _ long c.as_mut_slice-2.ensures.value c.in_ok-drain_mirrors.ensures.state ∙ c.in_ok-drain_mirrors.ensures.state in (
       c.of-2.ensures
-      ∙ play-parts _ c.args.opening.now m _ _ _ _ _ _ _ _ opened made (c.as_slice-2.ensures.value ∙ end) c.new-text.ensures.items c.in_ok-play_script.ensures.text c.in_ok-drain_mirrors.ensures.text
-      (rw (← c.m.view_is) c.in_ok-push_mirrors.ensures) c.in_ok-push_done.ensures,
+          ∙ play-parts _ c.args.opening.now m _ _ _ _ _ _ _ _ opened made (c.as_slice-2.ensures.value ∙ end) c.new-text.ensures.items c.in_ok-play_script.ensures.text c.in_ok-drain_mirrors.ensures.text
+          (rw (← c.m.view_is) c.in_ok-push_mirrors.ensures) c.in_ok-push_done.ensures,
       c.in_ok-kept.ensures
-      ∙ ap (logs_from 0) (c.as_slice-3.ensures.value ∙ end ∙ ap (λ (ss : List (MirrorState _)). map (λ s. drain s) ss) (made ∙ ap (λ (ss : List (MirrorState _)). after_script m.commands ss m.script) opened)),
+          ∙ ap (logs_from 0) (c.as_slice-3.ensures.value ∙ end ∙ ap (λ (ss : List (MirrorState _)). map (λ s. drain s) ss) (made ∙ ap (λ (ss : List (MirrorState _)). after_script m.commands ss m.script) opened)),
     )

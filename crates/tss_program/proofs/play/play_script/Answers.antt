@@ -1,10 +1,7 @@
-use Rattle.std.proofs.Common.{rules, ◌≡◌, ◌<◌, ◌++◌, ℕ, List, length, get_or, set, ap, sym, ◌∙◌, subst, arith}
+use Rattle.std.proofs.Common.{rules, ◌<◌, length, ap, ◌∙◌, subst, arith}
 use Rattle.match_file.specs.Data.{MatchData, IsMatch}
 use Rattle.match_file.specs.declared.script_line.ScriptLine.TheVariants.{Tick}
-use Rattle.game_trait.specs.declared.event.Reply.{Reply}
-use Rattle.sync_model.specs.State.{MirrorState}
-use Rattle.tss_program.specs.Report.{line_text}
-use Rattle.tss_program.proofs.OnWay.{IsMadeTo, made-opening, made-next, made-more, made-all}
+use Rattle.tss_program.proofs.OnWay.{made-opening, made-next, made-more, made-all}
 use Rattle.tss_program.proofs.play.play_script.Goals as goal
 
 pub loop-line-init : goal.loop-line-init

@@ -1,4 +1,4 @@
-use Rattle.std.proofs.Common.{◌≡◌, ℕ, List, [], ◌∷◌, ◌++◌, codes, append_assoc, ap, ◌∙◌}
+use Rattle.std.proofs.Common.{◌≡◌, ℕ, List, [], ◌∷◌, ◌++◌, codes, append_assoc}
 use Rattle.tss_io.specs.Lines.{as_line, spaced}
 use Rattle.tss_program.specs.Due.{refused_text}
 use Rattle.tss_program.proofs.refusal.refused_line.Goals as goal

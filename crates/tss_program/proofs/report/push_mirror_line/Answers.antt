@@ -1,8 +1,5 @@
-use Rattle.std.proofs.Common.{ℕ, List, ◌≡◌, ◌∷◌, [], ◌++◌, length, codes, decimal, refl, ap, ◌∙◌}
+use Rattle.std.proofs.Common.{refl, ◌∙◌}
 use Rattle.std.proofs.lemmas.Result.{on_ok_weaker}
-use Rattle.tss_io.specs.Lines.{as_line, spaced}
-use Rattle.tss_io.specs.Words.{word_bytes}
-use Rattle.tss_program.specs.Report.{mirror_line}
 use Rattle.tss_program.proofs.report.push_mirror_line.Goals as goal
 
 pub returns : goal.returns

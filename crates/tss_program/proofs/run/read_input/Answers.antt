@@ -1,5 +1,4 @@
-use Rattle.std.proofs.Common.{◌≡◌, arith}
-use Rattle.tss_program.specs.Stops.{stop_of_read, stop_of_text}
+use Rattle.std.proofs.Common.{arith}
 use Rattle.tss_program.specs.Run.{WhyStopped, IfRefused}
 use Rattle.tss_program.proofs.Ends.{behind_limit-whole, from-fault, why-read, refused-read, refused-any}
 use Rattle.tss_program.proofs.run.read_input.Goals as goal

@@ -1,0 +1,5 @@
+use Rattle.tss_program.proofs.Ends.{match_text-injective}
+use Rattle.tss_program.proofs.laws.one_match_each_text.Goals as goal
+
+pub returns : goal.returns
+returns c = match_text-injective
