@@ -1,5 +1,5 @@
 -- The mirror at the close of its lock.
-use Rattle.std.proofs.Common.{◌≡◌, false, List, [], ◌∷◌, refl, sym, ap, ◌∙◌, subst}
+use Rattle.std.proofs.Common.{◌≡◌, List, [], ◌∷◌, refl, sym, ap, ◌∙◌, subst}
 use Rattle.game_trait.specs.declared.event.Event.{Event}
 use Rattle.game_trait.specs.declared.event.Reply.{Reply}
 use Rattle.sync_model.specs.State.{MirrorState}

@@ -8,7 +8,8 @@ use mirror_core::Mirror;
 use std::marker::Model;
 use turn_lock::Held;
 
-/// A mirror behind a lock. Contracts see it as the mirror's state. A call is an event, and an arrival uses up room.
+/// A mirror behind a lock. Contracts see it as the mirror's state. A call is an event other than a change of the plan, and an
+/// arrival is a growing call.
 #[derive(Drop)]
 pub struct HeldMirror<G: Game> {
     mirror: Mirror<G>,
