@@ -5,9 +5,10 @@ ghost use Rattle.std.specs.List.{All};
 ghost use Rattle.game_trait.specs.Events.{is_arrival};
 ghost use Rattle.turn_lock.specs.Rules.{one_if};
 ghost use Rattle.turn_lock.specs.Totals.{total};
-ghost use Rattle.turn_lock.specs.Views.{view, fresh_views, member_of, FitsSeat, TakesWhatFits, StillFits};
+ghost use Rattle.turn_lock.specs.Views.{view, fresh_views, member_of, FitsSeat, StillFits};
 ghost use Rattle.turn_lock.specs.Calls.{IsCall};
-ghost use Rattle.mirror_lock.specs.Locked.{mirror_rules, EndsAs};
+ghost use Rattle.mirror_lock.specs.Locked.{FitsLocked, mirror_rules, EndsAs};
+ghost use Rattle.game_trait.specs.declared.event.Event.{Event as AnEvent};
 
 use crate::held_mirror::HeldMirror;
 use game_trait::{Event, Game, Reply};
@@ -62,9 +63,11 @@ impl<G: Game> MirrorLock<G> {
         requires arrivals { total (λ s. s.grows) shares.now ≤ mirror.spare }
         ensures opening { IfOk result (λ t. t.0.lock.table.shared.key.opening.value ≡ mirror) }
         ensures counted { IfOk result (λ t. t.0.lock.seats ≡ length shares.now) }
+        ensures all { IfOk result (λ t. vec_len t.1 ≡ t.0.lock.seats) }
         ensures own { IfOk result (λ t. All (λ s. s.seat.table_id ≡ t.0.lock.table.shared.table_id) t.1.items) }
         ensures seats { IfOk result (λ t. map (λ s. view s.seat) t.1.items ≡ fresh_views mirror 0 shares.now) }
-        ensures fits { IfOk result (λ t. All (λ s. TakesWhatFits mirror_rules mirror (view s.seat)) t.1.items) }
+        ensures fits { IfOk result (λ t. (event : AnEvent) → FitsLocked mirror event
+            → All (λ s. FitsSeat mirror_rules (view s.seat) event) t.1.items) }
     {
         let (lock, seats) = TurnLock::<HeldMirror<G>>::start(
             alloc,
