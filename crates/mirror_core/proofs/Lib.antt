@@ -1,5 +1,5 @@
-pub mod PlanLaws
-pub mod Consistent
-pub mod OneCopy
-pub mod Kept
-pub mod Calls
+mod PlanLaws
+mod Consistent
+mod OneCopy
+mod Kept
+mod Calls

@@ -16,3 +16,4 @@ pub mod Arrivals
 pub mod Rebuilt
 pub mod Replies
 pub mod Computing
+pub mod Alone

@@ -11,3 +11,4 @@ pub mod Legal
 pub mod Consistent
 pub mod Repairs
 pub mod Worked
+pub mod Pinned

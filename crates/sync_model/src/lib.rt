@@ -2,6 +2,7 @@
 #![tactic(auto)]
 
 pub mod laws;
+pub mod pinned;
 mod turned;
 pub mod worked;
 

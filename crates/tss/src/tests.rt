@@ -2,13 +2,12 @@
 //! whole crate once more.
 
 mod arena;
-mod commands;
 mod counting_game;
-mod delays;
-mod locked_mirror;
+mod game_trait_tests;
 mod match_texts;
-mod mirror;
-mod plain_mirror;
+mod mirror_core_tests;
+mod mirror_lock_tests;
 mod program;
+mod stagger_clock_tests;
 mod streams;
-mod turns;
+mod turn_lock_tests;
