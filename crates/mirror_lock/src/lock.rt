@@ -1,0 +1,107 @@
+//! The lock of a mirror.
+
+ghost use Rattle.std.specs.Prelude.{◌≡◌, ℕ, ◌+◌, ◌<◌, ◌≤◌, ◌^◌, [], map, length, vec_len, IfOk, IsTrue};
+ghost use Rattle.std.specs.List.{All};
+ghost use Rattle.game_trait.specs.Events.{is_arrival};
+ghost use Rattle.turn_lock.specs.Rules.{one_if};
+ghost use Rattle.turn_lock.specs.Totals.{total};
+ghost use Rattle.turn_lock.specs.Views.{view, fresh_views, member_of, FitsSeat, StillFits};
+ghost use Rattle.turn_lock.specs.Calls.{IsCall};
+ghost use Rattle.mirror_lock.specs.Locked.{FitsLocked, mirror_rules, EndsAs};
+ghost use Rattle.game_trait.specs.declared.event.Event.{Event as AnEvent};
+
+use crate::held_mirror::HeldMirror;
+use game_trait::{Event, Game, Reply};
+use mirror_core::Mirror;
+use std::alloc::Global;
+use std::sync::Wait;
+use tss_io::NoMemory;
+use turn_lock::{Named, Share, TurnLock, TurnSeat};
+
+/// A mirror's lock over the lock `L` of a held mirror.
+pub struct MirrorOver<L> {
+    lock: L,
+}
+
+/// The lock of a mirror of the game `G`. Threads share it by reference, each with a seat of its own.
+pub type MirrorLock<G> = MirrorOver<TurnLock<HeldMirror<G>>>;
+
+/// A seat of a mirror's lock.
+pub type MirrorSeat<G> = TurnSeat<HeldMirror<G>>;
+
+impl<L: Drop> Drop for MirrorOver<L> {
+    fn drop(self) {
+        let Self { lock } = self;
+        drop(lock);
+    }
+}
+
+impl<L: Named> Named for MirrorOver<L> {
+    ghost name = { λ m. L.name m.lock };
+}
+
+impl<L> MirrorOver<L> {
+    fn into_lock(self) -> L
+        ensures { result ≡ self.lock }
+    {
+        let Self { lock } = self;
+        lock
+    }
+}
+
+impl<G: Game> MirrorLock<G> {
+    /// A lock of the mirror, and a seat for each share, numbered from 0 on. No seat has seen anything, and what fits the
+    /// mirror fits each seat. The shares' arrivals are at most what the mirror has room for, in sum. Want of memory makes
+    /// nothing, and lets the mirror go.
+    pub fn start(
+        alloc: Global,
+        mirror: Mirror<G>,
+        shares: &[Share],
+    ) -> Result<(MirrorLock<G>, Vec<MirrorSeat<G>>), NoMemory>
+        requires some_share { 0 < length shares.now }
+        requires calls { total (λ s. s.calls) shares.now < 2 ^ 63 }
+        requires arrivals { total (λ s. s.grows) shares.now ≤ mirror.spare }
+        ensures opening { IfOk result (λ t. t.0.lock.table.shared.key.opening.value ≡ mirror) }
+        ensures counted { IfOk result (λ t. t.0.lock.seats ≡ length shares.now) }
+        ensures all { IfOk result (λ t. vec_len t.1 ≡ t.0.lock.seats) }
+        ensures own { IfOk result (λ t. All (λ s. s.seat.table_id ≡ t.0.lock.table.shared.table_id) t.1.items) }
+        ensures seats { IfOk result (λ t. map (λ s. view s.seat) t.1.items ≡ fresh_views mirror 0 shares.now) }
+        ensures fits { IfOk result (λ t. (event : AnEvent) → FitsLocked mirror event
+            → All (λ s. FitsSeat mirror_rules (view s.seat) event) t.1.items) }
+    {
+        let (lock, seats) = TurnLock::<HeldMirror<G>>::start(
+            alloc,
+            HeldMirror::new(mirror),
+            shares,
+        )?;
+        Ok((MirrorOver { lock }, seats))
+    }
+
+    /// Waits for the seat's turn, and makes the event. It has to be due within the match, or to name a copy that is there; no
+    /// seat puts another plan in force. The answer is the mirror's at that point of one history, of which the seat has then
+    /// seen a front that ends with this event. It uses up one call of the seat's share, and an arrival one growing call.
+    /// While it waits, it yields the processor between two looks. It takes no memory.
+    pub fn ask<W: Wait>(&self, rt: &W, seat: &mut MirrorSeat<G>, event: &Event) -> Reply
+        requires own { seat.old.seat.table_id ≡ self.now.lock.table.shared.table_id }
+        requires fits { FitsSeat mirror_rules (view seat.old.seat) event.now }
+        requires calls { 0 < seat.old.calls }
+        requires arrivals { IsTrue (is_arrival event.now) → 0 < seat.old.grows }
+        ensures own { seat.new.seat.table_id ≡ seat.old.seat.table_id }
+        ensures called { IsCall mirror_rules (view seat.old.seat) event.now result (view seat.new.seat) }
+        ensures fits { StillFits mirror_rules (view seat.old.seat) (view seat.new.seat) }
+        ensures calls { seat.new.calls + 1 ≡ seat.old.calls }
+        ensures arrivals { seat.new.grows + one_if (is_arrival event.now) ≡ seat.old.grows }
+    {
+        self.lock.call(rt, seat, event)
+    }
+
+    /// The mirror, once all seats are back, at the end of one history: the events of these seats, each once, with the answers
+    /// that they got. Its own history gained those that changed it, in order. It waits for nobody and takes no memory.
+    pub fn close(self, seats: Vec<MirrorSeat<G>>) -> Mirror<G>
+        requires own { All (λ s. s.seat.table_id ≡ self.lock.table.shared.table_id) seats.items }
+        requires all { vec_len seats ≡ self.lock.seats }
+        ensures { EndsAs self.lock.table.shared.key.opening.value (map (λ s. member_of (view s.seat)) seats.items) result }
+    {
+        self.into_lock().close(seats).into_mirror()
+    }
+}
