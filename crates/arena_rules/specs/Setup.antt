@@ -40,7 +40,7 @@ cells_in_use layout = map pickup_cell layout.pickups ++ map spot_cell layout.pla
 -- a layout that a match text can give: all that stands somewhere stands in a cell of its own, in the grid and off the walls
 pub record IsLayout (layout : Layout) : Type 0 where
   pub grid : IsGrid layout.grid
-  pub players : (1 ≤ length layout.players) × (length layout.players ≤ 16)
+  pub players : (1 ≤ length layout.players) × (length layout.players ≤ 32)
   pub pickups : length layout.pickups ≤ 32
   pub free : list_all (λ c. is_open layout.grid c.x c.y) (cells_in_use layout) ≡ true
   pub apart : IsDistinct same_cell (cells_in_use layout)

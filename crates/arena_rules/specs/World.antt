@@ -3,7 +3,7 @@ use Rattle.std.specs.Prelude.{◌≡◌, ℕ, ◌+◌, ◌≤◌, ◌<◌, ◌^�
 use Rattle.std.specs.List.{list_any, list_all, IsDistinct}
 use Rattle.game_trait.specs.Game.{Rules}
 use Rattle.game_trait.specs.declared.command.Act.{Act}
-use Rattle.game_trait.specs.declared.command.Act.TheVariants.{Go, Left, Right, Shoot}
+use Rattle.game_trait.specs.declared.command.Act.TheVariants.{Go, Left, Right, Shoot, Dash}
 use Rattle.game_trait.specs.declared.command.Command.{Command}
 use Rattle.arena_rules.specs.Ground.{Grid, IsGrid, is_open}
 use Rattle.arena_rules.specs.Setup.{Layout, Cell, same_cell, spot_cell}
@@ -83,6 +83,7 @@ acted world number player Go = with_player world number (gone world player (ahea
 acted world number player Left = with_player world number (turned_to player (turned_left player.spot.face))
 acted world number player Right = with_player world number (turned_to player (turned_right player.spot.face))
 acted world number player Shoot = world
+acted world number player Dash = world
 
 -- the world after the act of a player who is there or not: nothing changes where he isn't
 abbrev pub acted_if_there : World → ℕ → Option Player → Act → World
@@ -111,7 +112,7 @@ pub record HasNumbersInRange (player : Player) : Type 0 where
 -- numbers are in their ranges
 pub record IsSound (world : World) : Type 0 where
   pub grid : IsGrid world.grid
-  pub count : length world.players ≤ 16
+  pub count : length world.players ≤ 32
   pub free : list_all (λ c. is_open world.grid c.x c.y) (held_cells world.players) ≡ true
   pub apart : IsDistinct same_cell (held_cells world.players)
   pub numbers : All HasNumbersInRange world.players

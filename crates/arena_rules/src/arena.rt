@@ -18,7 +18,7 @@ use tss_io::NoMemory;
 #[derive(Debug, Drop)]
 pub struct Arena {
     ground: Ground,
-    players: ArrayVec<Player, 16>,
+    players: ArrayVec<Player, 32>,
     time: Tick,
 }
 
@@ -143,6 +143,7 @@ impl Game for Arena {
             Act::Left => self.put(x.player, player.turned_to(player.spot.face.turned_left())),
             Act::Right => self.put(x.player, player.turned_to(player.spot.face.turned_right())),
             Act::Shoot => {}
+            Act::Dash => {}
         }
     }
 

@@ -11,5 +11,5 @@ pub struct Setup {
     /// The pickups, in the order of their lines.
     pub pickups: ArrayVec<PickupSpot, 32>,
     /// The homes of the players, in the order of their lines.
-    pub players: ArrayVec<Spot, 16>,
+    pub players: ArrayVec<Spot, 32>,
 }
