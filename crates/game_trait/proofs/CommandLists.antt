@@ -1,6 +1,6 @@
 -- Commands with different names, and one more that is found by its name.
 use Rattle.std.proofs.Common.{◌≡◌, refl, ℕ, true, false, cond, ◌||◌, List, [], ◌∷◌, ◌++◌, Some, arith}
-use Rattle.std.specs.List.{AllByRecursion, list_any}
+use Rattle.std.specs.List.{list_any}
 use Rattle.std.specs.Option.{is_some}
 use Rattle.std.proofs.lemmas.Bool.{or_parts}
 use Rattle.std.proofs.lemmas.Bool.Decides.{nat_tests}
@@ -8,6 +8,7 @@ use Rattle.game_trait.specs.declared.command.Command.{Command}
 use Rattle.game_trait.specs.Keys.{is_named, same_name, NamesDiffer}
 use Rattle.game_trait.specs.CommandList.{command_named, has_command, same_pair}
 use Rattle.game_trait.proofs.KeyOrder.{same_name-sym}
+use Rattle.game_trait.proofs.Lists.{all-push}
 
 -- a command is found exactly where there is one
 pub found-has : (commands : List Command) (from number : ℕ) → is_some (command_named commands from number) ≡ has_command commands from number
@@ -35,11 +36,6 @@ found-push (y ∷ ys) x from number new =
       | false ↦ λ other. found-push ys x from number parts.1
     ]
     refl
-
--- what holds of each element and of one more holds of all
-pub all-push : {X : Type 0} (P : X → Type 0) (xs : List X) (x : X) → AllByRecursion P xs → P x → AllByRecursion P (xs ++ x ∷ [])
-all-push P [] x h here = (here, tt)
-all-push P (y ∷ ys) x h here = (h.0, all-push P ys x h.1 here)
 
 -- one command more, of a new name
 pub NamesDiffer-push : (xs : List Command) (x : Command) → NamesDiffer xs → list_any (same_name x) xs ≡ false → NamesDiffer (xs ++ x ∷ [])

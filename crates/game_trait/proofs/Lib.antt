@@ -1,3 +1,4 @@
+pub mod Lists
 pub mod Runs
 pub mod Items
 pub mod Counts
@@ -5,3 +6,6 @@ pub mod KeyOrder
 pub mod OrderedParts
 pub mod Sorting
 pub mod CommandLists
+pub mod Places
+pub mod Due
+pub mod Lengths

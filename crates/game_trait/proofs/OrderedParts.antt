@@ -1,6 +1,6 @@
 -- The ordered part: how many beats it has, how its parts join, what it holds, and that the order in which commands
 -- were accepted doesn't matter.
-use Rattle.std.proofs.Common.{◌≡◌, ℕ, zero, suc, ◌+◌, ◌-◌, ◌≤◌, Bool, false, cond, ◌&&◌, List, [], ◌∷◌, ◌++◌, map, filter, refl, ap, sym, ◌∙◌, append_assoc, arith}
+use Rattle.std.proofs.Common.{◌≡◌, ℕ, zero, suc, ◌+◌, ◌-◌, ◌≤◌, Bool, false, cond, ◌&&◌, List, [], ◌∷◌, ◌++◌, map, filter, refl, ap, sym, ◌∙◌, append-nil, append_assoc, arith}
 use Rattle.std.specs.Prelude.{◌==◌}
 use Rattle.std.proofs.lemmas.Bool.Decides.{nat_tests}
 use Rattle.game_trait.specs.declared.command.Command.{Command}
@@ -59,11 +59,7 @@ unfolding ticks
 ordered-more accepted i j h =
     ordered-join accepted i j (j + 1) h (omega arith)
     ∙ (let e : (j + 1) - j ≡ suc zero = omega arith in
-    ap (λ (l : List Item). ordered accepted i j ++ l) (ap (ticks accepted j) e ∙ append-none (tick_of accepted j)))
-  where
-    append-none : (l : List Item) → l ++ [] ≡ l
-    append-none [] = refl
-    append-none (x ∷ xs) = ap (λ (m : List Item). x ∷ m) (append-none xs)
+    ap (λ (l : List Item). ordered accepted i j ++ l) (ap (ticks accepted j) e ∙ append-nil (tick_of accepted j)))
 
 -- the commands of one tick are those of that time, each as often as it was accepted
 pub times-tick_of :
@@ -117,7 +113,7 @@ times-ticks p accepted t (suc n) =
     omega (arith, here, later, both))
 
 -- the same commands in another order of acceptance are due in the same order
-pub due_at-same :
+due_at-same :
     (some other : List Command) (t : ℕ) → NamesDiffer some → NamesDiffer other
     → ((p : Command → Bool) → times p some ≡ times p other) → due_at some t ≡ due_at other t
 due_at-same some other t left right same =

@@ -14,6 +14,13 @@ is_arrival (Arrive x) = true
 is_arrival (Step c) = false
 is_arrival (Restagger p) = false
 
+-- an event is a step of a copy
+abbrev pub is_step : Event → Bool
+is_step Tick = false
+is_step (Arrive x) = false
+is_step (Step c) = true
+is_step (Restagger p) = false
+
 -- an event puts another plan of delays in force
 abbrev pub is_restagger : Event → Bool
 is_restagger Tick = false

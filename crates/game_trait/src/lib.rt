@@ -5,6 +5,7 @@ mod command;
 mod command_list;
 mod event;
 mod game;
+pub mod laws;
 pub mod limits;
 
 pub use command::{Act, Command, Item, Key, MirrorId, Number, Tick, order_by_key};

@@ -1,11 +1,12 @@
 -- The last of a list, the longest delay, and the limit of a copy by cases.
 use Rattle.std.proofs.Common.{◌≡◌, refl, ℕ, zero, suc, ◌-◌, ◌≤◌, ◌<◌, min, List, [], ◌∷◌, length, get_or, arith}
 use Rattle.std.specs.List.{AllByRecursion}
-use Rattle.sync_model.specs.State.{MirrorState, last_of, step_limit, copy_clock}
-use Rattle.stagger_clock.specs.Schedule.{Schedule, IsSchedule, longest_delay, limit_at}
+use Rattle.game_trait.specs.declared.limits.TheConstants.{LONGEST_DELAY}
+use Rattle.sync_model.specs.Lists.{last_of}
+use Rattle.sync_model.specs.Schedule.{Schedule, IsSchedule, longest_delay, limit_at}
 
 -- the last of a list is at its last place
-pub last_of-at : {X : Type 0} (x d : X) (xs : List X) → last_of x xs ≡ get_or (x ∷ xs) (length xs) d
+last_of-at : {X : Type 0} (x d : X) (xs : List X) → last_of x xs ≡ get_or (x ∷ xs) (length xs) d
 unfolding last_of
 last_of-at x d [] = refl
 last_of-at x d (y ∷ ys) = last_of-at y d ys
@@ -16,19 +17,15 @@ unfolding last_of
 last_of-all P x [] here rest = here
 last_of-all P x (y ∷ ys) here rest = last_of-all P y ys rest.0 rest.1
 
--- the last delay, or 0 where there is none
-pub last_of-last : (delays : List ℕ) → last_of 0 delays ≡ get_or delays (length delays - 1) 0
+-- the longest delay is the last one, or 0 where there is none
+pub longest_delay-last : (delays : List ℕ) → longest_delay delays ≡ get_or delays (length delays - 1) 0
 unfolding last_of
-last_of-last [] = refl
-last_of-last (y ∷ ys) = let back : suc (length ys) - 1 ≡ length ys = omega arith in rw back (last_of-at y 0 ys)
+longest_delay-last [] = refl
+longest_delay-last (y ∷ ys) = let back : suc (length ys) - 1 ≡ length ys = omega arith in rw back (last_of-at y 0 ys)
 
--- the longest delay is the last one
-pub longest_delay-last : (s : Schedule) → longest_delay s ≡ get_or s.delays (length s.delays - 1) 0
-longest_delay-last s = last_of-last s.delays
-
--- it is at most 1,024 ticks
-pub longest_delay-short : (s : Schedule) → IsSchedule s → longest_delay s ≤ 1024
-longest_delay-short s is = last_of-all (λ delay. delay ≤ 1024) 0 s.delays (omega arith) is.short_delays
+-- it is at most the longest that a delay may be
+pub longest_delay-short : (s : Schedule) → IsSchedule s → longest_delay s.delays ≤ LONGEST_DELAY
+longest_delay-short s is = last_of-all (λ delay. delay ≤ LONGEST_DELAY) 0 s.delays (omega arith) is.short_delays
 
 -- the limit of copy 0
 pub limit_at-first : (s : Schedule) (copy clock ahead : ℕ) → copy ≡ 0 → limit_at s copy clock ahead ≡ min s.length (clock - get_or s.delays copy 0)
@@ -43,13 +40,5 @@ pub limit_at-behind :
 unfolding limit_at
 limit_at-behind s zero clock ahead behind = absurd (omega arith)
 limit_at-behind s (suc copy) clock ahead behind = refl
-
--- a mirror's step limit is its stagger's limit, with the clock of the copy ahead
-pub step_limit-limit_at :
-    {W : Type 0} (s : MirrorState W) (copy : ℕ)
-    → step_limit s copy ≡ limit_at (record { delays = s.delays; length = s.length }) copy s.clock (copy_clock s (copy - 1))
-unfolding step_limit limit_at
-step_limit-limit_at s zero = refl
-step_limit-limit_at s (suc copy) = let back : suc copy - 1 ≡ copy = omega arith in rw back refl
 
 pub ruleset limits = (longest_delay-last, longest_delay-short, limit_at-first, limit_at-behind)

@@ -1,6 +1,6 @@
-//! The delays of a match's copies and its length; stands on the definitions of `sync_model`.
+//! A plan of delays of a match's copies, and the match's length.
 #![tactic(auto)]
 
 mod stagger;
 
-pub use stagger::{LONGEST_DELAY, LONGEST_MATCH, MOST_COPIES, Stagger};
+pub use stagger::Stagger;

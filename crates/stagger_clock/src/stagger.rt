@@ -1,31 +1,24 @@
-//! The delays of a match's copies, and how far each copy may go.
+//! A plan of delays and the match's length: how far each copy may go, and where the clock ends.
 
 ghost use Rattle.std.specs.Prelude.{◌≡◌, ◌<◌, ◌≤◌, length, slice_index};
-ghost use Rattle.stagger_clock.specs.Schedule.{IsSchedule, limit_at, longest_delay, is_end};
+ghost use Rattle.sync_model.specs.Schedule.{IsSchedule, limit_at, longest_delay, is_at_end};
 
 use game_trait::Tick;
+use game_trait::limits::{LONGEST_DELAY, MOST_COPIES};
 use std::marker::Model;
-
-/// How many copies a mirror has at most.
-pub const MOST_COPIES: usize = 8;
-
-/// How far the last copy may be behind the clock at most, in ticks.
-pub const LONGEST_DELAY: Tick = 1_024;
-
-/// How long a match may be, in ticks.
-pub const LONGEST_MATCH: Tick = 8_192;
 
 /// The delays of a match's copies, and the match's length, all in ticks. It takes no memory.
 #[derive(Clone, Copy, Debug)]
 pub struct Stagger {
-    places: [Tick; 8],
+    places: [Tick; MOST_COPIES],
     copies: u8,
     ticks: Tick,
 }
 
 impl Model for Stagger {
     ghost use Rattle.std.specs.Prelude.{◌++◌, ◌-◌, length, replicate, take};
-    ghost use Rattle.stagger_clock.specs.Schedule.{Schedule};
+    ghost use Rattle.game_trait.specs.declared.limits.TheConstants.{MOST_COPIES};
+    ghost use Rattle.sync_model.specs.Schedule.{Schedule};
     ghost use Rattle.stagger_clock.specs.Stored.{IsStored};
 
     ghost Value = { Schedule };
@@ -34,7 +27,7 @@ impl Model for Stagger {
 
     ghost invariant = { λ a. IsStored a.places a.copies a.ticks };
 
-    ghost inverse = { λ s. record { places = s.delays ++ replicate (8 - length s.delays) 0; copies = length s.delays; ticks = s.length } };
+    ghost inverse = { λ s. record { places = s.delays ++ replicate (MOST_COPIES - length s.delays) 0; copies = length s.delays; ticks = s.length } };
 }
 
 impl Stagger {
@@ -71,8 +64,9 @@ impl Stagger {
     /// The last copy's delay, in ticks.
     #[tactic(auto, using(crate::proofs::Limits::limits))]
     pub fn longest(&self) -> Tick
-        ensures longest { result ≡ longest_delay self.now }
-        ensures short { result ≤ 1024 }
+        ensures longest { result ≡ longest_delay self.now.delays }
+        ensures short { result ≤ LONGEST_DELAY }
+        ensures schedule { IsSchedule self.now }
     {
         self.delay(self.copies - 1)
     }
@@ -96,10 +90,10 @@ impl Stagger {
         if copy == 0 { own } else { own.min(ahead) }
     }
 
-    /// Whether the mirror's clock stands at its end, the match's length plus the longest delay.
+    /// Whether the mirror's clock stands at its end, the match's length plus the longest delay, or past it.
     pub fn at_end(&self, clock: Tick) -> bool
-        ensures { result ≡ is_end self.now clock }
+        ensures { result ≡ is_at_end self.now clock }
     {
-        clock == self.ticks + self.longest()
+        clock >= self.ticks + self.longest()
     }
 }

@@ -1,27 +1,31 @@
 -- Along a list of events: what fits goes on fitting, and a staggered mirror stays staggered.
-use Rattle.std.proofs.Common.{ℕ, zero, suc, ◌+◌, List, [], ◌∷◌, length, ap, sym, ◌∙◌, arith}
+use Rattle.std.proofs.Common.{ℕ, zero, suc, ◌+◌, ◌<◌, List, [], ◌∷◌, length, refl, sym, arith}
 use Rattle.std.specs.List.{AllByRecursion}
 use Rattle.game_trait.specs.declared.event.Event.{Event}
-use Rattle.game_trait.specs.declared.event.Event.TheVariants.{Tick, Arrive, Step}
+use Rattle.game_trait.specs.declared.event.Event.TheVariants.{Tick, Arrive, Step, Restagger}
 use Rattle.game_trait.proofs.KeyOrder.{all-weaker}
 use Rattle.sync_model.specs.State.{MirrorState}
 use Rattle.sync_model.specs.Change.{next, Fits, after}
-use Rattle.sync_model.specs.Staggered.{IsStaggered, IsWellFormed}
+use Rattle.sync_model.specs.Schedule.{IsSchedule}
+use Rattle.sync_model.specs.Staggered.{IsStaggered}
+use Rattle.sync_model.specs.WellFormed.{ArePlans, IsWellFormed}
 use Rattle.sync_model.specs.Turns.{steps_from, turn}
 use Rattle.sync_model.proofs.Staggered.{staggered-next}
-use Rattle.sync_model.proofs.Cases.{next-fixed}
+use Rattle.sync_model.proofs.Cases.{next-fixed, next-plan, restagger-cases}
 
 -- what fits still fits after any event
 pub fits-next : {W : Type 0} (s : MirrorState W) (e f : Event) → Fits s f → Fits (next s e) f
 fits-next s e Tick fits = tt
 fits-next s e (Arrive x) fits = (let same = (next-fixed s e).length in omega arith)
 fits-next s e (Step c) fits = (let same = (next-fixed s e).copies in omega arith)
+fits-next s e (Restagger p) fits = rw (next-fixed s e).plans fits
 
 -- and fitted before
 pub fitted-next : {W : Type 0} (s : MirrorState W) (e f : Event) → Fits (next s e) f → Fits s f
 fitted-next s e Tick fits = tt
 fitted-next s e (Arrive x) fits = (let same = (next-fixed s e).length in omega arith)
 fitted-next s e (Step c) fits = (let same = (next-fixed s e).copies in omega arith)
+fitted-next s e (Restagger p) fits = rw (sym (next-fixed s e).plans) fits
 
 pub all-fit-next : {W : Type 0} (s : MirrorState W) (e : Event) (es : List Event) → AllByRecursion (Fits s) es → AllByRecursion (Fits (next s e)) es
 all-fit-next s e es h = all-weaker (Fits s) (Fits (next s e)) es (λ f k. fits-next s e f k) h
@@ -32,18 +36,20 @@ unfolding after
 staggered-after [] s fit here = here
 staggered-after (e ∷ es) s fit here = staggered-after es (next s e) (all-fit-next s e es fit.1) (staggered-next s e fit.0 here)
 
+-- the plan in force stays one that is there
+in_force-next : {W : Type 0} (s : MirrorState W) (e : Event) → Fits s e → s.plan < length s.plans → (next s e).plan < length s.plans
+in_force-next s (Restagger p) fits here = restagger-cases s p (λ t r. t.plan < length s.plans) fits
+in_force-next s Tick fits here = rw (next-plan s Tick refl) here
+in_force-next s (Arrive x) fits here = rw (next-plan s (Arrive x) refl) here
+in_force-next s (Step c) fits here = rw (next-plan s (Step c) refl) here
+
 -- the fixed parts stay well formed
-pub well_formed-next : {W : Type 0} (s : MirrorState W) (e : Event) → IsWellFormed s → IsWellFormed (next s e)
-well_formed-next s e h =
+pub well_formed-next : {W : Type 0} (s : MirrorState W) (e : Event) → Fits s e → IsWellFormed s → IsWellFormed (next s e)
+well_formed-next s e fits h =
     let same = next-fixed s e in
     record {
-      some_copy = rw same.delays h.some_copy;
-      few_copies = rw same.delays h.few_copies;
-      one_run_each = same.copies ∙ h.one_run_each ∙ ap (λ (ds : List ℕ). length ds) (sym same.delays);
-      delays_rise = rw same.delays h.delays_rise;
-      short_delays = rw same.delays h.short_delays;
-      some_tick = rw same.length h.some_tick;
-      few_ticks = rw same.length h.few_ticks;
+      plans = rw (same.plans, same.length, same.copies) h.plans;
+      in_force = rw same.plans (in_force-next s e fits h.in_force);
     }
 
 -- what ticks and steps keep, turns keep

@@ -1,6 +1,7 @@
 -- What an arrival repairs: the copies that are further than the last copy at which it is late.
 use Rattle.std.proofs.Common.{◌≡◌, ℕ, suc, ◌≤◌, ◌<◌, Bool, true, false, cond, ◌&&◌, ◌||◌, ltb, List, [], ◌∷◌, ◌++◌, map, filter, length, replicate, refl, ap, sym, ◌∙◌, subst, ⊎_elim, arith}
 use Rattle.std.specs.List.{AllByRecursion, list_any}
+use Rattle.std.proofs.lemmas.List.{append-nil}
 use Rattle.std.proofs.lemmas.Bool.{false_from_ne_true, or_parts, lt-ltb, le-ltb, ltb-true, ltb-false, cases_lt, and_from}
 use Rattle.std.proofs.lemmas.Bool.Decides.{nat_tests}
 use Rattle.game_trait.specs.declared.command.Command.{Command}
@@ -14,16 +15,14 @@ use Rattle.game_trait.proofs.Runs.{commands_of-append}
 use Rattle.game_trait.proofs.Counts.{times-append}
 use Rattle.game_trait.proofs.KeyOrder.{all-weaker}
 use Rattle.sync_model.specs.Lists.{last_of}
-use Rattle.sync_model.specs.State.{MirrorState}
 use Rattle.sync_model.specs.Settle.{begins_with, settle_one, settle, is_repaired, which_repaired, repaired}
-use Rattle.sync_model.specs.Change.{is_repeat, with_late, proposed_by_arrival}
-use Rattle.sync_model.specs.Staggered.{IsAhead, IsChained, IsComplete, IsStaggered}
+use Rattle.sync_model.specs.Change.{with_late, proposed_by_arrival}
+use Rattle.sync_model.specs.Staggered.{IsAhead, IsChained, IsComplete}
 use Rattle.sync_model.specs.Repairs.{AreFirst, is_late_at, last_late_clock, repaired_by_arrival}
 use Rattle.sync_model.proofs.Settle.{begins_with-Decides, IsFirstAtMost, NeverRises, settle-beats, settle-each}
-use Rattle.sync_model.proofs.Proposals.{complete-rebuilt, complete-late, with_late-past, with_late-due, beats-command}
+use Rattle.sync_model.proofs.Proposals.{complete-rebuilt, complete-late, with_late-past, with_late-due, beats-command, equal_clocks}
 use Rattle.sync_model.proofs.Lists.{all-map}
-use Rattle.sync_model.proofs.Staggered.{beats-front, chained-falls, late-beats}
-use Rattle.sync_model.proofs.Drain.{equal_clocks}
+use Rattle.sync_model.proofs.Trailing.{beats-front, chained-falls, late-beats}
 use Rattle.sync_model.proofs.Repairs.{ahead-front, front-snoc, chained-unrepaired, no-marks, repaired-goes_on, unrepaired-same, none-marked, marks-first}
 
 -- a command of a new name stands in no complete run
@@ -102,16 +101,12 @@ not-front accepted x r a new complete longer =
     (λ (h : r ++ Cmd x ∷ [] ≡ a ++ Cmd x ∷ []). (let k = sym (beats-command x r) ∙ ap beats h ∙ beats-command x a in absurd (omega arith)))
     (front-snoc (r ++ Cmd x ∷ []) a (Cmd x) ((begins_with-Decides (a ++ Cmd x ∷ []) (r ++ Cmd x ∷ [])).0 e)))
 
-append-none : {X : Type 0} (l : List X) → l ++ [] ≡ l
-append-none [] = refl
-append-none {X} (x ∷ xs) = ap (λ (m : List X). x ∷ m) (append-none xs)
-
 no-beats : beats [] ≡ 0
 unfolding beats
 no-beats = refl
 
 -- clocks behind are no greater
-falls-all : (run : List Item) (behind : List (List Item)) → IsChained (run ∷ behind) → AllByRecursion (λ r. beats r ≤ beats run) behind
+pub falls-all : (run : List Item) (behind : List (List Item)) → IsChained (run ∷ behind) → AllByRecursion (λ r. beats r ≤ beats run) behind
 unfolding IsChained IsAhead
 falls-all run [] h = tt
 falls-all run (r ∷ rs) h =
@@ -141,7 +136,7 @@ filter-none p (x ∷ xs) h =
     rw (parts.0, filter-none p xs parts.1) refl
 
 -- an arrival that is late at no copy proposes the runs that there are
-none-late : (x : Command) (runs : List (List Item)) → list_any (is_late_at x) runs ≡ false → map (with_late x) runs ≡ runs
+pub none-late : (x : Command) (runs : List (List Item)) → list_any (is_late_at x) runs ≡ false → map (with_late x) runs ≡ runs
 none-late x [] h = refl
 none-late x (run ∷ runs) h =
     let parts = or_parts (is_late_at x run) (list_any (is_late_at x) runs) h in
@@ -155,7 +150,7 @@ some-late x n (r ∷ rs) h late =
     refl late
 
 -- a command that is late at a copy is late at each copy ahead
-head-late : (x : Command) (run : List Item) (behind : List (List Item)) → AllByRecursion (λ r. beats r ≤ beats run) behind → list_any (is_late_at x) (run ∷ behind) ≡ true → x.time < beats run
+pub head-late : (x : Command) (run : List Item) (behind : List (List Item)) → AllByRecursion (λ r. beats r ≤ beats run) behind → list_any (is_late_at x) (run ∷ behind) ≡ true → x.time < beats run
 head-late x run behind h late = some-late x (beats run) (run ∷ behind) (omega arith, h) late
 
 -- which copies are further than a clock that none behind is further than
@@ -164,11 +159,11 @@ none-further n [] h = refl
 none-further n (r ∷ rs) h = rw (le-ltb n (beats r) h.0, none-further n rs h.1) refl
 
 -- the clock of the last late copy, where copy 0 alone is late, and where a copy behind is late too
-last_late-alone : (x : Command) (a : List Item) (rest : List (List Item)) → x.time < beats a → list_any (is_late_at x) rest ≡ false → last_late_clock x (a ∷ rest) ≡ beats a
+pub last_late-alone : (x : Command) (a : List Item) (rest : List (List Item)) → x.time < beats a → list_any (is_late_at x) rest ≡ false → last_late_clock x (a ∷ rest) ≡ beats a
 unfolding last_of
 last_late-alone x a rest here none = rw (lt-ltb x.time (beats a) here, filter-none (is_late_at x) rest none) refl
 
-last_late-behind : (x : Command) (a : List Item) (rest : List (List Item)) → x.time < beats a → list_any (is_late_at x) rest ≡ true → last_late_clock x (a ∷ rest) ≡ last_late_clock x rest
+pub last_late-behind : (x : Command) (a : List Item) (rest : List (List Item)) → x.time < beats a → list_any (is_late_at x) rest ≡ true → last_late_clock x (a ∷ rest) ≡ last_late_clock x rest
 unfolding last_of
 last_late-behind x a rest here some = rw (lt-ltb x.time (beats a) here) (ap beats (last-some (is_late_at x) a [] rest some))
 
@@ -186,7 +181,7 @@ level-mark accepted x a r ss n new more less front late level =
     (λ (longer : beats r < beats a). rw (ahead, own, not-front accepted x r a new more longer, lt-ltb n (beats a) (omega arith)) refl)
     (λ (same : beats a ≤ beats r).
     let one : a ≡ r = equal_clocks accepted r a less more front (omega arith) in
-    let fits : begins_with (with_late x a) (with_late x r) ≡ true = (begins_with-Decides (with_late x a) (with_late x r)).1 ([], ap (with_late x) one ∙ sym (append-none (with_late x r))) in
+    let fits : begins_with (with_late x a) (with_late x r) ≡ true = (begins_with-Decides (with_late x a) (with_late x r)).1 ([], ap (with_late x) one ∙ sym (append-nil (with_late x r))) in
     rw (fits, le-ltb n (beats a) (omega arith)) refl)
     (cases_lt (beats r) (beats a))
 
@@ -250,7 +245,7 @@ alone accepted x a rest chained here none =
     ∙ ap (λ (n : ℕ). map (λ (run : List Item). ltb n (beats run)) (a ∷ rest)) (sym (last_late-alone x a rest here none))
 
 -- the copies that are repaired are those that are further than the last copy at which the command is late
-arrival-marks :
+pub arrival-marks :
     (accepted : List Command) (x : Command) (runs : List (List Item)) → list_any (same_name x) accepted ≡ false
     → IsChained runs → AllByRecursion (IsComplete accepted) runs → list_any (is_late_at x) runs ≡ true
     → which_repaired (accepted ++ x ∷ []) (map (with_late x) runs) ≡ map (λ run. ltb (last_late_clock x runs) (beats run)) runs
@@ -265,7 +260,7 @@ arrival-marks accepted x (a ∷ rest) new chained complete late =
     ]
     refl
 
-count-marks : {X : Type 0} (p : X → Bool) (xs : List X) → times (λ b. b) (map p xs) ≡ times p xs
+pub count-marks : {X : Type 0} (p : X → Bool) (xs : List X) → times (λ b. b) (map p xs) ≡ times p xs
 unfolding times
 count-marks p [] = refl
 count-marks p (x ∷ xs) = omega (arith, count-marks p xs)
@@ -285,21 +280,44 @@ further-first n (run ∷ behind) h =
     (0, length (run ∷ behind), none-further n (run ∷ behind) (most, all-weaker (λ r. beats r ≤ beats run) (λ r. beats r ≤ n) behind (λ r l. omega arith) (falls-all run behind h)) ∙ none-marked (run ∷ behind)))
     (cases_lt n (beats run))
 
--- what an arrival repairs
-pub arrival-repairs :
-    {W : Type 0} (s : MirrorState W) (x : Command) → IsStaggered s → is_repeat s x ≡ false
-    → (repaired (s.accepted ++ x ∷ []) (proposed_by_arrival x s.runs) ≡ repaired_by_arrival x s.runs) × AreFirst (which_repaired (s.accepted ++ x ∷ []) (proposed_by_arrival x s.runs))
-arrival-repairs s x here new =
-    let all = s.accepted ++ x ∷ [] in
-    let which = which_repaired (s.accepted ++ x ∷ []) (proposed_by_arrival x s.runs) in
-    elim (list_any (is_late_at x) s.runs) as (λ v. list_any (is_late_at x) s.runs ≡ v → (repaired (s.accepted ++ x ∷ []) (proposed_by_arrival x s.runs) ≡ cond v (times (λ run. ltb (last_late_clock x s.runs) (beats run)) s.runs) 0) × AreFirst (which_repaired (s.accepted ++ x ∷ []) (proposed_by_arrival x s.runs))) [
-      | true ↦ λ late.
-          let marks = arrival-marks s.accepted x s.runs new here.trailing.chained here.trailing.complete late in
-          let first = further-first (last_late_clock x s.runs) s.runs here.trailing.chained in
-          (ap (times (λ (b : Bool). b)) marks ∙ count-marks (λ run. ltb (last_late_clock x s.runs) (beats run)) s.runs, marks-first which first.0 first.1 (marks ∙ first.2))
-      | false ↦ λ none.
-          let same = none-late x s.runs none in
-          let marks = ap (which_repaired all) same ∙ chained-unrepaired all s.runs here.trailing.chained in
-          (ap (times (λ (b : Bool). b)) marks ∙ no-marks s.runs, marks-first which 0 (length s.runs) (marks ∙ none-marked s.runs))
-    ]
+-- which copies an arrival repairs: the first, as many as are told
+late-marks :
+    (accepted : List Command) (x : Command) (runs : List (List Item)) → list_any (same_name x) accepted ≡ false
+    → IsChained runs → AllByRecursion (IsComplete accepted) runs → list_any (is_late_at x) runs ≡ true
+    → (repaired (accepted ++ x ∷ []) (proposed_by_arrival x runs) ≡ times (λ run. ltb (last_late_clock x runs) (beats run)) runs)
+    × AreFirst (which_repaired (accepted ++ x ∷ []) (proposed_by_arrival x runs))
+late-marks accepted x runs new chained complete late =
+    let marks = arrival-marks accepted x runs new chained complete late in
+    let first = further-first (last_late_clock x runs) runs chained in
+    (ap (times (λ (b : Bool). b)) marks ∙ count-marks (λ run. ltb (last_late_clock x runs) (beats run)) runs, marks-first (which_repaired (accepted ++ x ∷ []) (proposed_by_arrival x runs)) first.0 first.1 (marks ∙ first.2))
+
+early-marks :
+    (accepted : List Command) (x : Command) (runs : List (List Item)) → IsChained runs → list_any (is_late_at x) runs ≡ false
+    → (repaired (accepted ++ x ∷ []) (proposed_by_arrival x runs) ≡ 0) × AreFirst (which_repaired (accepted ++ x ∷ []) (proposed_by_arrival x runs))
+early-marks accepted x runs chained none =
+    let all = accepted ++ x ∷ [] in
+    let marks = ap (which_repaired all) (none-late x runs none) ∙ chained-unrepaired all runs chained in
+    (ap (times (λ (b : Bool). b)) marks ∙ no-marks runs, marks-first (which_repaired all (proposed_by_arrival x runs)) 0 (length runs) (marks ∙ none-marked runs))
+
+both-marks :
+    (accepted : List Command) (x : Command) (runs : List (List Item)) → list_any (same_name x) accepted ≡ false
+    → IsChained runs → AllByRecursion (IsComplete accepted) runs
+    → (repaired (accepted ++ x ∷ []) (proposed_by_arrival x runs) ≡ repaired_by_arrival x runs)
+    × AreFirst (which_repaired (accepted ++ x ∷ []) (proposed_by_arrival x runs))
+both-marks accepted x runs new chained complete =
+    elim (list_any (is_late_at x) runs) as (λ v. list_any (is_late_at x) runs ≡ v → (repaired (accepted ++ x ∷ []) (proposed_by_arrival x runs) ≡ cond v (times (λ run. ltb (last_late_clock x runs) (beats run)) runs) 0) × AreFirst (which_repaired (accepted ++ x ∷ []) (proposed_by_arrival x runs)))
+    [ true ↦ λ late. late-marks accepted x runs new chained complete late | false ↦ λ none. early-marks accepted x runs chained none ]
     refl
+
+-- how many copies an arrival repairs, and that they are the first
+pub arrival_count :
+    (accepted : List Command) (x : Command) (runs : List (List Item)) → list_any (same_name x) accepted ≡ false
+    → IsChained runs → AllByRecursion (IsComplete accepted) runs
+    → repaired (accepted ++ x ∷ []) (proposed_by_arrival x runs) ≡ repaired_by_arrival x runs
+arrival_count accepted x runs new chained complete = (both-marks accepted x runs new chained complete).0
+
+pub arrival_repairs_first :
+    (accepted : List Command) (x : Command) (runs : List (List Item)) → list_any (same_name x) accepted ≡ false
+    → IsChained runs → AllByRecursion (IsComplete accepted) runs
+    → AreFirst (which_repaired (accepted ++ x ∷ []) (proposed_by_arrival x runs))
+arrival_repairs_first accepted x runs new chained complete = (both-marks accepted x runs new chained complete).1

@@ -1,20 +1,21 @@
 -- How events move the clocks of the copies and of the mirror.
-use Rattle.std.proofs.Common.{◌≡◌, ℕ, zero, suc, ◌+◌, ◌≤◌, ◌<◌, min, true, false, leb, List, [], ◌∷◌, ◌++◌, map, length, get_or, set, refl, ap, sym, ◌∙◌, subst, ⊎_elim, arith}
-use Rattle.std.proofs.lemmas.Bool.{cases_eq, eqb-true}
+use Rattle.std.proofs.Common.{◌≡◌, ℕ, zero, suc, ◌+◌, ◌≤◌, ◌<◌, true, false, cond, leb, List, [], ◌∷◌, ◌++◌, map, length, get_or, set, refl, ap, sym, ◌∙◌, subst, ⊎_elim, arith}
+use Rattle.std.proofs.lemmas.Bool.{cases_eq, leb-true}
 use Rattle.std.proofs.lemmas.Bool.Decides.{nat_tests}
 use Rattle.std.proofs.Math.ListN.{get_or-map}
-use Rattle.std.proofs.lemmas.List.{get_or-set_same, get_or-set_other}
+use Rattle.std.proofs.lemmas.List.{get_or-set_same, get_or-set_other, length-map}
 use Rattle.game_trait.specs.declared.command.Command.{Command}
 use Rattle.game_trait.specs.declared.event.Event.{Event}
-use Rattle.game_trait.specs.declared.event.Event.TheVariants.{Tick, Arrive, Step}
+use Rattle.game_trait.specs.declared.event.Event.TheVariants.{Tick, Arrive, Step, Restagger}
 use Rattle.game_trait.specs.Run.{beats}
-use Rattle.sync_model.specs.Schedule.{longest_delay}
-use Rattle.sync_model.specs.State.{MirrorState, copy_clock, delays_of}
+use Rattle.game_trait.specs.Events.{is_step}
+use Rattle.sync_model.specs.Schedule.{clock_end}
+use Rattle.sync_model.specs.State.{MirrorState, copy_clock, schedule_of}
 use Rattle.sync_model.specs.Change.{next, is_idle, proposed_by_arrival, proposed_by_step}
 use Rattle.sync_model.specs.Staggered.{IsStaggered}
-use Rattle.sync_model.proofs.Settle.{NeverRises, settle-beats}
-use Rattle.sync_model.proofs.Staggered.{chained-falls, late-beats, step-beats, set-falls, below_limit}
-use Rattle.sync_model.proofs.Cases.{taken, ran, tick-cases, arrive-cases, step-cases, copies_of}
+use Rattle.sync_model.proofs.Trailing.{beats-step, beats-arrival}
+use Rattle.sync_model.proofs.Staggered.{below_limit}
+use Rattle.sync_model.proofs.Cases.{taken, ran, tick-cases, arrive-cases, step-cases, restagger-cases, copies_of}
 
 -- the clocks of the copies
 abbrev pub clocks_of : {W : Type 0} → MirrorState W → List ℕ
@@ -27,21 +28,27 @@ copy_clock-is s c = sym (get_or-map beats s.runs c [])
 
 -- an arrival moves no clock
 pub taken-clocks : {W : Type 0} (s : MirrorState W) (x : Command) → IsStaggered s → clocks_of (taken s x) ≡ clocks_of s
-taken-clocks s x here =
-    let same = late-beats x s.runs in
-    settle-beats (s.accepted ++ x ∷ []) (proposed_by_arrival x s.runs) (subst NeverRises (sym same) (chained-falls s.runs here.trailing.chained)) ∙ same
+taken-clocks s x here = beats-arrival here.trailing x
 
 -- a step that runs moves the clock of its copy by one, and no other
 pub ran-clocks :
     {W : Type 0} (s : MirrorState W) (c : ℕ) → IsStaggered s → is_idle s c ≡ false
     → clocks_of (ran s c) ≡ set (clocks_of s) c (copy_clock s.runs c + 1)
-ran-clocks s c here e =
-    let same = step-beats s.accepted s.runs c in
-    settle-beats s.accepted (proposed_by_step s.accepted s.runs c) (subst NeverRises (sym same) (set-falls s.runs c (chained-falls s.runs here.trailing.chained) (below_limit s c e).0)) ∙ same
+ran-clocks s c here e = beats-step here.trailing c (below_limit s c e).0
 
-map-length : {X Y : Type 0} (f : X → Y) (xs : List X) → length (map f xs) ≡ length xs
-map-length f [] = refl
-map-length f (x ∷ xs) = ap suc (map-length f xs)
+-- the clocks after a step, and after an event of another kind
+pub step-clocks :
+    {W : Type 0} (s : MirrorState W) (c : ℕ) → IsStaggered s
+    → clocks_of (next s (Step c)) ≡ cond (is_idle s c) (clocks_of s) (set (clocks_of s) c (copy_clock s.runs c + 1))
+step-clocks s c here =
+    step-cases s c (λ t r. clocks_of t ≡ cond (is_idle s c) (clocks_of s) (set (clocks_of s) c (copy_clock s.runs c + 1)))
+    (λ e. rw e refl) (λ e. rw e (ran-clocks s c here e))
+
+pub other-clocks : {W : Type 0} (s : MirrorState W) (e : Event) → IsStaggered s → is_step e ≡ false → clocks_of (next s e) ≡ clocks_of s
+other-clocks s Tick here not = tick-cases s (λ t r. clocks_of t ≡ clocks_of s) (λ e. refl) (λ e. refl)
+other-clocks s (Arrive x) here not = arrive-cases s x (λ t r. clocks_of t ≡ clocks_of s) (λ e. refl) (λ e l. refl) (λ e l. taken-clocks s x here)
+other-clocks s (Step c) here not = absurd cc
+other-clocks s (Restagger p) here not = restagger-cases s p (λ t r. clocks_of t ≡ clocks_of s) refl
 
 -- where copies move
 pub ran-moves :
@@ -49,7 +56,7 @@ pub ran-moves :
     → copy_clock (ran s c).runs c ≡ copy_clock s.runs c + 1
 ran-moves s c here e there =
     copy_clock-is (ran s c) c ∙ ap (λ (ks : List ℕ). get_or ks c 0) (ran-clocks s c here e)
-    ∙ get_or-set_same (clocks_of s) c (copy_clock s.runs c + 1) 0 (let n = map-length beats s.runs in omega arith)
+    ∙ get_or-set_same (clocks_of s) c (copy_clock s.runs c + 1) 0 (let n = length-map s.runs beats in omega arith)
 
 pub ran-others :
     {W : Type 0} (s : MirrorState W) (c i : ℕ) → IsStaggered s → is_idle s c ≡ false → ((i ≡ c) → ⊥)
@@ -74,7 +81,7 @@ ran-never_falls s c i here e =
           let most : copies_of s ≤ c = grind (arith, nat_tests) in
           let k : copy_clock (ran s c).runs i ≡ copy_clock s.runs i =
           copy_clock-is (ran s c) i ∙ ap (λ (ks : List ℕ). get_or ks i 0) (ran-clocks s c here e)
-          ∙ get_or-set_past (clocks_of s) c (copy_clock s.runs c + 1) i (let n = map-length beats s.runs in omega arith) ∙ sym (copy_clock-is s i) in
+          ∙ get_or-set_past (clocks_of s) c (copy_clock s.runs c + 1) i (let n = length-map s.runs beats in omega arith) ∙ sym (copy_clock-is s i) in
           omega arith
       | false ↦ λ there.
           let most : c < copies_of s = grind (arith, nat_tests) in
@@ -98,16 +105,17 @@ clocks-never_fall s (Arrive x) i here =
     omega arith)
 clocks-never_fall s (Step c) i here =
     step-cases s c (λ t r. copy_clock s.runs i ≤ copy_clock t.runs i) (λ e. omega arith) (λ e. ran-never_falls s c i here e)
+clocks-never_fall s (Restagger p) i here = restagger-cases s p (λ t r. copy_clock s.runs i ≤ copy_clock t.runs i) (omega arith)
 
--- the mirror's clock after each event
-pub clock-tick : {W : Type 0} (s : MirrorState W) → s.clock ≤ s.length + longest_delay (delays_of s) → (next s Tick).clock ≡ min (s.clock + 1) (s.length + longest_delay (delays_of s))
-clock-tick s most =
-    tick-cases s (λ t r. t.clock ≡ min (s.clock + 1) (s.length + longest_delay (delays_of s)))
-    (λ e. (let k = eqb-true s.clock (s.length + longest_delay (delays_of s)) e in omega arith))
-    (λ e. grind (arith, nat_tests))
+-- a tick brings the clock one nearer to its end, and no event turns it back
+pub clock-nearer : {W : Type 0} (s : MirrorState W) (m : ℕ) → clock_end (schedule_of s) ≤ s.clock + suc m → clock_end (schedule_of s) ≤ (next s Tick).clock + m
+clock-nearer s m far =
+    tick-cases s (λ t r. clock_end (schedule_of s) ≤ t.clock + m)
+    (λ e. (let k = leb-true (clock_end (schedule_of s)) s.clock e in omega arith))
+    (λ e. omega arith)
+
+pub clock-tick_up : {W : Type 0} (s : MirrorState W) → s.clock ≤ (next s Tick).clock
+clock-tick_up s = tick-cases s (λ t r. s.clock ≤ t.clock) (λ e. omega arith) (λ e. omega arith)
 
 pub clock-step : {W : Type 0} (s : MirrorState W) (c : ℕ) → (next s (Step c)).clock ≡ s.clock
 clock-step s c = step-cases s c (λ t r. t.clock ≡ s.clock) (λ e. refl) (λ e. refl)
-
-pub runs-tick : {W : Type 0} (s : MirrorState W) → (next s Tick).runs ≡ s.runs
-runs-tick s = tick-cases s (λ t r. t.runs ≡ s.runs) (λ e. refl) (λ e. refl)

@@ -1,7 +1,7 @@
 -- Draining ends within its bound, and leaves every copy at the ordered part of what was accepted.
-use Rattle.std.proofs.Common.{◌≡◌, ℕ, zero, suc, ◌+◌, ◌-◌, ◌≤◌, ◌<◌, true, false, cond, ◌&&◌, ltb, List, [], ◌∷◌, ◌++◌, length, get_or, refl, ap, sym, ◌∙◌, subst, ⊎_elim, arith}
-use Rattle.std.specs.List.{AllByRecursion, AllZip, list_all}
-use Rattle.std.proofs.lemmas.Bool.{and_parts, eqb-true, leb-true, cases_eq}
+use Rattle.std.proofs.Common.{◌≡◌, ℕ, zero, suc, ◌+◌, ◌-◌, ◌≤◌, ◌<◌, true, false, cond, ◌&&◌, ltb, List, [], ◌∷◌, ◌++◌, length, get_or, refl, ap, sym, ◌∙◌, ◌↔◌, subst, ⊎_elim, append-nil, eq-eqb, arith}
+use Rattle.std.specs.List.{AllByRecursion, list_all}
+use Rattle.std.proofs.lemmas.Bool.{and_parts, and_from, eqb-true, leb-true, cases_eq}
 use Rattle.game_trait.specs.declared.command.Command.{Command}
 use Rattle.game_trait.specs.declared.command.Item.{Item}
 use Rattle.game_trait.specs.declared.command.Item.TheVariants.{Cmd, Beat}
@@ -11,19 +11,20 @@ use Rattle.game_trait.specs.Run.{beats, commands_of, world_of, IsPrefix}
 use Rattle.game_trait.specs.Ordered.{ordered, time_ordered}
 use Rattle.game_trait.specs.Game.{Rules}
 use Rattle.game_trait.specs.Count.{times}
+use Rattle.game_trait.specs.Events.{is_restagger}
 use Rattle.game_trait.proofs.Runs.{beats-append, commands_of-append}
 use Rattle.game_trait.proofs.Counts.{times-append}
 use Rattle.game_trait.proofs.KeyOrder.{all-weaker}
 use Rattle.std.specs.Prelude.{◌==◌}
 use Rattle.sync_model.specs.Lists.{last_of}
-use Rattle.sync_model.specs.Schedule.{longest_delay}
-use Rattle.sync_model.specs.State.{MirrorState, copy_clock, step_limit, delays_of}
+use Rattle.sync_model.specs.Schedule.{DelaysRise, longest_delay, limit_at, clock_end}
+use Rattle.sync_model.specs.State.{MirrorState, copy_clock, step_limit, delays_of, schedule_of}
 use Rattle.sync_model.specs.Change.{next, is_idle, after}
-use Rattle.sync_model.specs.Staggered.{IsAhead, IsChained, IsComplete, IsBehindClock, IsStaggered, DelaysRise}
-use Rattle.sync_model.specs.Turns.{steps_from, turn_events, turns_of, turn, IsDrained, is_drained, drain_within, drain_bound, drain}
+use Rattle.sync_model.specs.Staggered.{IsAhead, IsChained, IsComplete, IsStaggered}
+use Rattle.sync_model.specs.Turns.{steps_from, turn_events, turns_of, turn, SameArrivals, IsDrained, is_drained, drain_within, drain_bound, drain}
 use Rattle.sync_model.proofs.Staggered.{staggered-tick, staggered-step}
-use Rattle.sync_model.proofs.Cases.{tick-cases, step-cases, next-fixed, after-fixed, copies_of}
-use Rattle.sync_model.proofs.Clocks.{ran-moves, clocks-never_fall, clock-tick, clock-step}
+use Rattle.sync_model.proofs.Cases.{SameParts, tick-cases, step-cases, next-fixed, next-plan, after-fixed, copies_of}
+use Rattle.sync_model.proofs.Clocks.{ran-moves, clocks-never_fall, clock-nearer, clock-tick_up, clock-step}
 use Rattle.sync_model.proofs.Along.{steps-keep, turn-keeps}
 
 -- a run without a beat and without a command is empty
@@ -32,10 +33,6 @@ unfolding beats commands_of times
 nothing-left [] no_beat no_command = refl
 nothing-left (Cmd x ∷ rest) no_beat no_command = absurd (omega arith)
 nothing-left (Beat ∷ rest) no_beat no_command = absurd (omega arith)
-
-append-none : {X : Type 0} (l : List X) → l ++ [] ≡ l
-append-none [] = refl
-append-none {X} (x ∷ xs) = ap (λ (m : List X). x ∷ m) (append-none xs)
 
 -- equal clocks mean equal runs
 pub equal_clocks :
@@ -48,7 +45,7 @@ equal_clocks accepted front whole less more prefix same =
     let count = ap (λ (run : List Item). times (λ (x : Command). true) (commands_of run)) prefix.1 ∙ ap (times (λ (x : Command). true)) (commands_of-append front rest) ∙ times-append (λ (x : Command). true) (commands_of front) (commands_of rest) in
     let left = less (λ x. true) in
     let right = more (λ x. true) ∙ ap (λ (n : ℕ). times (λ (x : Command). true && ltb x.time n) accepted) (sym same) in
-    prefix.1 ∙ ap (λ (run : List Item). front ++ run) (nothing-left rest (omega arith) (omega arith)) ∙ append-none front
+    prefix.1 ∙ ap (λ (run : List Item). front ++ run) (nothing-left rest (omega arith) (omega arith)) ∙ append-nil front
 
 -- where all clocks are equal, each run is the last
 all-last :
@@ -100,17 +97,27 @@ delay-longest (d ∷ e ∷ es) (suc c) rise = delay-longest (e ∷ es) c rise.1
 -- a mirror whose clock is at its end, with these fixed parts
 record AtEnd {W : Type 0} (length : ℕ) (delays : List ℕ) (copies : ℕ) (s : MirrorState W) : Type 0 where
   pub length_is : s.length ≡ length
-  pub delays_are : s.delays ≡ delays
+  pub delays_are : delays_of s ≡ delays
   pub copies_are : copies_of s ≡ copies
   pub clock : length + last_of 0 delays ≤ s.clock
   pub staggered : IsStaggered s
+
+-- no tick and no step changes the delays in force
+pub delays-next : {W : Type 0} (s : MirrorState W) (e : Event) → is_restagger e ≡ false → delays_of (next s e) ≡ delays_of s
+delays-next s e not =
+    let same = (next-fixed s e).plans in
+    let plan = next-plan s e not in
+    λ i. get_or (same i) (plan i) []
+
+pub turn-delays : {W : Type 0} (s : MirrorState W) → delays_of (turn s) ≡ delays_of s
+turn-delays s = turn-keeps (λ t. delays_of t ≡ delays_of s) (λ t h. delays-next t Tick refl ∙ h) (λ t c h. delays-next t (Step c) refl ∙ h) s refl
 
 at_end-step : {W : Type 0} (l : ℕ) (ds : List ℕ) (n : ℕ) (s : MirrorState W) (c : ℕ) → AtEnd l ds n s → AtEnd l ds n (next s (Step c))
 at_end-step l ds n s c h =
     let same = next-fixed s (Step c) in
     record {
       length_is = same.length ∙ h.length_is;
-      delays_are = same.delays ∙ h.delays_are;
+      delays_are = delays-next s (Step c) refl ∙ h.delays_are;
       copies_are = same.copies ∙ h.copies_are;
       clock = (let k = clock-step s c in let t = h.clock in omega arith);
       staggered = staggered-step s c h.staggered;
@@ -120,16 +127,16 @@ at_end-step l ds n s c h =
 idle-done :
     {W : Type 0} (l : ℕ) (ds : List ℕ) (n : ℕ) (s : MirrorState W) (c j : ℕ) → AtEnd l ds n s → DelaysRise ds → is_idle s c ≡ true
     → ((i : ℕ) → i < c → l ≤ copy_clock s.runs i + j) → l ≤ copy_clock s.runs c + j
-unfolding step_limit
+unfolding step_limit limit_at
 idle-done l ds n s zero j h rise idle ahead =
     let k = leb-true (step_limit s zero) (copy_clock s.runs zero) idle in
-    let d : get_or s.delays zero 0 ≤ last_of 0 ds = subst (λ (es : List ℕ). get_or es zero 0 ≤ last_of 0 ds) (sym h.delays_are) (delay-longest ds zero rise) in
+    let d : get_or (delays_of s) zero 0 ≤ last_of 0 ds = subst (λ (es : List ℕ). get_or es zero 0 ≤ last_of 0 ds) (sym h.delays_are) (delay-longest ds zero rise) in
     let t = h.clock in
     let e = h.length_is in
     omega arith
 idle-done l ds n s (suc c) j h rise idle ahead =
     let k = leb-true (step_limit s (suc c)) (copy_clock s.runs (suc c)) idle in
-    let d : get_or s.delays (suc c) 0 ≤ last_of 0 ds = subst (λ (es : List ℕ). get_or es (suc c) 0 ≤ last_of 0 ds) (sym h.delays_are) (delay-longest ds (suc c) rise) in
+    let d : get_or (delays_of s) (suc c) 0 ≤ last_of 0 ds = subst (λ (es : List ℕ). get_or es (suc c) 0 ≤ last_of 0 ds) (sym h.delays_are) (delay-longest ds (suc c) rise) in
     let t = h.clock in
     let e = h.length_is in
     let a = ahead c (omega arith) in
@@ -172,7 +179,7 @@ turn-never_falls s i here =
 -- what draining goes by: at most m ticks to the clock's end and j ticks to the match's, for each copy
 record IsNear {W : Type 0} (l : ℕ) (ds : List ℕ) (n m j : ℕ) (s : MirrorState W) : Type 0 where
   pub length_is : s.length ≡ l
-  pub delays_are : s.delays ≡ ds
+  pub delays_are : delays_of s ≡ ds
   pub copies_are : copies_of s ≡ n
   pub clock : l + last_of 0 ds ≤ s.clock + m
   pub staggered : IsStaggered s
@@ -189,12 +196,15 @@ turn-clock s = steps-keep (λ t. t.clock ≡ (next s Tick).clock) (λ t c h. clo
 turn-ticks : {W : Type 0} (l : ℕ) (ds : List ℕ) (n m j : ℕ) (s : MirrorState W) → IsNear l ds n (suc m) j s → IsNear l ds n m j (turn s)
 turn-ticks l ds n m j s h =
     let same = after-fixed (turn_events (length s.runs)) s in
-    let tick = clock-tick s h.staggered.clocks.mirror in
+    let e = h.length_is in
+    let f = ap (last_of 0) h.delays_are in
+    let far = h.clock in
+    let near = clock-nearer s m (omega arith) in
     record {
       length_is = same.length ∙ h.length_is;
-      delays_are = same.delays ∙ h.delays_are;
+      delays_are = turn-delays s ∙ h.delays_are;
       copies_are = same.copies ∙ h.copies_are;
-      clock = (let a = turn-clock s in let b = h.clock in let e = h.length_is in let f = ap (last_of 0) h.delays_are in omega arith);
+      clock = (let a = turn-clock s in omega arith);
       staggered = staggered-turn s h.staggered;
       near = λ i there. (let a = h.near i there in let b = turn-never_falls s i h.staggered in omega arith);
     }
@@ -205,13 +215,13 @@ nearer :
 unfolding after
 nearer l ds n j s rise h =
     let same = next-fixed s Tick in
-    let tick = clock-tick s h.staggered.clocks.mirror in
+    let up = clock-tick_up s in
     steps-nearer l ds n j (length s.runs) 0 (next s Tick)
     (record {
       length_is = same.length ∙ h.length_is;
-      delays_are = same.delays ∙ h.delays_are;
+      delays_are = delays-next s Tick refl ∙ h.delays_are;
       copies_are = same.copies ∙ h.copies_are;
-      clock = (let b = h.clock in let e = h.length_is in let f = ap (last_of 0) h.delays_are in omega arith);
+      clock = (let b = h.clock in omega arith);
       staggered = staggered-tick s h.staggered;
     })
     rise (let e = h.copies_are in omega arith) (λ i below. absurd (omega arith))
@@ -221,12 +231,10 @@ nearer l ds n j s rise h =
 turn-steps : {W : Type 0} (l : ℕ) (ds : List ℕ) (n j : ℕ) (s : MirrorState W) → DelaysRise ds → IsNear l ds n 0 (suc j) s → IsNear l ds n 0 j (turn s)
 turn-steps l ds n j s rise h =
     let same = after-fixed (turn_events (length s.runs)) s in
-    let tick = clock-tick s h.staggered.clocks.mirror in
-    let e = h.length_is in
-    let f = ap (last_of 0) h.delays_are in
+    let up = clock-tick_up s in
     record {
       length_is = same.length ∙ h.length_is;
-      delays_are = same.delays ∙ h.delays_are;
+      delays_are = turn-delays s ∙ h.delays_are;
       copies_are = same.copies ∙ h.copies_are;
       clock = (let a = turn-clock s in let b = h.clock in omega arith);
       staggered = staggered-turn s h.staggered;
@@ -240,6 +248,14 @@ all-at_end n (run ∷ runs) e =
     let parts = and_parts (beats run == n) (list_all (λ r. beats r == n) runs) e in
     (eqb-true (beats run) n parts.0, all-at_end n runs parts.1)
 
+all-at_end-back : (n : ℕ) (runs : List (List Item)) → AllByRecursion (λ run. beats run ≡ n) runs → list_all (λ run. beats run == n) runs ≡ true
+all-at_end-back n [] h = refl
+all-at_end-back n (run ∷ runs) h = and_from (beats run == n) (list_all (λ r. beats r == n) runs) (eq-eqb (beats run) n h.0) (all-at_end-back n runs h.1)
+
+-- drained as a test and as a fact are one
+pub is_drained-IsDrained : {W : Type 0} (s : MirrorState W) → (is_drained s ≡ true) ↔ IsDrained s
+is_drained-IsDrained s = (all-at_end s.length s.runs, all-at_end-back s.length s.runs)
+
 pub is_drained-true : {W : Type 0} (s : MirrorState W) → is_drained s ≡ true → IsDrained s
 is_drained-true s e = all-at_end s.length s.runs e
 
@@ -247,17 +263,16 @@ all-from_index : {X : Type 0} (P : X → Type 0) (d : X) (xs : List X) → ((i :
 all-from_index P d [] h = tt
 all-from_index P d (x ∷ xs) h = (h zero (omega arith), all-from_index P d xs (λ i below. h (suc i) (omega arith)))
 
--- clocks that are in range and not below the match's length are at it
+-- clocks that are at most the match's length, and not below it, are at it
 all-met :
-    {W : Type 0} (s : MirrorState W) (l : ℕ) (runs : List (List Item)) (delays : List ℕ)
-    → AllZip (IsBehindClock s) runs delays → s.length ≡ l → AllByRecursion (λ run. l ≤ beats run) runs → AllByRecursion (λ run. beats run ≡ s.length) runs
-all-met s l [] delays range e h = tt
-all-met s l (run ∷ runs) [] range e h = absurd range
-all-met s l (run ∷ runs) (d ∷ ds) range e h = (omega arith, all-met s l runs ds range.1 e h.1)
+    (n l : ℕ) (runs : List (List Item)) → n ≡ l → AllByRecursion (λ run. beats run ≤ n) runs → AllByRecursion (λ run. l ≤ beats run) runs
+    → AllByRecursion (λ run. beats run ≡ n) runs
+all-met n l [] e range h = tt
+all-met n l (run ∷ runs) e range h = (omega arith, all-met n l runs e range.1 h.1)
 
 near-drained : {W : Type 0} (l : ℕ) (ds : List ℕ) (n : ℕ) (s : MirrorState W) → IsNear l ds n 0 0 s → IsDrained s
 near-drained l ds n s h =
-    all-met s l s.runs s.delays h.staggered.clocks.copies h.length_is
+    all-met s.length l s.runs h.length_is h.staggered.in_bounds.within_match
     (all-from_index (λ run. l ≤ beats run) [] s.runs (λ i below. (let a = h.near i (let e = h.copies_are in omega arith) in omega arith)))
 
 -- draining ends
@@ -276,9 +291,9 @@ drain_within-ends l ds n rise (suc k) (suc m) j s sum h =
     [ true ↦ λ e. is_drained-true s e | false ↦ λ e. drain_within-ends l ds n rise k m j (turn s) (omega arith) (turn-ticks l ds n m j s h) ]
     refl
 
-pub drain-ends : {W : Type 0} (s : MirrorState W) → DelaysRise s.delays → IsStaggered s → IsDrained (drain s)
+pub drain-ends : {W : Type 0} (s : MirrorState W) → DelaysRise (delays_of s) → IsStaggered s → IsDrained (drain s)
 drain-ends s rise here =
-    drain_within-ends s.length s.delays (copies_of s) rise (drain_bound s) (s.length + longest_delay (delays_of s) - s.clock) s.length s refl
+    drain_within-ends s.length (delays_of s) (copies_of s) rise (drain_bound s) (clock_end (schedule_of s) - s.clock) s.length s refl
     (record { length_is = refl; delays_are = refl; copies_are = refl; clock = omega arith; staggered = here; near = λ i there. omega arith })
 
 -- what ticks and steps keep, draining keeps
@@ -295,31 +310,34 @@ drain_within-keeps Q tick step (suc k) s here =
 pub staggered-drain : {W : Type 0} (s : MirrorState W) → IsStaggered s → IsStaggered (drain s)
 staggered-drain s here = drain_within-keeps IsStaggered (λ t h. staggered-tick t h) (λ t c h. staggered-step t c h) (drain_bound s) s here
 
--- draining accepts and turns away nothing, and spends no room
-pub record SameArrivals {W : Type 0} (s t : MirrorState W) : Type 0 where
-  pub accepted : t.accepted ≡ s.accepted
-  pub turned : t.turned ≡ s.turned
-  pub spare : t.spare ≡ s.spare
-  pub opening : t.opening ≡ s.opening
-  pub length : t.length ≡ s.length
-  pub delays : t.delays ≡ s.delays
-
+-- draining accepts and turns away nothing, spends no room, and changes no plan
 pub drain-arrivals : {W : Type 0} (s : MirrorState W) → SameArrivals s (drain s)
 drain-arrivals s =
     drain_within-keeps (SameArrivals s)
-    (λ t h. tick-cases t (λ u r. SameArrivals s u) (λ e. h) (λ e. record { accepted = h.accepted; turned = h.turned; spare = h.spare; opening = h.opening; length = h.length; delays = h.delays }))
-    (λ t c h. step-cases t c (λ u r. SameArrivals s u) (λ e. h) (λ e. record { accepted = h.accepted; turned = h.turned; spare = h.spare; opening = h.opening; length = h.length; delays = h.delays }))
-    (drain_bound s) s (record { accepted = refl; turned = refl; spare = refl; opening = refl; length = refl; delays = refl })
+    (λ t h. tick-cases t (λ u r. SameArrivals s u) (λ e. h) (λ e. record { accepted = h.accepted; turned = h.turned; plan = h.plan; spare = h.spare; plan_spare = h.plan_spare }))
+    (λ t c h. step-cases t c (λ u r. SameArrivals s u) (λ e. h) (λ e. record { accepted = h.accepted; turned = h.turned; plan = h.plan; spare = h.spare; plan_spare = h.plan_spare }))
+    (drain_bound s) s (record { accepted = refl; turned = refl; plan = refl; spare = refl; plan_spare = refl })
+
+-- nor does it change the fixed parts
+pub drain-fixed : {W : Type 0} (s : MirrorState W) → SameParts s (drain s)
+drain-fixed {W} s =
+    drain_within-keeps (SameParts s) (λ t h. followed t Tick h) (λ t c h. followed t (Step c) h)
+    (drain_bound s) s (record { opening = refl; length = refl; plans = refl; copies = refl })
+  where
+    followed : (t : MirrorState W) (e : Event) → SameParts s t → SameParts s (next t e)
+    followed t e h =
+        let one = next-fixed t e in
+        record { opening = one.opening ∙ h.opening; length = one.length ∙ h.length; plans = one.plans ∙ h.plans; copies = one.copies ∙ h.copies }
 
 -- after draining each run is the ordered part of what was accepted
 pub drain-ordered :
-    {W : Type 0} (s : MirrorState W) → DelaysRise s.delays → IsStaggered s
+    {W : Type 0} (s : MirrorState W) → DelaysRise (delays_of s) → IsStaggered s
     → AllByRecursion (λ run. run ≡ ordered s.accepted 0 s.length) (drain s).runs
 drain-ordered s rise here =
     let same = drain-arrivals s in
     let each = drained-ordered (drain s) (staggered-drain s here) (drain-ends s rise here) in
     all-weaker (λ run. run ≡ ordered (drain s).accepted 0 (drain s).length) (λ run. run ≡ ordered s.accepted 0 s.length) (drain s).runs
-    (λ run e. e ∙ ap (λ (a : List Command). ordered a 0 (drain s).length) same.accepted ∙ ap (ordered s.accepted 0) same.length) each
+    (λ run e. e ∙ ap (λ (a : List Command). ordered a 0 (drain s).length) same.accepted ∙ ap (ordered s.accepted 0) (drain-fixed s).length) each
 
 -- draining is some turns, no more than its bound
 after-joined : {W : Type 0} (es fs : List Event) (s : MirrorState W) → after s (es ++ fs) ≡ after (after s es) fs

@@ -1,6 +1,7 @@
 pub mod Settle
 pub mod Proposals
 pub mod Lists
+pub mod Trailing
 pub mod Staggered
 pub mod Cases
 pub mod Clocks
@@ -8,8 +9,10 @@ pub mod Along
 pub mod Drain
 pub mod Played
 pub mod History
+pub mod Room
+pub mod Legal
 pub mod Repairs
 pub mod Arrivals
-pub mod Answers
+pub mod Rebuilt
+pub mod Replies
 pub mod Computing
-pub mod Kept

@@ -1,5 +1,5 @@
 -- What holds of each element, of a last element and of two lists side by side, through a map and through one change.
-use Rattle.std.proofs.Common.{◌≡◌, ℕ, zero, suc, ◌⊎◌, false, List, [], ◌∷◌, ◌++◌, map, length, get_or, set, refl, ap, inl, inr, arith}
+use Rattle.std.proofs.Common.{◌≡◌, ℕ, zero, suc, ◌⊎◌, Bool, false, List, [], ◌∷◌, ◌++◌, map, length, get_or, set, refl, ap, inl, inr, arith}
 use Rattle.std.specs.List.{AllByRecursion, AllZip, list_any}
 use Rattle.std.proofs.lemmas.Bool.{or_parts}
 use Rattle.std.proofs.lemmas.Bool.Decides.{nat_tests}
@@ -25,6 +25,32 @@ all-set P f d step (x ∷ xs) (suc i) h = (h.0, all-set P f d step xs i h.1)
 pub all-push : {X : Type 0} (P : X → Type 0) (xs : List X) (x : X) → AllByRecursion P xs → P x → AllByRecursion P (xs ++ x ∷ [])
 all-push P [] x h here = (here, tt)
 all-push P (y ∷ ys) x h here = (h.0, all-push P ys x h.1 here)
+
+-- one element replaced
+pub all-put : {X : Type 0} (P : X → Type 0) (xs : List X) (i : ℕ) (x : X) → AllByRecursion P xs → P x → AllByRecursion P (set xs i x)
+all-put P [] i x h here = tt
+all-put P (y ∷ ys) zero x h here = (here, h.1)
+all-put P (y ∷ ys) (suc i) x h here = (h.0, all-put P ys i x h.1 here)
+
+pub all-to_map : {X Y : Type 0} (P : Y → Type 0) (f : X → Y) (xs : List X) → AllByRecursion (λ x. P (f x)) xs → AllByRecursion P (map f xs)
+all-to_map P f [] h = tt
+all-to_map P f (x ∷ xs) h = (h.0, all-to_map P f xs h.1)
+
+pub all-from_map : {X Y : Type 0} (P : Y → Type 0) (f : X → Y) (xs : List X) → AllByRecursion P (map f xs) → AllByRecursion (λ x. P (f x)) xs
+all-from_map P f [] h = tt
+all-from_map P f (x ∷ xs) h = (h.0, all-from_map P f xs h.1)
+
+-- no element of a front passes a test that none of the whole passes
+pub none-front : {X : Type 0} (p : X → Bool) (xs ys : List X) → list_any p (xs ++ ys) ≡ false → list_any p xs ≡ false
+none-front p [] ys h = refl
+none-front p (x ∷ xs) ys h =
+    let parts = or_parts (p x) (list_any p (xs ++ ys)) h in
+    rw (parts.0, none-front p xs ys parts.1) refl
+
+-- nor does the last
+pub none-last : {X : Type 0} (p : X → Bool) (xs : List X) (x : X) → list_any p (xs ++ x ∷ []) ≡ false → p x ≡ false
+none-last p [] x h = (or_parts (p x) false h).0
+none-last p (y ∷ ys) x h = none-last p ys x (or_parts (p y) (list_any p (ys ++ x ∷ [])) h).1
 
 pub last-map : {X Y : Type 0} (f : X → Y) (d : X) (xs : List X) → last_of (f d) (map f xs) ≡ f (last_of d xs)
 unfolding last_of

@@ -3,13 +3,14 @@ use Rattle.std.proofs.Common.{◌≡◌, ℕ, zero, suc, ◌+◌, ◌-◌, ◌�
 use Rattle.std.specs.Prelude.{◌==◌}
 use Rattle.std.proofs.lemmas.Bool.{lt-ltb, le-ltb, ltb-true, ltb-false, ne_eqb}
 use Rattle.std.proofs.lemmas.Bool.Decides.{nat_tests}
+use Rattle.std.proofs.lemmas.List.{append-nil}
 use Rattle.std.proofs.lemmas.List.Elements.{filter-append}
 use Rattle.std.specs.List.{AllByRecursion}
 use Rattle.game_trait.specs.declared.command.Command.{Command}
 use Rattle.game_trait.specs.declared.command.Item.{Item}
 use Rattle.game_trait.specs.declared.command.Item.TheVariants.{Cmd, Beat}
 use Rattle.game_trait.specs.Keys.{in_key_order}
-use Rattle.game_trait.specs.Run.{beats, commands_of}
+use Rattle.game_trait.specs.Run.{beats, commands_of, IsPrefix}
 use Rattle.game_trait.specs.Ordered.{due_at, tick_of, ticks, ordered}
 use Rattle.game_trait.specs.Count.{times, within}
 use Rattle.game_trait.proofs.Runs.{beats-append, commands_of-append}
@@ -133,6 +134,26 @@ complete-late accepted x run complete =
     ]
     refl
 
+-- a run without a beat and without a command is empty
+nothing-left : (rest : List Item) → beats rest ≡ 0 → times (λ _. true) (commands_of rest) ≡ 0 → rest ≡ []
+unfolding beats commands_of times
+nothing-left [] no_beat no_command = refl
+nothing-left (Cmd x ∷ rest) no_beat no_command = absurd (omega arith)
+nothing-left (Beat ∷ rest) no_beat no_command = absurd (omega arith)
+
+-- complete runs of which one begins with the other are one run where their clocks are equal
+pub equal_clocks :
+    (accepted : List Command) (front whole : List Item) → IsComplete accepted front → IsComplete accepted whole
+    → IsPrefix front whole → beats front ≡ beats whole → whole ≡ front
+unfolding IsComplete
+equal_clocks accepted front whole less more prefix same =
+    let rest = prefix.0 in
+    let clock = ap beats prefix.1 ∙ beats-append front rest in
+    let count = ap (λ (run : List Item). times (λ (x : Command). true) (commands_of run)) prefix.1 ∙ ap (times (λ (x : Command). true)) (commands_of-append front rest) ∙ times-append (λ (x : Command). true) (commands_of front) (commands_of rest) in
+    let left = less (λ x. true) in
+    let right = more (λ x. true) ∙ ap (λ (n : ℕ). times (λ (x : Command). true && ltb x.time n) accepted) (sym same) in
+    prefix.1 ∙ ap (λ (run : List Item). front ++ run) (nothing-left rest (omega arith) (omega arith)) ∙ append-nil front
+
 -- runs that are never early
 pub never_early-append :
     (n : ℕ) (a b : List Item) → IsNeverEarly n a → IsNeverEarly (n + beats a) b → IsNeverEarly n (a ++ b)
@@ -192,11 +213,7 @@ never_early-late x run early =
 due_at-later : (accepted : List Command) (x : Command) (t : ℕ) → t < x.time → due_at (accepted ++ x ∷ []) t ≡ due_at accepted t
 due_at-later accepted x t later =
     ap in_key_order (filter-append (λ (y : Command). y.time == t) accepted (x ∷ [])
-    ∙ rw (ne_eqb x.time t (λ e. omega arith)) (append-none (filter (λ (y : Command). y.time == t) accepted)))
-  where
-    append-none : (l : List Command) → l ++ [] ≡ l
-    append-none [] = refl
-    append-none (y ∷ ys) = ap (λ (m : List Command). y ∷ m) (append-none ys)
+    ∙ rw (ne_eqb x.time t (λ e. omega arith)) (append-nil (filter (λ (y : Command). y.time == t) accepted)))
 
 pub ticks-later :
     (accepted : List Command) (x : Command) (t n : ℕ) → t + n ≤ x.time → ticks (accepted ++ x ∷ []) t n ≡ ticks accepted t n

@@ -1,6 +1,7 @@
 -- The repaired copies of an event are the first ones, and how many they are.
 use Rattle.std.proofs.Common.{◌≡◌, ℕ, zero, suc, ◌+◌, ◌-◌, ◌<◌, ◌⊎◌, Bool, true, false, not, cond, List, [], ◌∷◌, ◌++◌, map, length, get_or, set, drop, replicate, refl, ap, sym, ◌∙◌, subst, inl, inr, ⊎_elim, append_assoc, arith}
 use Rattle.std.specs.List.{AllByRecursion}
+use Rattle.std.proofs.lemmas.List.{length-replicate}
 use Rattle.std.proofs.lemmas.Bool.{not-true, false_from_ne_true}
 use Rattle.game_trait.specs.declared.command.Command.{Command}
 use Rattle.game_trait.specs.declared.command.Item.{Item}
@@ -8,16 +9,15 @@ use Rattle.game_trait.specs.Run.{beats, IsPrefix}
 use Rattle.game_trait.specs.Ordered.{ordered, tick_of}
 use Rattle.game_trait.specs.Count.{times}
 use Rattle.game_trait.proofs.Counts.{times-append}
-use Rattle.sync_model.specs.State.{MirrorState}
+use Rattle.sync_model.specs.State.{copy_clock}
 use Rattle.sync_model.specs.Settle.{begins_with, rebuilt, settle_one, settle, is_repaired, which_repaired, repaired}
-use Rattle.sync_model.specs.Change.{is_idle, with_tick, proposed_by_step}
-use Rattle.sync_model.specs.Staggered.{IsAhead, IsChained, IsComplete, IsStaggered}
+use Rattle.sync_model.specs.Change.{with_tick, proposed_by_step}
+use Rattle.sync_model.specs.Staggered.{IsAhead, IsChained, IsComplete}
 use Rattle.sync_model.specs.Repairs.{AreFirst, repaired_by_step}
 use Rattle.sync_model.proofs.Settle.{begins_with-Decides, IsFirstAtMost, NeverRises, beats-rebuilt, settle-beats, settle-each}
-use Rattle.sync_model.proofs.Proposals.{complete-rebuilt, complete-tick}
+use Rattle.sync_model.proofs.Proposals.{complete-rebuilt, complete-tick, equal_clocks}
 use Rattle.sync_model.proofs.Lists.{all-set}
-use Rattle.sync_model.proofs.Staggered.{chained-falls, IsBehindAhead, step-beats, set-falls, below_limit}
-use Rattle.sync_model.proofs.Drain.{equal_clocks}
+use Rattle.sync_model.proofs.Trailing.{chained-falls, IsBehindAhead, step-beats, set-falls}
 
 -- of two fronts of one list, one is a front of the other
 pub fronts-compare : {X : Type 0} (a b w : List X) → IsPrefix a w → IsPrefix b w → IsPrefix a b ⊎ IsPrefix b a
@@ -109,7 +109,7 @@ only-front accepted r a complete front s other clock prefix =
     (λ (h : IsPrefix r s). equal_clocks accepted r s complete other h (sym clock))
     (fronts-compare s r a prefix front)
 
--- a step whose new run is a front of the run ahead leaves the proposals chained
+-- a run that goes on from a run begins with what that one begins with
 pub ahead-front : (q r : List Item) (rs : List (List Item)) → IsPrefix r q → IsAhead r rs → IsAhead q rs
 unfolding IsAhead
 ahead-front q r [] front h = tt
@@ -133,8 +133,20 @@ ticked-front : (accepted : List Command) (run : List Item) → IsPrefix run (wit
 unfolding with_tick
 ticked-front accepted run = (tick_of accepted (beats run), refl)
 
+-- a step of copy 0, and a step whose new run is a front of the run ahead, leave the proposals chained
+pub step-chained : (accepted : List Command) (runs : List (List Item)) → IsChained runs → IsChained (proposed_by_step accepted runs zero)
+step-chained accepted runs chained = first-chained (with_tick accepted (get_or runs zero [])) runs chained (ticked-front accepted (get_or runs zero []))
+
+pub front-chained :
+    (accepted : List Command) (runs : List (List Item)) (c : ℕ) → IsChained runs
+    → begins_with (get_or runs c []) (with_tick accepted (get_or runs (suc c) [])) ≡ true
+    → IsChained (proposed_by_step accepted runs (suc c))
+front-chained accepted runs c chained front =
+    let q = with_tick accepted (get_or runs (suc c) []) in
+    set-chained q runs c chained (ticked-front accepted (get_or runs (suc c) [])) ((begins_with-Decides (get_or runs c []) q).0 front)
+
 -- a step whose new run is no front of the run ahead repairs all copies ahead
-step-marks :
+pub step-marks :
     (accepted : List Command) (runs : List (List Item)) (c : ℕ)
     → IsChained runs → AllByRecursion (IsComplete accepted) runs → IsBehindAhead runs (suc c) → suc c < length runs
     → begins_with (get_or runs c []) (with_tick accepted (get_or runs (suc c) [])) ≡ false
@@ -172,15 +184,11 @@ unfolding times
 no-mark zero = refl
 no-mark (suc m) = omega (arith, no-mark m)
 
-count-first : (n m : ℕ) → times (λ b. b) (replicate n true ++ replicate m false) ≡ n
+pub count-first : (n m : ℕ) → times (λ b. b) (replicate n true ++ replicate m false) ≡ n
 count-first n m = omega (arith, times-append (λ (b : Bool). b) (replicate n true) (replicate m false), all-marks n, no-mark m)
 
-length-replicate : (m : ℕ) → length (replicate m false) ≡ m
-length-replicate zero = refl
-length-replicate (suc m) = ap suc (length-replicate m)
-
 length-first : (n m : ℕ) → length (replicate n true ++ replicate m false) ≡ n + m
-length-first zero m = omega (arith, length-replicate m)
+length-first zero m = omega (arith, length-replicate m false)
 length-first (suc n) m = omega (arith, length-first n m)
 
 pub marks-first : (marks : List Bool) (n m : ℕ) → marks ≡ replicate n true ++ replicate m false → AreFirst marks
@@ -190,27 +198,53 @@ marks-first marks n m e =
     let rest : length marks - times (λ b. b) marks ≡ m = omega arith in
     e ∙ ap (λ (k : ℕ). replicate k true ++ replicate m false) (sym count) ∙ ap (λ (k : ℕ). replicate (times (λ b. b) marks) true ++ replicate k false) (sym rest)
 
--- what a step repairs
-pub step-repairs :
-    {W : Type 0} (s : MirrorState W) (c : ℕ) → IsStaggered s → is_idle s c ≡ false → c < length s.runs
-    → (repaired s.accepted (proposed_by_step s.accepted s.runs c) ≡ repaired_by_step s.accepted s.runs c) × AreFirst (which_repaired s.accepted (proposed_by_step s.accepted s.runs c))
+-- a copy below the one ahead of it
+pub ahead-behind : (runs : List (List Item)) (c : ℕ) → copy_clock runs (suc c) < copy_clock runs c → IsBehindAhead runs (suc c)
+unfolding IsBehindAhead
+ahead-behind runs c room = room
+
+pub behind-ahead : (runs : List (List Item)) (c : ℕ) → (0 < c → copy_clock runs c < copy_clock runs (c - 1)) → IsBehindAhead runs c
+unfolding IsBehindAhead
+behind-ahead runs zero room = tt
+behind-ahead runs (suc c) room =
+    let e : suc c - 1 ≡ c = omega arith in
+    subst (λ (k : ℕ). copy_clock runs (suc c) < copy_clock runs k) e (room (omega arith))
+
+-- which copies a step repairs, where it leaves the proposals chained
+front-marks : (accepted : List Command) (qs : List (List Item)) → IsChained qs → which_repaired accepted qs ≡ replicate 0 true ++ replicate (length qs) false
+front-marks accepted qs chained = chained-unrepaired accepted qs chained ∙ none-marked qs
+
+pub set-marks :
+    (accepted : List Command) (runs : List (List Item)) (c : ℕ) → IsChained runs → AllByRecursion (IsComplete accepted) runs
+    → IsBehindAhead runs c → c < length runs
+    → (m : ℕ) × (which_repaired accepted (proposed_by_step accepted runs c) ≡ replicate (repaired_by_step accepted runs c) true ++ replicate m false)
 unfolding repaired_by_step
-step-repairs s zero here e there =
-    let chained = first-chained (with_tick s.accepted (get_or s.runs zero [])) s.runs here.trailing.chained (ticked-front s.accepted (get_or s.runs zero [])) in
-    let marks = chained-unrepaired s.accepted (proposed_by_step s.accepted s.runs zero) chained ∙ none-marked (proposed_by_step s.accepted s.runs zero) in
-    (ap (times (λ (b : Bool). b)) marks ∙ count-first 0 (length (proposed_by_step s.accepted s.runs zero)), marks-first (which_repaired s.accepted (proposed_by_step s.accepted s.runs zero)) 0 (length (proposed_by_step s.accepted s.runs zero)) marks)
-step-repairs s (suc c) here e there =
-    let q = with_tick s.accepted (get_or s.runs (suc c) []) in
-    let which = which_repaired s.accepted (proposed_by_step s.accepted s.runs (suc c)) in
-    elim (begins_with (get_or s.runs c []) (with_tick s.accepted (get_or s.runs (suc c) []))) as (λ v. begins_with (get_or s.runs c []) (with_tick s.accepted (get_or s.runs (suc c) [])) ≡ v → (repaired s.accepted (proposed_by_step s.accepted s.runs (suc c)) ≡ cond v 0 (suc c)) × AreFirst (which_repaired s.accepted (proposed_by_step s.accepted s.runs (suc c)))) [
-      | true ↦ λ front.
-          let chained = set-chained q s.runs c here.trailing.chained (ticked-front s.accepted (get_or s.runs (suc c) [])) ((begins_with-Decides (get_or s.runs c []) q).0 front) in
-          let marks = chained-unrepaired s.accepted (proposed_by_step s.accepted s.runs (suc c)) chained ∙ none-marked (proposed_by_step s.accepted s.runs (suc c)) in
-          (ap (times (λ (b : Bool). b)) marks ∙ count-first 0 (length (proposed_by_step s.accepted s.runs (suc c))), marks-first which 0 (length (proposed_by_step s.accepted s.runs (suc c))) marks)
+set-marks accepted runs zero chained complete room there =
+    let qs = proposed_by_step accepted runs zero in
+    (length (proposed_by_step accepted runs zero), front-marks accepted qs (step-chained accepted runs chained))
+set-marks accepted runs (suc c) chained complete room there =
+    let q = with_tick accepted (get_or runs (suc c) []) in
+    let qs = proposed_by_step accepted runs (suc c) in
+    elim (begins_with (get_or runs c []) (with_tick accepted (get_or runs (suc c) []))) as (λ v. begins_with (get_or runs c []) (with_tick accepted (get_or runs (suc c) [])) ≡ v → (m : ℕ) × (which_repaired accepted (proposed_by_step accepted runs (suc c)) ≡ replicate (cond v 0 (suc c)) true ++ replicate m false)) [
+      | true ↦ λ front. (length (proposed_by_step accepted runs (suc c)), front-marks accepted qs (front-chained accepted runs c chained front))
       | false ↦ λ apart.
-          let marks =
-          step-marks s.accepted s.runs c here.trailing.chained here.trailing.complete (below_limit s (suc c) e).0 there apart
-          ∙ ap (λ (l : List Bool). replicate (suc c) true ++ l) (none-marked (drop (suc c) s.runs)) in
-          (ap (times (λ (b : Bool). b)) marks ∙ count-first (suc c) (length (drop (suc c) s.runs)), marks-first which (suc c) (length (drop (suc c) s.runs)) marks)
+          (length (drop (suc c) runs), step-marks accepted runs c chained complete room there apart ∙ ap (λ (l : List Bool). replicate (suc c) true ++ l) (none-marked (drop (suc c) runs)))
     ]
     refl
+
+-- how many copies a step repairs, and that they are the first
+pub step_count :
+    (accepted : List Command) (runs : List (List Item)) (c : ℕ) → IsChained runs → AllByRecursion (IsComplete accepted) runs
+    → IsBehindAhead runs c → c < length runs
+    → repaired accepted (proposed_by_step accepted runs c) ≡ repaired_by_step accepted runs c
+step_count accepted runs c chained complete room there =
+    let marks = set-marks accepted runs c chained complete room there in
+    ap (times (λ (b : Bool). b)) marks.1 ∙ count-first (repaired_by_step accepted runs c) marks.0
+
+pub step_repairs_first :
+    (accepted : List Command) (runs : List (List Item)) (c : ℕ) → IsChained runs → AllByRecursion (IsComplete accepted) runs
+    → IsBehindAhead runs c → c < length runs
+    → AreFirst (which_repaired accepted (proposed_by_step accepted runs c))
+step_repairs_first accepted runs c chained complete room there =
+    let marks = set-marks accepted runs c chained complete room there in
+    marks-first (which_repaired accepted (proposed_by_step accepted runs c)) (repaired_by_step accepted runs c) marks.0 marks.1

@@ -48,8 +48,16 @@ drain_bound s = (clock_end (schedule_of s) - s.clock) + s.length
 abbrev pub drain : {W : Type 0} → MirrorState W → MirrorState W
 drain s = drain_within (drain_bound s) s
 
+-- between two states nothing arrived, and no plan was changed
+pub record SameArrivals {W : Type 0} (s t : MirrorState W) : Type 0 where
+  pub accepted : t.accepted ≡ s.accepted
+  pub turned : t.turned ≡ s.turned
+  pub plan : t.plan ≡ s.plan
+  pub spare : t.spare ≡ s.spare
+  pub plan_spare : t.plan_spare ≡ s.plan_spare
+
 -- what draining comes to: every copy has run the whole match, and its run is the ordered part of what was accepted before
 pub record EndsInOrder {W : Type 0} (s : MirrorState W) : Type 0 where
   pub drained : IsDrained (drain s)
-  pub accepted : (drain s).accepted ≡ s.accepted
+  pub arrivals : SameArrivals s (drain s)
   pub in_order : AllByRecursion (λ run. run ≡ ordered s.accepted 0 s.length) (drain s).runs

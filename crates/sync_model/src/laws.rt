@@ -1,21 +1,31 @@
 //! The laws of the model. Each is the contract of a function without parameters that does nothing.
 
+mod clocks;
 mod draining;
 mod history;
+mod room;
 mod settling;
 mod staggered;
 
+pub use clocks::{clock_counts, other_events_move_no_copy, step_moves_its_copy};
 pub use draining::{
-    drained_in_order, drained_worlds, draining_delivers_nothing, draining_ends, draining_is_turns,
-    played_in_order,
+    drained_in_order, drained_is_tested, drained_worlds, draining_delivers_nothing, draining_ends,
+    draining_is_turns, played_in_order,
 };
 pub use history::{
-    answers_in_kind, clock_counts, from_history_kept, history_grows, history_of_changes,
-    late_exactly, opening_from_history, repairs_add_up, room_spent, unchanged_exactly,
+    answers_in_kind, changing_events_are_a_log, changing_events_suffice, history_grows,
+    history_of_changes, late_exactly, reached_kept, repairs_add_up, unchanged_exactly,
+};
+pub use room::{
+    from_history_kept, from_history_reached, opening_from_history, room_decides_nothing, room_spent,
 };
 pub use settling::{
-    arrival_repairs, arrival_repairs_first, settled_chained, step_repairs, step_repairs_first,
+    arrival_count, arrival_early, arrival_late, arrival_late_count, arrival_repairs,
+    arrival_repairs_first, begins_with_prefix, last_late, rebuilt_level, rebuilt_twice,
+    settled_chained, step_apart, step_count, step_first, step_front, step_repairs,
+    step_repairs_first,
 };
 pub use staggered::{
-    fits_kept, opening_staggered, staggered_along, staggered_kept, well_formed_kept,
+    fits_kept, fixed_parts_kept, opening_staggered, staggered_along, staggered_kept,
+    well_formed_kept,
 };

@@ -1,22 +1,26 @@
-//! What answers, histories, clocks and room tell of each other.
+//! What answers and histories tell of each other.
 
-ghost use Rattle.std.specs.Prelude.{◌≡◌, ◌↔◌, ℕ, ◌+◌, ◌-◌, ◌<◌, ◌≤◌, false, ◌&&◌, if◌then◌else◌, List, [], ◌∷◌, ◌++◌};
+ghost use Rattle.std.specs.Prelude.{◌≡◌, ◌↔◌, ℕ, ◌+◌, ◌<◌, false, List, ◌++◌};
+ghost use Rattle.std.specs.List.{AllByRecursion};
 ghost use Rattle.game_trait.specs.declared.command.Command.{Command};
 ghost use Rattle.game_trait.specs.declared.event.Event.{Event};
 ghost use Rattle.game_trait.specs.declared.event.Event.TheVariants.{Arrive};
 ghost use Rattle.game_trait.specs.declared.event.Reply.TheVariants.{Arrive as ToArrive};
 ghost use Rattle.game_trait.specs.declared.event.Arrived.TheVariants.{Late};
-ghost use Rattle.game_trait.specs.Count.{times};
-ghost use Rattle.sync_model.specs.State.{MirrorState, opening_state, last_clock};
-ghost use Rattle.sync_model.specs.Change.{next, said, is_repeat, changes, after, answers};
-ghost use Rattle.sync_model.specs.History.{IsOfKind, is_moved, changing, EachChanges, is_arrival, opening_of, IsFromHistory, HasRoom, repaired_in, repairs};
+ghost use Rattle.game_trait.specs.Events.{IsOfKind};
+ghost use Rattle.sync_model.specs.State.{MirrorState, last_clock};
+ghost use Rattle.sync_model.specs.Change.{next, said, is_repeat, changes, after};
+ghost use Rattle.sync_model.specs.Staggered.{IsStaggered};
+ghost use Rattle.sync_model.specs.History.{changing, EachChanges, first_state, IsReached, repaired_in, repairs};
+ghost use Rattle.sync_model.specs.Legal.{NamesWhatIsThere, IsLog};
 
 use game_trait::Game;
 
 /// Late comes exactly where a new command is older than the last copy's clock, with that clock as its bound.
 pub fn late_exactly<G: Game>()
     ensures { (s : MirrorState G) (x : Command) (bound : ℕ)
-        → (said s (Arrive x) ≡ ToArrive (Late bound)) ↔ ((is_repeat s x ≡ false) × (x.time < last_clock s) × (bound ≡ last_clock s)) }
+        → (said s (Arrive x) ≡ ToArrive (Late bound))
+        ↔ ((is_repeat s x ≡ false) × (x.time < last_clock s.runs) × (bound ≡ last_clock s.runs)) }
 {}
 
 /// The answer to an event is of its kind.
@@ -34,33 +38,31 @@ pub fn history_grows<G: Game>()
     ensures { (s : MirrorState G) (es : List Event) → (after s es).history ≡ s.history ++ changing s es }
 {}
 
-/// The clock is the number of answers Moved.
-pub fn clock_counts<G: Game>()
-    ensures { (s : MirrorState G) (es : List Event) → (after s es).clock ≡ s.clock + times is_moved (answers s es) }
+/// The state after all events is the state after those that change it.
+pub fn changing_events_suffice<G: Game>()
+    ensures { (s : MirrorState G) (es : List Event) → after s (changing s es) ≡ after s es }
 {}
 
-/// An arrival that is taken or turned away spends one of the room, and no other event spends any.
-pub fn room_spent<G: Game>()
-    ensures { (s : MirrorState G) (e : Event) → (next s e).spare ≡ s.spare - (if is_arrival e && changes s e then 1 else 0) }
-{}
-
-/// An opening state is the one that its empty history leads to.
-pub fn opening_from_history<G: Game>()
-    ensures { (opening : G) (length : ℕ) (delays : List ℕ) (spare : ℕ) → IsFromHistory (opening_state opening length delays spare) }
-{}
-
-/// Where a state is the one that its history leads to, so is the next, where an arrival finds room.
-pub fn from_history_kept<G: Game>()
-    ensures { (s : MirrorState G) (e : Event) → HasRoom s e → IsFromHistory s → IsFromHistory (next s e) }
+/// Every event leaves, the room left out, the state that its history leads to.
+pub fn reached_kept<G: Game>()
+    ensures { (s : MirrorState G) (e : Event) → IsReached s → IsReached (next s e) }
 {}
 
 /// Each event of a history changed the state in which it stood; every event keeps that.
 pub fn history_of_changes<G: Game>()
-    ensures { (s : MirrorState G) (e : Event) → HasRoom s e → IsFromHistory s
-        → EachChanges (opening_of s) s.history → EachChanges (opening_of (next s e)) (next s e).history }
+    ensures { (s : MirrorState G) (e : Event) → IsReached s
+        → EachChanges (first_state s) s.history → EachChanges (first_state (next s e)) (next s e).history }
 {}
 
 /// The repairs of a history go up by those of each answer.
 pub fn repairs_add_up<G: Game>()
-    ensures { (s : MirrorState G) (e : Event) → HasRoom s e → IsFromHistory s → repairs (next s e) ≡ repairs s + repaired_in (said s e) }
+    ensures { (s : MirrorState G) (e : Event) → IsReached s → repairs (next s e) ≡ repairs s + repaired_in (said s e) }
+{}
+
+/// The changing ones of events that name what is there are a log from any staggered state on: it is legal, the mirror is
+/// staggered after each front of it, and it leads to the state after all of them.
+pub fn changing_events_are_a_log<G: Game>()
+    ensures { (commands : List Command) (s : MirrorState G) (es : List Event)
+        → AllByRecursion (λ x. x.time < s.length) commands → IsStaggered s → AllByRecursion (NamesWhatIsThere commands s) es
+        → IsLog commands s (after s es) (changing s es) }
 {}

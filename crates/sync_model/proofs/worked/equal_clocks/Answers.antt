@@ -4,4 +4,4 @@ use Rattle.sync_model.proofs.worked.equal_clocks.Goals as goal
 
 pub returns : goal.returns
 unfolding computing
-returns g c = record { answer = λ o. refl; runs = λ o. refl; drained = λ o. refl; repairs = λ o. refl }
+returns g c = record { answer = λ o. refl; runs = λ o. refl; step = λ o. refl; repaired = λ o. refl; drained = λ o. refl }

@@ -4,4 +4,4 @@ use Rattle.sync_model.proofs.worked.repaired_by_the_next_copy.Goals as goal
 
 pub returns : goal.returns
 unfolding computing
-returns g c = record { answer = λ o. refl; runs = λ o. refl; repairs = λ o. refl }
+returns g c = record { answer = λ o. refl; runs = λ o. refl; drained = λ o. refl }

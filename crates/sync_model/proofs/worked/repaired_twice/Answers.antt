@@ -4,4 +4,4 @@ use Rattle.sync_model.proofs.worked.repaired_twice.Goals as goal
 
 pub returns : goal.returns
 unfolding computing
-returns g c = record { arrival = λ o. refl; runs = λ o. refl; step = λ o. refl; repaired = λ o. refl; repairs = λ o. refl }
+returns g c = record { arrival = λ o. refl; runs = λ o. refl; step = λ o. refl; repaired = λ o. refl; drained = λ o. refl }

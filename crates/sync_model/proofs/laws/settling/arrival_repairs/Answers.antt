@@ -1,5 +1,5 @@
-use Rattle.sync_model.proofs.Answers.{arrival-said}
+use Rattle.sync_model.proofs.Replies.{arrival_repairs}
 use Rattle.sync_model.proofs.laws.settling.arrival_repairs.Goals as goal
 
 pub returns : goal.returns
-returns g c = λ s x here. arrival-said s x here
+returns g c = λ s x here. arrival_repairs s x here

@@ -1,5 +1,5 @@
-use Rattle.sync_model.proofs.Arrivals.{arrival-repairs}
+use Rattle.sync_model.proofs.Arrivals.{arrival_repairs_first}
 use Rattle.sync_model.proofs.laws.settling.arrival_repairs_first.Goals as goal
 
 pub returns : goal.returns
-returns g c = λ s x here new. (arrival-repairs s x here new).1
+returns c = λ accepted x runs new chained complete. arrival_repairs_first accepted x runs new chained complete

@@ -1,0 +1,26 @@
+-- What holds of each element of a list.
+use Rattle.std.proofs.Common.{ℕ, zero, suc, ◌<◌, Bool, true, false, cond, List, [], ◌∷◌, ◌++◌, filter, length, get_or, arith}
+use Rattle.std.specs.List.{AllByRecursion}
+
+-- what holds of each element holds of each element that a filter keeps
+pub all-filter : {X : Type 0} (P : X → Type 0) (p : X → Bool) (xs : List X) → AllByRecursion P xs → AllByRecursion P (filter p xs)
+all-filter P p [] h = tt
+all-filter P p (x ∷ xs) h =
+    elim (p x) as (λ v. AllByRecursion P (cond v (x ∷ filter p xs) (filter p xs)))
+    [ true ↦ (h.0, all-filter P p xs h.1) | false ↦ all-filter P p xs h.1 ]
+
+-- what follows from a fact of each element holds of each element
+pub all-weaker : {X : Type 0} (P Q : X → Type 0) (xs : List X) → ((x : X) → P x → Q x) → AllByRecursion P xs → AllByRecursion Q xs
+all-weaker P Q [] f h = tt
+all-weaker P Q (x ∷ xs) f h = (f x h.0, all-weaker P Q xs f h.1)
+
+-- what holds of each element and of one more holds of all
+pub all-push : {X : Type 0} (P : X → Type 0) (xs : List X) (x : X) → AllByRecursion P xs → P x → AllByRecursion P (xs ++ x ∷ [])
+all-push P [] x h here = (here, tt)
+all-push P (y ∷ ys) x h here = (h.0, all-push P ys x h.1 here)
+
+-- what holds of each element holds at any place
+pub all-at : {X : Type 0} (P : X → Type 0) (xs : List X) (k : ℕ) (d : X) → AllByRecursion P xs → k < length xs → P (get_or xs k d)
+all-at P [] k d h within = absurd (omega arith)
+all-at P (x ∷ xs) zero d h within = h.0
+all-at P (x ∷ xs) (suc k) d h within = all-at P xs k d h.1 (omega arith)
