@@ -3,3 +3,4 @@ pub mod Data
 pub mod Text
 pub mod Kinds
 pub mod Reading
+pub mod Sections

@@ -1,6 +1,6 @@
 //! The lines behind the pace.
 
-ghost use Rattle.std.specs.Prelude.{◌≡◌, ◌≤◌, ◌<◌, ◌+◌, ◌^◌, length, IfOk};
+ghost use Rattle.std.specs.Prelude.{◌≡◌, ◌≤◌, ◌<◌, ◌+◌, ◌^◌, ◌&&◌, length, IfOk};
 ghost use Rattle.game_trait.specs.declared.limits.TheConstants.{MOST_COPIES};
 ghost use Rattle.tss_io.specs.Lines.{lines_of, words_of};
 ghost use Rattle.tss_io.specs.Reading.{GivesLine, Placed};

@@ -1,6 +1,6 @@
 //! What the lines up to the pace say.
 
-ghost use Rattle.std.specs.Prelude.{◌≡◌, ◌≤◌, ◌<◌, ◌-◌, length, IfOk};
+ghost use Rattle.std.specs.Prelude.{◌≡◌, ◌≤◌, ◌<◌, ◌+◌, ◌-◌, true, length, IfOk};
 ghost use Rattle.game_trait.specs.declared.limits.TheConstants.{MOST_COPIES};
 ghost use Rattle.sync_model.specs.Schedule.{longest_delay};
 ghost use Rattle.tss_io.specs.Lines.{lines_of};
@@ -41,7 +41,8 @@ pub struct Opening {
 impl Opening {
     /// Whether the cell is in the grid.
     pub fn in_grid(&self, x: u32, y: u32) -> bool
-        ensures { result ≡ in_grid self.now x y }
+        ensures value { result ≡ in_grid self.now x y }
+        ensures bytes { result ≡ true → (x < 256) × (y < 256) }
     {
         x < u32::from(self.width) && y < u32::from(self.height)
     }
@@ -144,6 +145,7 @@ pub fn rises(delays: &[Tick]) -> bool
 
 fn delays_line(alloc: Global, text: &[u8]) -> Result<(Seq<Tick>, &[u8]), LineFault>
     ensures read { GivesLine (λ x. (x.0, lines_of x.1.now)) result (once delays_kind tt (lines_of text.now)) }
+    ensures few { IfOk result (λ x. length x.0 ≤ MOST_COPIES) }
     ensures shorter { IfOk result (λ x. length x.1.now < length text.now) }
 {
     let (words, rest) = keyword_line(b"delays", text)?;
@@ -159,13 +161,15 @@ fn delays_line(alloc: Global, text: &[u8]) -> Result<(Seq<Tick>, &[u8]), LineFau
 }
 
 // The last of the delays.
+#[tactic(auto, unfolding(sync_model::specs::Lists::last_of))]
 fn longest_of(delays: &Seq<Tick>) -> Tick
     ensures { result ≡ longest_delay delays.now }
 {
-    match delays.as_slice().last() {
-        Some(last) => *last,
-        None => 0,
+    let mut last = 0;
+    for delay in delays.as_slice() {
+        last = *delay;
     }
+    last
 }
 
 fn pace_line<'a>(delays: &Seq<Tick>, text: &'a [u8]) -> Result<(Tick, &'a [u8]), Cause>

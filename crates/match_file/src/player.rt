@@ -1,6 +1,6 @@
 //! The names and homes of players.
 
-ghost use Rattle.std.specs.Prelude.{◌≡◌, Ok};
+ghost use Rattle.std.specs.Prelude.{◌≡◌, [], ◌∷◌};
 ghost use Rattle.std.specs.List.{list_all};
 ghost use Rattle.arena_rules.specs.declared.face.Face.TheVariants as faces;
 ghost use Rattle.tss_io.specs.Reading.{Answers};

@@ -267,7 +267,7 @@ words_all : (words : List (List ℕ)) → AreWords words → list_all is_word wo
 words_all [] h = refl
 words_all (w ∷ words) h = rw (h.0, words_all words h.1) refl
 
-numbers_takes : (least most : ℕ) (ws : List (List ℕ)) (ns : List ℕ) → numbers_in least most ws ≡ Ok ns → (ws ≡ map decimal ns) × AllByRecursion (InRange least most) ns × (length ws ≡ length ns)
+pub numbers_takes : (least most : ℕ) (ws : List (List ℕ)) (ns : List ℕ) → numbers_in least most ws ≡ Ok ns → (ws ≡ map decimal ns) × AllByRecursion (InRange least most) ns × (length ws ≡ length ns)
 unfolding numbers_in
 numbers_takes least most [] [] e = (refl, tt, refl)
 numbers_takes least most [] (n ∷ ns) e = absurd cc
