@@ -308,14 +308,10 @@ closing_follows o small b (x ∷ script) same some h =
     (refl, refl, scripted b [], rw some refl, follows_more (take o) is_last (scripted b []) (map script_line (x ∷ script)) (scripted b (x ∷ script)) (codes "end" ∷ []) _ follows
       (refl, refl, record b { stage = Ended; script = x ∷ script }, refl, refl))
 
--- the body is the one whose stage is Ended
-closing_is : (o : Opening) (b : Body) → b.stage ≡ Ended → Follows (take o) is_last (opened b) (closing_lines Ended b.script) (record b { stage = Ended; script = b.script }) → Follows (take o) is_last (opened b) (closing_lines Ended b.script) b
-closing_is o b stage h = let same : record b { stage = Ended; script = b.script } ≡ b = ap (λ s. record b { stage = s }) (sym stage) in subst (λ (c : Body). Follows (take o) is_last (opened b) (closing_lines Ended b.script) c) same h
-
 pub ended_follows : (o : Opening) → IsSmall o → (b : Body) → b.stage ≡ Ended → IsBody o b → Follows (take o) is_last no_body (body_lines b) b
 ended_follows o small b stage is =
     let some : is_none b.players ≡ false = is.begun (rw stage refl) in
-    let close : Follows (take o) is_last (opened b) (closing_lines b.stage b.script) b = rw stage (closing_is o b stage (closing_follows o small b b.script refl some is.script)) in
+    let close : Follows (take o) is_last (opened b) (closing_lines b.stage b.script) b = rw stage (closing_follows o small b b.script refl some is.script) in
     follows_more (take o) is_last no_body (map plan_line b.plans) (record no_body { plans = b.plans }) _ _ (plans_follow o small b is.plans)
     (follows_more (take o) is_last (record no_body { plans = b.plans }) (map wall_line b.walls) (record no_body { plans = b.plans; walls = b.walls }) _ _ (walls_follow o b is.walls)
     (follows_more (take o) is_last (record no_body { plans = b.plans; walls = b.walls }) (map pickup_line b.pickups) (record no_body { plans = b.plans; walls = b.walls; pickups = b.pickups }) _ _ (pickups_follow o b is.pickups)

@@ -1,2 +1,4 @@
 pub mod BodyLaws
 pub mod ExactKinds
+pub mod OpeningLaws
+pub mod ReadLaws
