@@ -1,5 +1,5 @@
 -- The text of a match, line by line.
-use Rattle.std.specs.Prelude.{ℕ, zero, suc, ◌==◌, if◌then◌else◌, List, [], ◌∷◌, ◌++◌, map, filter, codes, decimal}
+use Rattle.std.specs.Prelude.{ℕ, zero, suc, ◌==◌, if◌then◌else◌, List, [], ◌∷◌, ◌++◌, map, codes, decimal}
 use Rattle.arena_rules.specs.declared.face.Face.{Face}
 use Rattle.arena_rules.specs.declared.face.Face.TheVariants.{N, E, S, W}
 use Rattle.arena_rules.specs.declared.pickup.Kind.{Kind}
@@ -64,14 +64,10 @@ script_line (World mirror copy) = spaced (codes "world" ∷ decimal mirror ∷ d
 script_line (Run mirror copy) = spaced (codes "run" ∷ decimal mirror ∷ decimal copy ∷ [])
 script_line (Restagger mirror plan) = spaced (codes "restagger" ∷ decimal mirror ∷ decimal plan ∷ [])
 
--- the numbers below n, in order
-unfoldable pub below : ℕ → List ℕ
-below zero = []
-below (suc n) = below n ++ n ∷ []
-
 -- the walled cells of this row, in so many columns
 unfoldable pub walls_in_row : Grid → ℕ → ℕ → List Cell
-walls_in_row grid y columns = map (λ x. record { x = x; y = y }) (filter (λ x. is_walled grid x y) (below columns))
+walls_in_row grid y zero = []
+walls_in_row grid y (suc x) = walls_in_row grid y x ++ (if is_walled grid x y then record { x = x; y = y } ∷ [] else [])
 
 -- the walled cells of so many columns in so many rows, row by row
 unfoldable pub walls_of : Grid → ℕ → ℕ → List Cell

@@ -1,11 +1,11 @@
 pub mod DecimalLaws
+pub mod EachLaws
 pub mod Faults
 pub mod FormLaws
 pub mod KindLaws
 pub mod LineLaws
 pub mod LineSteps
 pub mod OverLaws
-pub mod Pairs
 pub mod Printing
 pub mod Results
 pub mod RunLaws
