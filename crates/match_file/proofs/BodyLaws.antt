@@ -126,8 +126,10 @@ plan_says o b c l ws is took l_is =
     let players = and_parts (is_none b.players) _ pickups.1 in
     let none = none_is b.commands players.1 in
     let right : PlanRight o b.plans took.a = record { stands = refl; fits = s.fits; room = s.room; tests = s.tests } in
-    rw (took.put, l_is) (said_plan b took.a (open_is b.stage at.0) (none_is b.walls walls.0) (none_is b.pickups pickups.0) (none_is b.players players.0) none,
-      record { plans = each_push (PlanRight o) [] b.plans took.a is.plans right; walls = is.walls; pickups = is.pickups; players = is.players; commands = is.commands; script = none_each _ b.script (is.closed at.0); closed = is.closed; begun = is.begun })
+    rw (took.put, l_is) (
+      said_plan b took.a (open_is b.stage at.0) (none_is b.walls walls.0) (none_is b.pickups pickups.0) (none_is b.players players.0) none,
+      record { plans = each_push (PlanRight o) [] b.plans took.a is.plans right; walls = is.walls; pickups = is.pickups; players = is.players; commands = is.commands; script = none_each _ b.script (is.closed at.0); closed = is.closed; begun = is.begun },
+    )
 
 wall_says : (o : Opening) (b c : Body) (l : List ℕ) (ws : List (List ℕ)) → IsBody o b → (took : Took (wall_kind o) WallFits b ws c) → l ≡ line_text (wall_kind o) b took.a → Says o b l c
 wall_says o b c l ws is took l_is =
@@ -136,8 +138,10 @@ wall_says o b c l ws is took l_is =
     let pickups = and_parts (is_none b.pickups) _ at.1 in
     let players = and_parts (is_none b.players) _ pickups.1 in
     let right : WallRight o b.walls took.a = record { stands = refl; fits = s.fits; room = s.room; tests = s.tests } in
-    rw (took.put, l_is) (said_wall b took.a (open_is b.stage at.0) (none_is b.pickups pickups.0) (none_is b.players players.0) (none_is b.commands players.1),
-      record { plans = is.plans; walls = each_push (WallRight o) [] b.walls took.a is.walls right; pickups = none_each _ b.pickups (none_is b.pickups pickups.0); players = none_each _ b.players (none_is b.players players.0); commands = is.commands; script = is.script; closed = is.closed; begun = is.begun })
+    rw (took.put, l_is) (
+      said_wall b took.a (open_is b.stage at.0) (none_is b.pickups pickups.0) (none_is b.players players.0) (none_is b.commands players.1),
+      record { plans = is.plans; walls = each_push (WallRight o) [] b.walls took.a is.walls right; pickups = none_each _ b.pickups (none_is b.pickups pickups.0); players = none_each _ b.players (none_is b.players players.0); commands = is.commands; script = is.script; closed = is.closed; begun = is.begun },
+    )
 
 pickup_says : (o : Opening) (b c : Body) (l : List ℕ) (ws : List (List ℕ)) → IsBody o b → (took : Took (pickup_kind o) PickupFits b ws c) → l ≡ line_text (pickup_kind o) b took.a → Says o b l c
 pickup_says o b c l ws is took l_is =
@@ -145,29 +149,37 @@ pickup_says o b c l ws is took l_is =
     let at = and_parts (is_open b.stage) _ s.stands in
     let players = and_parts (is_none b.players) _ at.1 in
     let right : PickupRight o b.walls b.pickups took.a = record { stands = refl; fits = s.fits; room = s.room; tests = s.tests } in
-    rw (took.put, l_is) (said_pickup b took.a (open_is b.stage at.0) (none_is b.players players.0) (none_is b.commands players.1),
-      record { plans = is.plans; walls = is.walls; pickups = each_push (PickupRight o b.walls) [] b.pickups took.a is.pickups right; players = none_each _ b.players (none_is b.players players.0); commands = is.commands; script = is.script; closed = is.closed; begun = is.begun })
+    rw (took.put, l_is) (
+      said_pickup b took.a (open_is b.stage at.0) (none_is b.players players.0) (none_is b.commands players.1),
+      record { plans = is.plans; walls = is.walls; pickups = each_push (PickupRight o b.walls) [] b.pickups took.a is.pickups right; players = none_each _ b.players (none_is b.players players.0); commands = is.commands; script = is.script; closed = is.closed; begun = is.begun },
+    )
 
 player_says : (o : Opening) (b c : Body) (l : List ℕ) (ws : List (List ℕ)) → IsBody o b → (took : Took (player_kind o) PlayerFits b ws c) → l ≡ line_text (player_kind o) b took.a → Says o b l c
 player_says o b c l ws is took l_is =
     let s = took.sound in
     let at = and_parts (is_open b.stage) _ s.stands in
     let right : PlayerRight o b.walls b.pickups b.players took.a = record { stands = refl; fits = s.fits; room = s.room; tests = s.tests } in
-    rw (took.put, l_is) (said_player b took.a (open_is b.stage at.0) (none_is b.commands at.1),
-      record { plans = is.plans; walls = is.walls; pickups = is.pickups; players = each_push (PlayerRight o b.walls b.pickups) [] b.players took.a is.players right; commands = none_each _ b.commands (none_is b.commands at.1); script = is.script; closed = is.closed; begun = λ k. open_clash b.stage at.0 k })
+    rw (took.put, l_is) (
+      said_player b took.a (open_is b.stage at.0) (none_is b.commands at.1),
+      record { plans = is.plans; walls = is.walls; pickups = is.pickups; players = each_push (PlayerRight o b.walls b.pickups) [] b.players took.a is.players right; commands = none_each _ b.commands (none_is b.commands at.1); script = is.script; closed = is.closed; begun = λ k. open_clash b.stage at.0 k },
+    )
 
 command_says : (o : Opening) (b c : Body) (l : List ℕ) (ws : List (List ℕ)) → IsBody o b → (took : Took (command_kind o) (OrderFits o) b ws c) → l ≡ line_text (command_kind o) b took.a → Says o b l c
 command_says o b c l ws is took l_is =
     let s = took.sound in
     let at = and_parts (is_open b.stage) _ s.stands in
     let right : CommandRight o b.players b.commands took.a = record { stands = at.1; fits = s.fits; room = s.room; tests = s.tests } in
-    rw (took.put, l_is) (said_command b took.a (open_is b.stage at.0),
-      record { plans = is.plans; walls = is.walls; pickups = is.pickups; players = is.players; commands = each_push (CommandRight o b.players) [] b.commands took.a is.commands right; script = none_each _ b.script (is.closed at.0); closed = is.closed; begun = is.begun })
+    rw (took.put, l_is) (
+      said_command b took.a (open_is b.stage at.0),
+      record { plans = is.plans; walls = is.walls; pickups = is.pickups; players = is.players; commands = each_push (CommandRight o b.players) [] b.commands took.a is.commands right; script = none_each _ b.script (is.closed at.0); closed = is.closed; begun = is.begun },
+    )
 
 script_says : (o : Opening) (b c : Body) (l : List ℕ) → IsBody o b → (x : ScriptLine) → is_script b.stage ≡ true → c ≡ record b { script = b.script ++ x ∷ [] } → l ≡ script_line x → ScriptRight o b.plans b.commands b.script x → Says o b l c
 script_says o b c l is x stands put l_is right =
-    rw (put, l_is) (said_script b x (script_is b.stage stands),
-      record { plans = is.plans; walls = is.walls; pickups = is.pickups; players = is.players; commands = is.commands; script = each_push (ScriptRight o b.plans b.commands) [] b.script x is.script right; closed = λ h. absurd (not_open b.stage stands h); begun = is.begun })
+    rw (put, l_is) (
+      said_script b x (script_is b.stage stands),
+      record { plans = is.plans; walls = is.walls; pickups = is.pickups; players = is.players; commands = is.commands; script = each_push (ScriptRight o b.plans b.commands) [] b.script x is.script right; closed = λ h. absurd (not_open b.stage stands h); begun = is.begun },
+    )
 
 by_word_says : (o : Opening) → IsSmall o → (b : Body) (l : List ℕ) (c : Body) (front : List ℕ × List (List ℕ)) → IsBody o b → front_at (words_of l) ≡ Ok front → by_word o b front.0 front.1 ≡ Ok c → Says o b l c
 unfolding by_word
@@ -216,13 +228,13 @@ unfolding take
 take_says o small b l c is e =
     either (bytes_eq l (codes "script")) _ _ _
     (λ same e.
-      let g = unless_ok (may_open b) Shape (record b { stage = InScript }) c e in
-      let at = and_parts (is_open b.stage) _ g.0 in
-      rw (← g.1, same_words l (codes "script") same) (said_opened b (open_is b.stage at.0) (is.closed at.0), record { plans = is.plans; walls = is.walls; pickups = is.pickups; players = is.players; commands = is.commands; script = is.script; closed = λ k. absurd cc; begun = λ _. some_is b.players at.1 }))
+    let g = unless_ok (may_open b) Shape (record b { stage = InScript }) c e in
+    let at = and_parts (is_open b.stage) _ g.0 in
+    rw (← g.1, same_words l (codes "script") same) (said_opened b (open_is b.stage at.0) (is.closed at.0), record { plans = is.plans; walls = is.walls; pickups = is.pickups; players = is.players; commands = is.commands; script = is.script; closed = λ k. absurd cc; begun = λ _. some_is b.players at.1 }))
     (λ _ e. either (bytes_eq l (codes "end")) _ _ _
     (λ same e.
-      let g = unless_ok (may_end b) Shape (record b { stage = Ended }) c e in
-      rw (← g.1, same_words l (codes "end") same) (end_says o b is g.0))
+    let g = unless_ok (may_end b) Shape (record b { stage = Ended }) c e in
+    rw (← g.1, same_words l (codes "end") same) (end_says o b is g.0))
     (λ _ e. through _ _ _ e (λ front front_is e. by_word_says o small b l c front is front_is e)) e) e
 
 -- ---- what is written is taken
@@ -304,9 +316,14 @@ closing_follows : (o : Opening) → IsSmall o → (b : Body) (script : List Scri
 unfolding Follows take
 closing_follows o small b [] same some h = (refl, refl, record b { stage = Ended; script = [] }, rw some refl, refl)
 closing_follows o small b (x ∷ script) same some h =
-    let follows : Follows (take o) is_last (scripted b []) (map script_line (x ∷ script)) (scripted b (x ∷ script)) = rw (← same) at (script_follows o small b h) in
-    (refl, refl, scripted b [], rw some refl, follows_more (take o) is_last (scripted b []) (map script_line (x ∷ script)) (scripted b (x ∷ script)) (codes "end" ∷ []) _ follows
-      (refl, refl, record b { stage = Ended; script = x ∷ script }, refl, refl))
+    let follows : Follows (take o) is_last (scripted b []) (map script_line (x ∷ script)) (scripted b (x ∷ script)) = rw (← same) at (script_follows o small b h) in (
+      refl,
+      refl,
+      scripted b [],
+      rw some refl,
+      follows_more (take o) is_last (scripted b []) (map script_line (x ∷ script)) (scripted b (x ∷ script)) (codes "end" ∷ []) _ follows
+          (refl, refl, record b { stage = Ended; script = x ∷ script }, refl, refl),
+    )
 
 pub ended_follows : (o : Opening) → IsSmall o → (b : Body) → b.stage ≡ Ended → IsBody o b → Follows (take o) is_last no_body (body_lines b) b
 ended_follows o small b stage is =

@@ -72,7 +72,7 @@ pace_exact delays = record {
 
 -- ---- the body
 
-coordinate_exact : ExactField (number 0 greatest) (InRange 0 greatest) (λ _. 10)
+pub coordinate_exact : ExactField (number 0 greatest) (InRange 0 greatest) (λ _. 10)
 coordinate_exact = number_exact 0 greatest 10 (lit< tt) (lit< tt) (lit< tt)
 
 pub plan_exact : (o : Opening) → IsSmall o → ExactKind (plan_kind o) (PlanFits o)
@@ -84,7 +84,7 @@ plan_exact o small = record {
   short = λ _ ns h. let wide = h.fits.1 in let few = small.copies in omega arith;
 }
 
-pub wall_exact : (o : Opening) → ExactKind (wall_kind o) WallFits
+unfoldable pub wall_exact : (o : Opening) → ExactKind (wall_kind o) WallFits
 unfolding is_word
 wall_exact o = record {
   keyword = refl;
@@ -93,18 +93,18 @@ wall_exact o = record {
   short = λ _ _ _. lit≤ tt;
 }
 
-kinds_told : (k : Kind) → Unit {0} → Chosen kind_word (Ammo ∷ Heal ∷ Gold ∷ []) k
+pub kinds_told : (k : Kind) → Unit {0} → Chosen kind_word (Ammo ∷ Heal ∷ Gold ∷ []) k
 unfolding is_word
 kinds_told Ammo h = (refl, refl)
 kinds_told Heal h = (refl, refl)
 kinds_told Gold h = (refl, refl)
 
-kinds_short : (k : Kind) → length (kind_word k) ≤ 4
+pub kinds_short : (k : Kind) → length (kind_word k) ≤ 4
 kinds_short Ammo = lit≤ tt
 kinds_short Heal = lit≤ tt
 kinds_short Gold = lit≤ tt
 
-pub pickup_exact : (o : Opening) → ExactKind (pickup_kind o) PickupFits
+unfoldable pub pickup_exact : (o : Opening) → ExactKind (pickup_kind o) PickupFits
 unfolding is_word
 pickup_exact o = record {
   keyword = refl;
@@ -113,14 +113,14 @@ pickup_exact o = record {
   short = λ _ _ _. lit≤ tt;
 }
 
-faces_told : (f : Face) → Unit {0} → Chosen face_word (N ∷ E ∷ S ∷ W ∷ []) f
+pub faces_told : (f : Face) → Unit {0} → Chosen face_word (N ∷ E ∷ S ∷ W ∷ []) f
 unfolding is_word
 faces_told N h = (refl, refl)
 faces_told E h = (refl, refl)
 faces_told S h = (refl, refl)
 faces_told W h = (refl, refl)
 
-faces_short : (f : Face) → length (face_word f) ≤ 1
+pub faces_short : (f : Face) → length (face_word f) ≤ 1
 faces_short N = lit≤ tt
 faces_short E = lit≤ tt
 faces_short S = lit≤ tt
@@ -131,7 +131,7 @@ unfolding is_name
 short_name [] h = absurd cc
 short_name (b ∷ bytes) h = let more : length bytes ≤ 11 = leb-true _ _ (and_parts (nat_le (length bytes) 11) (list_all is_name_byte bytes) (and_parts (is_letter b) _ h).1).0 in omega arith
 
-pub player_exact : (o : Opening) → ExactKind (player_kind o) PlayerFits
+unfoldable pub player_exact : (o : Opening) → ExactKind (player_kind o) PlayerFits
 unfolding is_word
 player_exact o = record {
   keyword = refl;
@@ -140,7 +140,7 @@ player_exact o = record {
   short = λ _ p h. let twelve = short_name p.name h.tests.0 in omega arith;
 }
 
-pub command_exact : (o : Opening) → IsSmall o → ExactKind (command_kind o) (OrderFits o)
+unfoldable pub command_exact : (o : Opening) → IsSmall o → ExactKind (command_kind o) (OrderFits o)
 unfolding is_word
 command_exact o small = record {
   keyword = refl;
@@ -151,33 +151,33 @@ command_exact o small = record {
 
 -- ---- the script
 
-mirror_exact : (o : Opening) → IsSmall o → ExactField (number 0 (o.mirrors - 1)) (InRange 0 (o.mirrors - 1)) (λ _. 1)
+pub mirror_exact : (o : Opening) → IsSmall o → ExactField (number 0 (o.mirrors - 1)) (InRange 0 (o.mirrors - 1)) (λ _. 1)
 mirror_exact o small = let few = small.mirrors in number_exact 0 (o.mirrors - 1) 1 (lit< tt) (omega arith) (omega arith)
 
-copy_exact : (o : Opening) → IsSmall o → ExactField (number 0 (length o.delays - 1)) (InRange 0 (length o.delays - 1)) (λ _. 1)
+pub copy_exact : (o : Opening) → IsSmall o → ExactField (number 0 (length o.delays - 1)) (InRange 0 (length o.delays - 1)) (λ _. 1)
 copy_exact o small = let few = small.copies in number_exact 0 (length o.delays - 1) 1 (lit< tt) (omega arith) (omega arith)
 
-pub tick_exact : (o : Opening) → IsSmall o → ExactKind (tick_kind o) (MirrorFits o)
+unfoldable pub tick_exact : (o : Opening) → IsSmall o → ExactKind (tick_kind o) (MirrorFits o)
 unfolding is_word
 tick_exact o small = record { keyword = refl; longest = λ _. 2; form = λ _. only_exact (mirror_exact o small); short = λ _ _ _. lit≤ tt }
 
-pub turn_exact : (o : Opening) → IsSmall o → ExactKind (turn_kind o) (MirrorFits o)
+unfoldable pub turn_exact : (o : Opening) → IsSmall o → ExactKind (turn_kind o) (MirrorFits o)
 unfolding is_word
 turn_exact o small = record { keyword = refl; longest = λ _. 2; form = λ _. only_exact (mirror_exact o small); short = λ _ _ _. lit≤ tt }
 
-pub step_exact : (o : Opening) → IsSmall o → ExactKind (step_kind o) (CopyFits o)
+unfoldable pub step_exact : (o : Opening) → IsSmall o → ExactKind (step_kind o) (CopyFits o)
 unfolding is_word
 step_exact o small = record { keyword = refl; longest = λ _. 4; form = λ _. then_exact (mirror_exact o small) (only_exact (copy_exact o small)); short = λ _ _ _. lit≤ tt }
 
-pub world_exact : (o : Opening) → IsSmall o → ExactKind (world_kind o) (CopyFits o)
+unfoldable pub world_exact : (o : Opening) → IsSmall o → ExactKind (world_kind o) (CopyFits o)
 unfolding is_word
 world_exact o small = record { keyword = refl; longest = λ _. 4; form = λ _. then_exact (mirror_exact o small) (only_exact (copy_exact o small)); short = λ _ _ _. lit≤ tt }
 
-pub run_exact : (o : Opening) → IsSmall o → ExactKind (run_kind o) (CopyFits o)
+unfoldable pub run_exact : (o : Opening) → IsSmall o → ExactKind (run_kind o) (CopyFits o)
 unfolding is_word
 run_exact o small = record { keyword = refl; longest = λ _. 4; form = λ _. then_exact (mirror_exact o small) (only_exact (copy_exact o small)); short = λ _ _ _. lit≤ tt }
 
-pub arrive_exact : (o : Opening) → IsSmall o → ExactKind (arrive_kind o) (ArriveFits o)
+unfoldable pub arrive_exact : (o : Opening) → IsSmall o → ExactKind (arrive_kind o) (ArriveFits o)
 unfolding is_word
 arrive_exact o small = record {
   keyword = refl;
@@ -186,7 +186,7 @@ arrive_exact o small = record {
   short = λ _ _ _. lit≤ tt;
 }
 
-pub restagger_exact : (o : Opening) → IsSmall o → ExactKind (restagger_kind o) (NextPlanFits o)
+unfoldable pub restagger_exact : (o : Opening) → IsSmall o → ExactKind (restagger_kind o) (NextPlanFits o)
 unfolding is_word
 restagger_exact o small = record {
   keyword = refl;

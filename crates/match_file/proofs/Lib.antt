@@ -1,5 +1,12 @@
 pub mod BodyLaws
+pub mod CountLaws
 pub mod ExactKinds
+pub mod FaultLaws
+pub mod MatchIsRead
 pub mod OpeningLaws
+pub mod ReadIsMatch
 pub mod ReadLaws
+pub mod RosterLaws
+pub mod TextLaws
+pub mod TextLength
 pub mod WallLaws

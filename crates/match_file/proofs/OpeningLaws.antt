@@ -1,11 +1,13 @@
 -- The lines up to the pace, both ways.
-use Rattle.std.proofs.Common.{◌≡◌, ◌⊎◌, inl, inr, ℕ, ◌+◌, Bool, true, false, cond, eqb, List, [], ◌∷◌, length, Result, Ok, Err, refl, sym, ap, subst, ◌∙◌, arith}
+use Rattle.std.proofs.Common.{◌≡◌, ◌⊎◌, inl, inr, ℕ, ◌+◌, ◌≤◌, Bool, true, false, cond, eqb, List, [], ◌∷◌, length, Result, Ok, Err, refl, sym, ap, subst, ◌∙◌, arith}
 use Rattle.std.specs.Prelude.{bytes_eq, codes}
 use Rattle.tss_io.specs.declared.cause.Cause.{Cause}
 use Rattle.tss_io.specs.declared.cause.Cause.TheVariants.{Head}
 use Rattle.tss_io.specs.declared.fault.Refused.{Refused}
 use Rattle.tss_io.specs.Lines.{Lines, line}
-use Rattle.tss_io.specs.Kinds.{is_long}
+use Rattle.game_trait.specs.declared.limits.TheConstants.{LONGEST_DELAY, MOST_COPIES}
+use Rattle.tss_io.specs.Forms.{AreNumbers}
+use Rattle.tss_io.specs.Kinds.{Sound, is_long}
 use Rattle.tss_io.specs.Runs.{at, ahead}
 use Rattle.tss_io.proofs.Results.{then}
 use Rattle.tss_io.proofs.FormLaws.{through, same_words}
@@ -46,7 +48,7 @@ head_takes lines x e = through _ _ _ e (λ l l_is e. through _ _ _ e (λ version
     let t = version_takes l.0 version version_is in
     let same : ◌≡◌ {A = ℕ × Lines} (version, l.1) x = same_pair (version, l.1) x e in
     subst (λ (p : ℕ × Lines). (lines ≡ line (head_line p.0) p.1) × ((p.0 ≡ 1) ⊎ (p.0 ≡ 2))) same
-      (line_takes lines l l_is ∙ ap (λ (w : List ℕ). line w l.1) t.0, t.1)))
+    (line_takes lines l l_is ∙ ap (λ (w : List ℕ). line w l.1) t.0, t.1)))
 
 pub head_short : (version : ℕ) → (version ≡ 1) ⊎ (version ≡ 2) → is_long (head_line version) ≡ false
 head_short version (inl e) = rw e refl
@@ -77,7 +79,7 @@ opening_takes n lines x e =
     let w4 : r3.1 ≡ line (line_text delays_kind tt r4.0) r4.1 = rw t4.put t4.whole in
     let w5 : r4.1 ≡ line (line_text (pace_kind r4.0) tt r5.0) r5.1 = rw t5.put t5.whole in
     subst (λ (p : Opening × Lines). (lines ≡ ahead (front_lines p.0) p.1) × IsOpening p.0) same
-      (t0.0 ∙ rw (w1, w2, w3, w4, w5) refl, record { version = t0.1; length = rw t1.put t1.sound; grid = rw t2.put t2.sound; mirrors = rw t3.put t3.sound; delays = rw t4.put t4.sound; pace = rw t5.put t5.sound })))))))
+    (t0.0 ∙ rw (w1, w2, w3, w4, w5) refl, record { version = t0.1; length = rw t1.put t1.sound; grid = rw t2.put t2.sound; mirrors = rw t3.put t3.sound; delays = rw t4.put t4.sound; pace = rw t5.put t5.sound })))))))
 
 pub opening_again : (n : ℕ) (o : Opening) (rest : Lines) → IsOpening o → opening_at n (ahead (front_lines o) rest) ≡ Ok (o, rest)
 unfolding opening_at ahead
@@ -89,9 +91,12 @@ opening_again n o rest is =
     (then _ _ _ _ (at_again (n + 4) _ _ (once_again delays_exact tt o.delays _ is.delays))
     (then _ _ _ _ (at_again (n + 5) _ _ (once_again (pace_exact o.delays) tt o.pace rest is.pace)) refl)))))
 
+pub few_delays : (delays : List ℕ) → Sound delays_kind (λ _. AreNumbers 0 LONGEST_DELAY) tt delays → length delays ≤ MOST_COPIES
+few_delays delays h = let few = leb-true _ _ h.room in omega (arith, length-map delays decimal)
+
 pub opening_small : (o : Opening) → IsOpening o → IsSmall o
 opening_small o is = record {
   ticks = is.length.fits.1;
   mirrors = is.mirrors.fits.1;
-  copies = let few = leb-true _ _ is.delays.room in omega (arith, length-map o.delays decimal);
+  copies = few_delays o.delays is.delays;
 }

@@ -1,5 +1,5 @@
 -- Walls as cells, row by row, and as bits of a grid.
-use Rattle.std.proofs.Common.{◌≡◌, ◌≢◌, ◌⊎◌, inl, inr, ℕ, zero, suc, ◌+◌, ◌-◌, ◌*◌, ◌/◌, ◌%◌, ◌^◌, ◌<◌, ◌≤◌, Bool, true, false, cond, eqb, ltb, ◌&&◌, ◌||◌, List, [], ◌∷◌, ◌++◌, length, map, Option, Some, None, refl, sym, ap, subst, ◌∙◌, get_or, slice_index, length-set, lit<, arith}
+use Rattle.std.proofs.Common.{◌≡◌, ◌≢◌, ◌⊎◌, inl, inr, ℕ, zero, suc, ◌+◌, ◌-◌, ◌*◌, ◌/◌, ◌%◌, ◌^◌, ◌<◌, ◌≤◌, Bool, true, false, cond, eqb, ltb, ◌&&◌, ◌||◌, List, [], ◌∷◌, ◌++◌, length, map, Option, Some, None, refl, sym, ap, subst, ◌∙◌, take, get_or, slice_index, length-set, lit<, arith}
 use Rattle.std.proofs.Math.Nat.{pow-suc}
 use Rattle.std.specs.Int.{bit_at}
 use Rattle.std.specs.List.{AllByRecursion, list_any}
@@ -7,6 +7,7 @@ use Rattle.std.specs.Prelude.{slice_get}
 use Rattle.std.proofs.lemmas.Bool.{cases_lt, cases_eq, ltb-true, lt-ltb, le-ltb, eqb-true, eq-eqb, ne_eqb, and_parts, or_cases}
 use Rattle.std.proofs.lemmas.Bool.Decides.{nat_tests}
 use Rattle.std.proofs.lemmas.List.{map-append, ext_get_or}
+use Rattle.std.proofs.lemmas.Grind.{take_at_read}
 use Rattle.std.proofs.lemmas.Nat.Bits.{same_from_bits_below, bit_at-lt}
 use Rattle.arena_rules.specs.Ground.{Grid, IsGrid, open_grid, is_walled, with_wall}
 use Rattle.arena_rules.proofs.Walls.{is_walled-open_grid, is_walled-with_wall, IsGrid-open_grid, IsGrid-with_wall}
@@ -128,10 +129,18 @@ unfolding walled with_wall
 walled_height g [] = refl
 walled_height g (c ∷ cells) = walled_height (with_wall g c.x c.y) cells
 
+pub walled_none : (g : Grid) → g ≡ walled g []
+unfolding walled
+walled_none g = refl
+
 pub walled_push : (g : Grid) (cells : List Cell) (c : Cell) → walled g (cells ++ c ∷ []) ≡ with_wall (walled g cells) c.x c.y
 unfolding walled
 walled_push g [] c = refl
 walled_push g (d ∷ cells) c = walled_push (with_wall g d.x d.y) cells c
+
+-- the next of the cells
+pub walled_next : (g : Grid) (cells : List Cell) (i : ℕ) (d : Cell) (mid new : Grid) → i < length cells → mid ≡ walled g (take i cells) → new ≡ with_wall mid (get_or cells i d).x (get_or cells i d).y → new ≡ walled g (take (i + 1) cells)
+walled_next g cells i d mid new within so_far next = next ∙ rw (so_far, (take_at_read cells i d within).1) (sym (walled_push g (take i cells) (get_or cells i d)))
 
 abbrev pub InGrid : ℕ → ℕ → List Cell → Type 0
 InGrid width height cells = AllByRecursion (λ c. (c.x < width) × (c.y < height)) cells
@@ -263,7 +272,7 @@ walls_rise g width (suc n) le =
     let e : suc n * 64 ≡ n * 64 + 64 = omega arith in
     subst (λ (k : ℕ). Rising width 0 k (walls_of g width n ++ walls_in_row g n width)) (sym e)
     (rising_append width 0 (n * 64) (n * 64) (n * 64 + 64) (walls_of g width n) (walls_in_row g n width) (omega arith) (omega arith) (omega arith) (walls_rise g width n le)
-      (record { rise = row.rise; columns = row.columns; low = row.low; high = all_to (λ k. k < n * 64 + width) (λ k. k < n * 64 + 64) (λ k lt. omega arith) _ row.high }))
+    (record { rise = row.rise; columns = row.columns; low = row.low; high = all_to (λ k. k < n * 64 + width) (λ k. k < n * 64 + 64) (λ k lt. omega arith) _ row.high }))
 
 in_grid_of : (width height : ℕ) (cells : List Cell) → AllByRecursion (λ c. c.x < width) cells → AllByRecursion (λ n. n < height * 64) (map place cells) → InGrid width height cells
 in_grid_of width height [] h k = tt
@@ -303,7 +312,7 @@ walls_again width height cells is within rise =
     let r = walls_rise g width height is.width.1 in
     same_walls (walls_of g width height) cells (in_columns width height _ is.width.1 (in_grid_of width height _ r.columns r.high)) (in_columns width height cells is.width.1 within) r.rise rise
     (λ x y. subst (λ (h : ℕ). has_wall x y (walls_of g width h) ≡ is_walled g x y) gh (subst (λ (w : ℕ). has_wall x y (walls_of g w g.height) ≡ is_walled g x y) gw (grid_has g x y whole))
-      ∙ walled_has (open_grid width height) cells x y is within ∙ rw (is_walled-open_grid width height x y) (or_false (has_wall x y cells)))
+    ∙ walled_has (open_grid width height) cells x y is within ∙ rw (is_walled-open_grid width height x y) (or_false (has_wall x y cells)))
 
 -- ---- grids with the same walls
 
@@ -360,7 +369,7 @@ option_next (Some c) = place c + 1
 abbrev pub next_place : List Cell → ℕ
 next_place cells = option_next (last_cell cells)
 
-last_step : (d e : Cell) (cells : List Cell) → last_cell (d ∷ e ∷ cells) ≡ last_cell (e ∷ cells)
+pub last_step : (d e : Cell) (cells : List Cell) → last_cell (d ∷ e ∷ cells) ≡ last_cell (e ∷ cells)
 last_step d e cells = let k : length (d ∷ e ∷ cells) - 1 ≡ suc (length (e ∷ cells) - 1) = omega arith in rw k refl
 
 last_more : (d : Cell) (cells : List Cell) (c : Cell) → last_cell (cells ++ c ∷ []) ≡ Some c → last_cell (d ∷ (cells ++ c ∷ [])) ≡ Some c

@@ -87,3 +87,7 @@ pub record IsMatch (m : MatchData) : Type 0 where
   pub script_count : length m.script ≤ MOST_SCRIPT_LINES
   pub script : AllByRecursion (IsScriptLine m) m.script
   pub shown : count_by shows m.script ≤ MOST_SHOWING_LINES
+
+-- the same match with version 2
+abbrev pub lifted : MatchData → MatchData
+lifted m = record m { version = 2 }

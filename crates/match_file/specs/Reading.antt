@@ -134,11 +134,19 @@ match_of o b = record {
   script = b.script;
 }
 
+-- what was read, as a match
+abbrev pub as_match : Opening × Stop Body → MatchData × Stop (Unit {0})
+as_match x = (match_of x.0 x.1.state, record { state = tt; next = x.1.next; rest = x.1.rest })
+
+-- the match of the lines from this number on, the number of the line behind it, and the lines from that one on
+unfoldable pub read_match : ℕ → Lines → Result (MatchData × Stop (Unit {0})) Refused
+read_match n lines = match_at n lines >>= λ x. Ok (as_match x)
+
 -- what a text says
 unfoldable pub read_text : List ℕ → Result MatchData Refused
 read_text text =
     if nat_lt LONGEST_MATCH_TEXT (length text) then Err (refused_at 0 Long)
-    else (match_at 1 (lines_of text) >>= λ x. ended x.1 >>= λ body. Ok (match_of x.0 body))
+    else (read_match 1 (lines_of text) >>= λ x. ended x.1 >>= λ _. Ok x.0)
 
 -- ---- every check of every line
 

@@ -64,10 +64,14 @@ script_line (World mirror copy) = spaced (codes "world" ∷ decimal mirror ∷ d
 script_line (Run mirror copy) = spaced (codes "run" ∷ decimal mirror ∷ decimal copy ∷ [])
 script_line (Restagger mirror plan) = spaced (codes "restagger" ∷ decimal mirror ∷ decimal plan ∷ [])
 
+-- this cell, where it is walled
+abbrev pub wall_at : Grid → ℕ → ℕ → List Cell
+wall_at grid x y = if is_walled grid x y then record { x = x; y = y } ∷ [] else []
+
 -- the walled cells of this row, in so many columns
 unfoldable pub walls_in_row : Grid → ℕ → ℕ → List Cell
 walls_in_row grid y zero = []
-walls_in_row grid y (suc x) = walls_in_row grid y x ++ (if is_walled grid x y then record { x = x; y = y } ∷ [] else [])
+walls_in_row grid y (suc x) = walls_in_row grid y x ++ wall_at grid x y
 
 -- the walled cells of so many columns in so many rows, row by row
 unfoldable pub walls_of : Grid → ℕ → ℕ → List Cell

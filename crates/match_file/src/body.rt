@@ -7,6 +7,7 @@ ghost use Rattle.tss_io.specs.Reading.{GivesLine, Placed};
 ghost use Rattle.tss_io.specs.Kinds.{step};
 ghost use Rattle.tss_io.specs.Runs.{line_step, run_to, stopped};
 ghost use Rattle.match_file.specs.Kinds.{is_open, is_script, is_ended, is_none, plan_kind, wall_kind, pickup_kind, player_kind, command_kind, tick_kind, turn_kind, arrive_kind, step_kind, world_kind, run_kind, restagger_kind};
+ghost use Rattle.match_file.specs.Sections.{IsOpening};
 ghost use Rattle.match_file.specs.Reading.{by_word, may_open, may_end, take, is_last, no_body};
 
 use crate::cell::Cell;
@@ -360,7 +361,8 @@ pub fn read_body<'a>(
     text: &'a [u8],
 ) -> Result<(Body, &'a [u8]), LineFault>
     requires copies { length opening.now.delays ≤ MOST_COPIES }
-    requires counted { line.old + length text.now < 2 ^ 32 }
+    requires opening { IsOpening opening.now }
+    requires counted { line.old ≤ 4000000010 }
     ensures read { Placed (λ x. stopped x.0 line.new (lines_of x.1.now)) line.new result (run_to (take opening.now) is_last line.old no_body (lines_of text.now)) }
     ensures shorter { IfOk result (λ x. length x.1.now ≤ length text.now) }
 {

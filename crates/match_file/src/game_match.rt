@@ -1,8 +1,12 @@
 //! A match that a match text can give.
 
+ghost use Rattle.std.specs.Prelude.{◌≡◌};
+ghost use Rattle.game_trait.specs.CommandList.{command_named};
+ghost use Rattle.match_file.specs.Data.{lifted};
+
 use crate::script_line::ScriptLine;
 use arena_rules::{Roster, Setup};
-use game_trait::{CommandList, Tick};
+use game_trait::{Command, CommandList, MirrorId, Number, Tick};
 use std::marker::Model;
 use tss_io::Seq;
 
@@ -41,4 +45,20 @@ impl Model for Match {
     ghost view = { λ m. record { version = m.version; length = m.length; mirrors = m.mirrors; delays = m.delays; plans = m.plans; pace = m.pace; layout = layout_of m.setup; names = m.roster; commands = m.commands.items; script = m.script } };
 
     ghost invariant = { λ m. IsMatch (record { version = m.version; length = m.length; mirrors = m.mirrors; delays = m.delays; plans = m.plans; pace = m.pace; layout = layout_of m.setup; names = m.roster; commands = m.commands.items; script = m.script }) };
+}
+
+/// The match's command of this mirror and number, or `None` where it has none; no two have the same. It takes no memory.
+pub fn find_command(m: &Match, from: MirrorId, number: Number) -> Option<Command>
+    ensures { result ≡ command_named m.now.commands from number }
+{
+    m.commands.get(from, number)
+}
+
+/// The same match with version 2. It takes no memory.
+pub fn lift(m: Match) -> Match
+    ensures { result ≡ lifted m }
+{
+    let mut lifted = m;
+    lifted.version = 2;
+    lifted
 }

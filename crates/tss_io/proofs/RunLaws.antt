@@ -26,7 +26,7 @@ pub record Ran {S : Type 0} (take : S → List ℕ → Result S Cause) (is_last 
 same_oks : {S : Type 0} (s t : S) → ◌≡◌ {A = Result S Refused} (Ok s) (Ok t) → s ≡ t
 same_oks s t e = cc
 
-is_end_takes : (lines : Lines) → is_end lines ≡ true → lines ≡ torn []
+pub is_end_takes : (lines : Lines) → is_end lines ≡ true → lines ≡ torn []
 is_end_takes (torn []) e = refl
 is_end_takes (torn (b ∷ bytes)) e = absurd cc
 is_end_takes (line l rest) e = absurd cc

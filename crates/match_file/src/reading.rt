@@ -1,0 +1,101 @@
+//! Reading match texts.
+
+ghost use Rattle.std.specs.Prelude.{◌≡◌, ◌≤◌, ◌<◌, ◌+◌, ◌++◌, ◌^◌, ℕ, List, length, IfOk, IfErr, Ok};
+ghost use Rattle.tss_io.specs.Lines.{lines_of};
+ghost use Rattle.tss_io.specs.Reading.{Gives, GivesLine, Placed};
+ghost use Rattle.tss_io.specs.Runs.{is_end, stopped, ended};
+ghost use Rattle.match_file.specs.Data.{MatchData, IsMatch};
+ghost use Rattle.match_file.specs.Reading.{match_at, read_text, read_match, IsFirst};
+ghost use Rattle.match_file.specs.Text.{match_text};
+
+use crate::body::{Body, read_body};
+use crate::game_match::Match;
+use crate::opening::{Opening, read_opening};
+use crate::parts::match_of;
+use game_trait::limits::LONGEST_MATCH_TEXT;
+use std::alloc::Global;
+use tss_io::{Cause, LineFault, TextFault};
+
+// What the lines of a match text say, from this place on, and the text behind them. The number of the line that is read is kept in
+// `line`, which has the first one's.
+#[tactic(auto, unfolding(crate::specs::Reading::match_at))]
+fn read_parts<'a>(
+    alloc: Global,
+    line: &mut u32,
+    text: &'a [u8],
+) -> Result<(Opening, Body, &'a [u8]), LineFault>
+    requires { line.old ≤ 4000000000 }
+    ensures read { Placed (λ x. (x.0, stopped x.1 line.new (lines_of x.2.now))) line.new result (match_at line.old (lines_of text.now)) }
+    ensures shorter { IfOk result (λ x. length x.2.now ≤ length text.now) }
+{
+    let (opening, rest) = read_opening(alloc, line, text)?;
+    *line += 1;
+    let (body, rest) = read_body(alloc, &opening, line, rest)?;
+    Ok((opening, body, rest))
+}
+
+// Whether no byte is left.
+fn at_end(text: &[u8]) -> bool
+    ensures { result ≡ is_end (lines_of text.now) }
+{
+    text.is_empty()
+}
+
+// The match from this place on, and the text behind it.
+#[tactic(auto, unfolding(crate::specs::Reading::read_match))]
+fn read_front<'a>(
+    alloc: Global,
+    line: &mut u32,
+    text: &'a [u8],
+) -> Result<(Match, &'a [u8]), LineFault>
+    requires { line.old ≤ 4000000000 }
+    ensures read { Placed (λ x. (x.0, stopped tt line.new (lines_of x.1.now))) line.new result (read_match line.old (lines_of text.now)) }
+    ensures shorter { IfOk result (λ x. length x.1.now ≤ length text.now) }
+{
+    let (opening, body, rest) = read_parts(alloc, line, text)?;
+    let read = match_of(alloc, opening, body)?;
+    Ok((read, rest))
+}
+
+// The match that the whole text says. The number of the line that is read is kept in `line`.
+#[tactic(auto, unfolding(crate::specs::Reading::read_text))]
+fn read_whole(alloc: Global, line: &mut u32, text: &[u8]) -> Result<Match, LineFault>
+    ensures { Placed (λ m. m) line.new result (read_text text.now) }
+{
+    *line = 0;
+    if text.len() > LONGEST_MATCH_TEXT {
+        return Err(LineFault::Refused(Cause::Long));
+    }
+    *line = 1;
+    let (read, rest) = read_front(alloc, line, text)?;
+    if !at_end(rest) {
+        return Err(LineFault::Refused(Cause::End));
+    }
+    Ok(read)
+}
+
+fn read_exactly(alloc: Global, text: &[u8]) -> Result<Match, TextFault>
+    ensures { Gives (λ m. m) result (read_text text.now) }
+{
+    let mut line = 0;
+    match read_whole(alloc, &mut line, text) {
+        Ok(read) => Ok(read),
+        Err(fault) => Err(fault.at(line)),
+    }
+}
+
+/// Reads a match text (this project's own form): the lines of one match of version 1 or 2, with no byte behind them, and at most
+/// 8,388,608 bytes. `Refused` is the first faulty line with that line's first failing check, or line 0 where the text is too
+/// long; `NoMemory` says nothing of the text.
+pub fn read_match(alloc: Global, text: &[u8]) -> Result<Match, TextFault>
+    // What is read is a match, and the text is its text.
+    ensures found { IfOk result (λ m. IsMatch m × (text.now ≡ match_text m)) }
+    // The text of a match is read as that match, unless memory runs out.
+    ensures only { (m : MatchData) → IsMatch m → text.now ≡ match_text m → Gives (λ v. v) result (Ok m) }
+    // The match, or the refusal, is the one that reading gives, unless memory runs out.
+    ensures exact { Gives (λ v. v) result (read_text text.now) }
+    // A refusal names the first faulty line and its first failing check, or the whole text for its length.
+    ensures refused { IfErr result (IsFirst text.now) }
+{
+    read_exactly(alloc, text)
+}
