@@ -1,22 +1,19 @@
 -- What each line of the body says, and that what is written is taken again.
-use Rattle.std.proofs.Common.{◌≡◌, inl, inr, ℕ, ◌≤◌, Bool, true, false, cond, ltb, ◌&&◌, ◌||◌, List, [], ◌∷◌, ◌++◌, length, map, Result, Ok, Err, refl, sym, ap, subst, ◌∙◌, append_assoc}
+use Rattle.std.proofs.Common.{◌≡◌, inl, inr, ℕ, true, false, ◌&&◌, List, [], ◌∷◌, ◌++◌, map, Ok, Err, refl, sym, ap, ◌∙◌, append_assoc}
 use Rattle.std.specs.Prelude.{bytes_eq, codes, not}
-use Rattle.std.specs.List.{AllByRecursion}
 use Rattle.std.proofs.lemmas.Bool.{and_parts, or_cases}
 use Rattle.std.proofs.lemmas.List.{append-nil, map-append}
 use Rattle.game_trait.specs.declared.command.Command.{Command}
 use Rattle.arena_rules.specs.declared.pickup.PickupSpot.{PickupSpot}
 use Rattle.command_lines.specs.CommandLine.{command_line}
-use Rattle.tss_io.specs.declared.cause.Cause.{Cause}
 use Rattle.tss_io.specs.declared.cause.Cause.TheVariants.{Shape}
 use Rattle.tss_io.specs.Lines.{words_of, spaced}
 use Rattle.tss_io.specs.Forms.{front_at}
 use Rattle.tss_io.specs.Kinds.{Kind, step, is_long, EachAfter, Sound}
 use Rattle.tss_io.specs.Runs.{Follows}
 use Rattle.tss_io.proofs.Results.{unless_ok}
-use Rattle.tss_io.proofs.Spaced.{Lacks, Lacks-spaced}
 use Rattle.tss_io.proofs.FormLaws.{through, same_words}
-use Rattle.tss_io.proofs.KindLaws.{ExactKind, Took, step_takes, step_again, line_text, line_fits, line_short, line_front, line_is, not_alone}
+use Rattle.tss_io.proofs.KindLaws.{ExactKind, Took, step_takes, step_again, line_text, line_short, line_front, line_is, not_alone}
 use Rattle.tss_io.proofs.RunLaws.{either, follows_more, items_follow, each_push}
 use Rattle.match_file.specs.declared.body.Body.{Body}
 use Rattle.match_file.specs.declared.body.Stage.{Stage}
@@ -26,10 +23,10 @@ use Rattle.match_file.specs.declared.opening.Opening.{Opening}
 use Rattle.match_file.specs.declared.player.Player.{Player}
 use Rattle.match_file.specs.declared.script_line.ScriptLine.{ScriptLine}
 use Rattle.match_file.specs.declared.script_line.ScriptLine.TheVariants.{Tick, Turn, Arrive, Step, World, Run, Restagger}
-use Rattle.match_file.specs.Kinds.{is_open, is_script, is_ended, is_none, plan_kind, wall_kind, pickup_kind, player_kind, command_kind, tick_kind, turn_kind, arrive_kind, step_kind, world_kind, run_kind, restagger_kind}
+use Rattle.match_file.specs.Kinds.{is_open, is_script, is_none, plan_kind, wall_kind, pickup_kind, player_kind, command_kind}
 use Rattle.match_file.specs.Reading.{by_word, may_open, may_end, take, is_last, no_body}
-use Rattle.match_file.specs.Sections.{PlanFits, WallFits, PickupFits, PlayerFits, OrderFits, PlanRight, WallRight, PickupRight, PlayerRight, CommandRight, in_script, ScriptRight, IsBody, closing_lines, body_lines, home_line}
-use Rattle.match_file.specs.Text.{plan_line, wall_line, pickup_line, script_line, script_lines}
+use Rattle.match_file.specs.Sections.{PlanFits, WallFits, PickupFits, PlayerFits, OrderFits, PlanRight, WallRight, PickupRight, PlayerRight, CommandRight, ScriptRight, IsBody, closing_lines, body_lines, home_line}
+use Rattle.match_file.specs.Text.{plan_line, wall_line, pickup_line, script_line}
 use Rattle.match_file.proofs.ExactKinds.{IsSmall, plan_exact, wall_exact, pickup_exact, player_exact, command_exact, tick_exact, turn_exact, arrive_exact, step_exact, world_exact, run_exact, restagger_exact}
 
 -- ---- where a line may stand

@@ -1,10 +1,10 @@
 -- How many lines a match has at most.
-use Rattle.std.proofs.Common.{◌≡◌, ◌⊎◌, inl, inr, ℕ, ◌+◌, ◌<◌, ◌≤◌, true, false, ltb, cond, eqb, List, [], ◌∷◌, ◌++◌, length, map, Result, Ok, Err, refl, sym, ap, subst, ◌∙◌, length-append, lit≤, arith}
+use Rattle.std.proofs.Common.{◌≡◌, ℕ, ◌+◌, ◌≤◌, true, false, cond, eqb, List, [], ◌∷◌, ◌++◌, length, map, Result, Ok, ap, subst, ◌∙◌, length-append, lit≤, arith}
 use Rattle.std.specs.Prelude.{codes}
 use Rattle.std.proofs.lemmas.Bool.{ltb-true}
 use Rattle.std.proofs.lemmas.List.{length-map}
 use Rattle.command_lines.specs.CommandLine.{command_line}
-use Rattle.game_trait.specs.declared.limits.TheConstants.{MOST_PICKUPS, MOST_COMMANDS, MOST_SCRIPT_LINES}
+use Rattle.game_trait.specs.declared.limits.TheConstants.{MOST_COMMANDS}
 use Rattle.tss_io.specs.declared.cause.Cause.{Cause}
 use Rattle.tss_io.specs.Lines.{Lines}
 use Rattle.tss_io.specs.Runs.{line_step}
@@ -18,7 +18,7 @@ use Rattle.match_file.specs.declared.script_line.ScriptLine.{ScriptLine}
 use Rattle.match_file.specs.declared.versions.TheConstants.{MOST_COMMANDS_IN_2}
 use Rattle.match_file.specs.Data.{most_commands}
 use Rattle.match_file.specs.Reading.{take}
-use Rattle.match_file.specs.Sections.{PlanRight, WallRight, PickupRight, PlayerRight, CommandRight, ScriptRight, IsBody, IsOpening, closing_lines, body_lines, home_line}
+use Rattle.match_file.specs.Sections.{PlanRight, PickupRight, PlayerRight, CommandRight, ScriptRight, IsBody, IsOpening, closing_lines, body_lines, home_line}
 use Rattle.match_file.specs.Text.{plan_line, wall_line, pickup_line, script_line}
 use Rattle.match_file.proofs.BodyLaws.{Says, take_says}
 use Rattle.match_file.proofs.OpeningLaws.{opening_small}

@@ -1,20 +1,18 @@
 -- A refusal names the first faulty line and its first failing check.
-use Rattle.std.proofs.Common.{◌≡◌, ◌⊎◌, inl, inr, ℕ, suc, ◌+◌, ◌≤◌, [], ◌∷◌, Bool, true, false, cond, ltb, List, length, Result, Some, None, Ok, Err, refl, sym, ap, subst, ◌∙◌, arith}
-use Rattle.std.specs.Prelude.{IfErr, bytes_eq, codes}
-use Rattle.std.proofs.lemmas.Bool.{ltb-true, ltb-false}
-use Rattle.game_trait.specs.declared.limits.TheConstants.{LONGEST_MATCH, MOST_MIRRORS, MOST_COPIES, LONGEST_MATCH_TEXT}
+use Rattle.std.proofs.Common.{◌≡◌, ℕ, suc, ◌+◌, ◌≤◌, [], ◌∷◌, Bool, true, false, cond, List, length, Result, Some, Ok, Err, refl, sym, ap, subst, ◌∙◌, arith}
+use Rattle.std.specs.Prelude.{bytes_eq, codes}
+use Rattle.game_trait.specs.declared.limits.TheConstants.{LONGEST_MATCH, MOST_MIRRORS, MOST_COPIES}
 use Rattle.tss_io.specs.Results.{◌>>=◌}
 use Rattle.tss_io.specs.declared.cause.Cause.{Cause}
 use Rattle.tss_io.specs.declared.cause.Cause.TheVariants.{Head, Shape}
 use Rattle.tss_io.specs.declared.fault.Refused.{Refused}
-use Rattle.tss_io.specs.Lines.{Lines, torn, line, lines_of, words_of}
-use Rattle.tss_io.specs.Reading.{refused_at}
+use Rattle.tss_io.specs.Lines.{Lines, torn, line, words_of}
 use Rattle.tss_io.specs.Forms.{front_at}
 use Rattle.tss_io.specs.Kinds.{Kind, first_failing, is_right, line_at, once, keyword_step, fault_of}
 use Rattle.tss_io.specs.Runs.{at, Stop, run_to, ended, Follows, StopsAt, stop_at, FirstFault}
 use Rattle.tss_io.proofs.FormLaws.{through, front_err}
-use Rattle.tss_io.proofs.KindLaws.{ExactKind, once_is, step_fault, keyword_takes, keyword_fault}
-use Rattle.tss_io.proofs.RunLaws.{either, run_fault, line_first, bind_assoc, follows_keeps}
+use Rattle.tss_io.proofs.KindLaws.{once_is, step_fault, keyword_takes, keyword_fault}
+use Rattle.tss_io.proofs.RunLaws.{run_fault, line_first, bind_assoc, follows_keeps}
 use Rattle.tss_io.proofs.RunToLaws.{run_is, to_fault, first_checked}
 use Rattle.match_file.specs.declared.body.Body.{Body}
 use Rattle.match_file.specs.declared.opening.Opening.{Opening}

@@ -2,8 +2,10 @@ pub mod BodyLaws
 pub mod CountLaws
 pub mod ExactKinds
 pub mod FaultLaws
+pub mod LiftLaws
 pub mod MatchIsRead
 pub mod OpeningLaws
+pub mod PrintLaws
 pub mod ReadIsMatch
 pub mod ReadLaws
 pub mod RosterLaws

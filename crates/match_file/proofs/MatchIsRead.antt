@@ -1,46 +1,39 @@
 -- A match is read from what its text says.
-use Rattle.std.proofs.Common.{◌≡◌, ◌⊎◌, inl, inr, ℕ, zero, suc, ◌+◌, ◌-◌, ◌<◌, ◌≤◌, Bool, true, false, cond, eqb, ltb, ◌&&◌, ◌||◌, List, [], ◌∷◌, ◌++◌, length, map, filter, Some, None, refl, sym, ap, subst, ◌∙◌, length-append, append_assoc, lit<, lit≤, arith}
-use Rattle.std.specs.Prelude.{bytes_eq, codes, not, decimal, nat_le, nat_lt, count_by, slice_get}
-use Rattle.std.specs.List.{AllByRecursion, IsDistinct, list_any, list_all}
-use Rattle.std.proofs.lemmas.Bool.{ltb-true, lt-ltb, leb-true, le-leb, and_parts, or_parts}
+use Rattle.std.proofs.Common.{◌≡◌, ℕ, ◌+◌, ◌-◌, ◌<◌, ◌≤◌, Bool, true, false, cond, eqb, ltb, ◌&&◌, List, [], ◌∷◌, ◌++◌, length, map, filter, refl, sym, ap, subst, ◌∙◌, length-append, append_assoc, arith}
+use Rattle.std.specs.Prelude.{bytes_eq, not, decimal, nat_le, count_by}
+use Rattle.std.specs.List.{AllByRecursion, list_any, list_all}
+use Rattle.std.proofs.lemmas.Bool.{ltb-true, lt-ltb, le-leb, and_parts, or_parts}
 use Rattle.std.proofs.lemmas.List.{length-map, map-append}
 use Rattle.std.proofs.lemmas.List.Sums.{length-filter}
 use Rattle.game_trait.specs.declared.command.Command.{Command}
-use Rattle.game_trait.specs.declared.limits.TheConstants.{LONGEST_MATCH, MOST_MIRRORS, MOST_COPIES, LONGEST_DELAY, MOST_PLANS, MOST_PICKUPS, MOST_PLAYERS, MOST_PLAYERS_IN_1, MOST_COMMANDS, MOST_SCRIPT_LINES, MOST_SHOWING_LINES, GREATEST_NUMBER}
+use Rattle.game_trait.specs.declared.limits.TheConstants.{MOST_COPIES, LONGEST_DELAY, MOST_PICKUPS, MOST_PLAYERS, MOST_PLAYERS_IN_1, MOST_SCRIPT_LINES, MOST_SHOWING_LINES}
 use Rattle.game_trait.specs.CommandList.{has_command}
-use Rattle.game_trait.specs.Keys.{same_name, is_named, NamesDiffer}
-use Rattle.game_trait.proofs.CommandLists.{names-push}
+use Rattle.game_trait.specs.Keys.{same_name, NamesDiffer}
 use Rattle.game_trait.proofs.KeyOrder.{same_name-sym}
 use Rattle.arena_rules.specs.declared.pickup.PickupSpot.{PickupSpot}
 use Rattle.arena_rules.specs.declared.spot.Spot.{Spot}
-use Rattle.arena_rules.specs.Ground.{Grid, IsGrid, open_grid, is_walled, is_open}
-use Rattle.arena_rules.specs.Setup.{Layout, IsLayout, same_cell, spot_cell, pickup_cell, cells_in_use}
-use Rattle.arena_rules.proofs.Walls.{is_walled-open_grid, IsGrid-open_grid}
-use Rattle.command_lines.specs.CommandLine.{has_act, last_player}
-use Rattle.sync_model.specs.Schedule.{Schedule, IsSchedule, DelaysRise, longest_delay}
+use Rattle.arena_rules.specs.Ground.{open_grid, is_walled, is_open}
+use Rattle.arena_rules.specs.Setup.{same_cell, spot_cell, pickup_cell}
+use Rattle.command_lines.specs.CommandLine.{last_player}
+use Rattle.sync_model.specs.Schedule.{DelaysRise}
 use Rattle.std.proofs.lemmas.Bool.Decides.{nat_tests}
 use Rattle.sync_model.specs.Lists.{last_of}
-use Rattle.tss_io.specs.Forms.{InRange, AreNumbers, is_word, is_word_byte}
-use Rattle.tss_io.specs.Kinds.{Sound, EachAfter}
-use Rattle.tss_io.proofs.EachLaws.{each_keeps, each_split, each_of, each_fewer, all_at, all_push, all_map, all_unmap, all_to, distinct_push, distinct_at, any_map, any_append, list_all_of, of_list_all}
+use Rattle.tss_io.specs.Forms.{InRange, is_word, is_word_byte}
+use Rattle.tss_io.proofs.EachLaws.{each_split, all_at, all_unmap, all_to, distinct_at, any_map, any_append, list_all_of, of_list_all}
 use Rattle.match_file.specs.declared.body.Body.{Body}
-use Rattle.match_file.specs.declared.body.Stage.{Stage}
-use Rattle.match_file.specs.declared.body.Stage.TheVariants.{Open, InScript, Ended}
+use Rattle.match_file.specs.declared.body.Stage.TheVariants.{Ended}
 use Rattle.match_file.specs.declared.cell.Cell.{Cell}
 use Rattle.match_file.specs.declared.opening.Opening.{Opening}
 use Rattle.match_file.specs.declared.player.Player.{Player}
 use Rattle.match_file.specs.declared.script_line.ScriptLine.{ScriptLine}
 use Rattle.match_file.specs.declared.script_line.ScriptLine.TheVariants.{Tick, Turn, Arrive, Step, World, Run, Restagger}
-use Rattle.match_file.specs.Data.{MatchData, most_players, most_commands, schedule_of, IsCommand, IsScriptLine, shows, IsMatch}
+use Rattle.match_file.specs.Data.{MatchData, most_players, most_commands, IsCommand, IsScriptLine, shows, IsMatch}
 use Rattle.match_file.specs.Names.{is_letter, is_name_byte, is_name}
-use Rattle.match_file.specs.Kinds.{is_ended, is_none, in_grid, is_behind, last_cell, has_wall, has_pickup, has_home, has_name, rises, rises_from, greatest}
-use Rattle.match_file.specs.Reading.{walled, match_of, no_body}
-use Rattle.match_file.specs.Sections.{PlanRight, WallRight, PickupRight, PlayerRight, CommandRight, ScriptRight, IsBody, IsOpening, IsRead}
+use Rattle.match_file.specs.Kinds.{is_none, in_grid, has_wall, has_pickup, has_home, has_name, rises, rises_from, greatest}
+use Rattle.match_file.specs.Reading.{walled, match_of}
+use Rattle.match_file.specs.Sections.{PlanRight, WallRight, PickupRight, PlayerRight, CommandRight, ScriptRight, IsOpening, IsRead}
 use Rattle.match_file.specs.Text.{walls_of}
-use Rattle.match_file.proofs.ExactKinds.{IsSmall}
-use Rattle.match_file.proofs.OpeningLaws.{opening_small}
-use Rattle.match_file.proofs.WallLaws.{place, InColumns, InGrid, LastSmall, option_next, next_place, last_push, behind_place, rising_behind, walled_width, walled_height, walled_grid, walled_has, walls_in_grid, in_columns, grid_has, grid_again, walls_again, walls_rise}
-use Rattle.match_file.proofs.ReadIsMatch.{count_push}
+use Rattle.match_file.proofs.WallLaws.{place, InGrid, rising_behind, walls_in_grid, in_columns, grid_has, grid_again, walls_rise}
 use Rattle.std.proofs.lemmas.List.Elements.{filter-append}
 
 -- ---- the parts of a match, as they are read

@@ -1,9 +1,7 @@
 -- The lines up to the pace, both ways.
-use Rattle.std.proofs.Common.{◌≡◌, ◌⊎◌, inl, inr, ℕ, ◌+◌, ◌≤◌, Bool, true, false, cond, eqb, List, [], ◌∷◌, length, Result, Ok, Err, refl, sym, ap, subst, ◌∙◌, arith}
+use Rattle.std.proofs.Common.{◌≡◌, ◌⊎◌, inl, inr, ℕ, ◌+◌, ◌≤◌, false, List, length, Result, Ok, refl, ap, subst, ◌∙◌, arith}
 use Rattle.std.specs.Prelude.{bytes_eq, codes}
 use Rattle.tss_io.specs.declared.cause.Cause.{Cause}
-use Rattle.tss_io.specs.declared.cause.Cause.TheVariants.{Head}
-use Rattle.tss_io.specs.declared.fault.Refused.{Refused}
 use Rattle.tss_io.specs.Lines.{Lines, line}
 use Rattle.game_trait.specs.declared.limits.TheConstants.{LONGEST_DELAY, MOST_COPIES}
 use Rattle.tss_io.specs.Forms.{AreNumbers}
@@ -21,7 +19,7 @@ use Rattle.match_file.specs.Text.{head_line}
 use Rattle.match_file.proofs.ExactKinds.{IsSmall, length_exact, grid_exact, mirrors_exact, delays_exact, pace_exact}
 use Rattle.std.proofs.lemmas.Bool.{leb-true}
 use Rattle.std.proofs.lemmas.List.{length-map}
-use Rattle.std.specs.Prelude.{decimal, map}
+use Rattle.std.specs.Prelude.{decimal}
 
 same_ok : (x y : ℕ) → ◌≡◌ {A = Result ℕ Cause} (Ok x) (Ok y) → x ≡ y
 same_ok x y e = cc

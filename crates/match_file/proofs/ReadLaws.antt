@@ -1,18 +1,13 @@
 -- A whole match text both ways: what is read was written so, and what is written is read.
-use Rattle.std.proofs.Common.{◌≡◌, ◌⊎◌, inl, inr, ℕ, ◌+◌, ◌≤◌, true, false, ltb, List, [], ◌∷◌, ◌++◌, length, map, Result, Ok, Err, refl, sym, ap, subst, ◌∙◌, append_assoc, arith}
-use Rattle.std.specs.Prelude.{bytes_eq, codes}
+use Rattle.std.proofs.Common.{◌≡◌, ◌⊎◌, inl, inr, ℕ, ◌+◌, true, List, [], ◌∷◌, ◌++◌, length, map, Ok, refl, sym, ap, subst, ◌∙◌, arith}
+use Rattle.std.specs.Prelude.{codes}
 use Rattle.std.specs.List.{AllByRecursion}
-use Rattle.std.proofs.lemmas.List.{append-nil}
-use Rattle.game_trait.specs.declared.command.Command.{Command}
 use Rattle.command_lines.specs.CommandLine.{command_line}
-use Rattle.tss_io.specs.declared.cause.Cause.{Cause}
-use Rattle.tss_io.specs.declared.fault.Refused.{Refused}
-use Rattle.tss_io.specs.Lines.{Lines, torn, line, lines_of, text_of, lines_text}
+use Rattle.tss_io.specs.Lines.{Lines, line}
 use Rattle.tss_io.specs.Kinds.{Kind, EachAfter, Sound}
-use Rattle.tss_io.specs.Runs.{Stop, stopped, run_to, ahead, Follows, RanTo}
+use Rattle.tss_io.specs.Runs.{Stop, stopped, ahead}
 use Rattle.tss_io.proofs.Results.{then}
-use Rattle.tss_io.proofs.LineLaws.{text_of-lines_of}
-use Rattle.tss_io.proofs.Spaced.{Lacks, Lacks-spaced, AreLines, AreLines-ahead, lines_of-text_of}
+use Rattle.tss_io.proofs.Spaced.{Lacks, Lacks-spaced}
 use Rattle.tss_io.proofs.FormLaws.{through}
 use Rattle.tss_io.proofs.KindLaws.{ExactKind, line_text, line_fits}
 use Rattle.tss_io.proofs.RunLaws.{follows_says, each_all, all_append}
@@ -23,10 +18,10 @@ use Rattle.match_file.specs.declared.body.Stage.TheVariants.{Open, InScript, End
 use Rattle.match_file.specs.declared.opening.Opening.{Opening}
 use Rattle.match_file.specs.declared.script_line.ScriptLine.{ScriptLine}
 use Rattle.match_file.specs.declared.script_line.ScriptLine.TheVariants.{Tick, Turn, Arrive, Step, World, Run, Restagger}
-use Rattle.match_file.specs.Kinds.{is_open, is_ended}
+use Rattle.match_file.specs.Kinds.{is_ended}
 use Rattle.match_file.specs.Reading.{take, is_last, no_body, match_at}
 use Rattle.match_file.specs.Sections.{PlanRight, WallRight, PickupRight, PlayerRight, CommandRight, ScriptRight, IsBody, IsOpening, IsRead, home_line, closing_lines, body_lines, front_lines}
-use Rattle.match_file.specs.Text.{head_line, plan_line, wall_line, pickup_line, script_line, script_lines}
+use Rattle.match_file.specs.Text.{head_line, plan_line, wall_line, pickup_line, script_line}
 use Rattle.match_file.proofs.ExactKinds.{IsSmall, length_exact, grid_exact, mirrors_exact, delays_exact, pace_exact, plan_exact, wall_exact, pickup_exact, player_exact, command_exact, tick_exact, turn_exact, arrive_exact, step_exact, world_exact, run_exact, restagger_exact}
 use Rattle.match_file.proofs.BodyLaws.{take_says, ended_follows}
 use Rattle.match_file.proofs.OpeningLaws.{opening_takes, opening_again, opening_small}

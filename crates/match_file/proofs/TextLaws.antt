@@ -1,9 +1,8 @@
 -- The text of a match, both ways.
-use Rattle.std.proofs.Common.{◌≡◌, ◌⊎◌, inl, inr, ℕ, zero, suc, ◌+◌, ◌*◌, ◌≤◌, Bool, true, false, cond, ltb, List, [], ◌∷◌, ◌++◌, length, map, Result, Ok, Err, refl, sym, ap, subst, ◌∙◌, append_assoc, append-nil, length-append, lit≤, arith}
+use Rattle.std.proofs.Common.{◌≡◌, inl, inr, ℕ, ◌+◌, ◌≤◌, Bool, true, false, cond, ltb, List, [], ◌∷◌, ◌++◌, length, map, Result, Ok, Err, refl, sym, ap, subst, ◌∙◌, append_assoc, append-nil}
 use Rattle.std.specs.Prelude.{IfOk, IfErr, codes}
 use Rattle.std.specs.List.{AllByRecursion}
 use Rattle.std.proofs.lemmas.Bool.{le-ltb, ltb-true, ltb-false}
-use Rattle.std.proofs.lemmas.List.{length-map}
 use Rattle.game_trait.specs.declared.limits.TheConstants.{LONGEST_MATCH_TEXT}
 use Rattle.arena_rules.specs.Ground.{open_grid}
 use Rattle.arena_rules.proofs.Walls.{IsGrid-open_grid}
@@ -15,14 +14,13 @@ use Rattle.tss_io.specs.declared.fault.TextFault.TheVariants as text_faults
 use Rattle.tss_io.specs.Lines.{Lines, torn, line, lines_of, text_of, lines_text, as_line}
 use Rattle.tss_io.specs.Reading.{Gives, refused_at}
 use Rattle.tss_io.specs.Results.{◌>>=◌}
-use Rattle.tss_io.specs.Runs.{Stop, is_end, ended, ahead, FirstFault}
+use Rattle.tss_io.specs.Runs.{Stop, is_end, ended, ahead}
 use Rattle.tss_io.proofs.Results.{then, guard_then, unless_then}
 use Rattle.tss_io.proofs.LineLaws.{text_of-lines_of}
 use Rattle.tss_io.proofs.Spaced.{Lacks, lines_of-line}
 use Rattle.tss_io.proofs.FormLaws.{through}
-use Rattle.tss_io.proofs.KindLaws.{line_length, line_short}
-use Rattle.tss_io.proofs.Printing.{text_of-ahead, lines_text-append}
-use Rattle.tss_io.proofs.RunLaws.{either, is_end_takes, each_all, all_append, bind_assoc}
+use Rattle.tss_io.proofs.Printing.{text_of-ahead}
+use Rattle.tss_io.proofs.RunLaws.{either, is_end_takes}
 use Rattle.match_file.specs.declared.body.Body.{Body}
 use Rattle.match_file.specs.declared.body.Stage.{Stage}
 use Rattle.match_file.specs.declared.body.Stage.TheVariants.{Open, InScript, Ended}
@@ -31,14 +29,14 @@ use Rattle.match_file.specs.declared.player.Player.{Player}
 use Rattle.match_file.specs.declared.script_line.ScriptLine.{ScriptLine}
 use Rattle.match_file.specs.Data.{MatchData, IsMatch}
 use Rattle.match_file.specs.Kinds.{is_ended}
-use Rattle.match_file.specs.Reading.{walled, match_at, match_of, as_match, read_match, read_text, IsFirst, head_due, take_line, checks_of, at_last}
-use Rattle.match_file.specs.Sections.{IsRead, IsOpening, IsBody, home_line, body_lines, front_lines, closing_lines}
+use Rattle.match_file.specs.Reading.{walled, match_at, match_of, as_match, read_match, read_text, IsFirst}
+use Rattle.match_file.specs.Sections.{IsRead, home_line, body_lines, front_lines, closing_lines}
 use Rattle.match_file.specs.declared.cell.Cell.{Cell}
-use Rattle.match_file.specs.Text.{head_line, number_line, grid_line, delays_line, player_lines, script_lines, plan_line, wall_line, pickup_line, walls_of, opening_lines, match_lines, match_text}
-use Rattle.match_file.proofs.ReadLaws.{Found, match_takes, match_again, all_lack}
+use Rattle.match_file.specs.Text.{head_line, number_line, grid_line, delays_line, player_lines, script_lines, plan_line, wall_line, pickup_line, walls_of, match_lines, match_text}
+use Rattle.match_file.proofs.ReadLaws.{match_takes, match_again, all_lack}
 use Rattle.match_file.proofs.ReadIsMatch.{is_match_of, walls_within, walls_rising}
 use Rattle.match_file.proofs.MatchIsRead.{opening_of, body_of, is_read, match_is}
-use Rattle.match_file.proofs.FaultLaws.{text_first, match_first, first_of_stop}
+use Rattle.match_file.proofs.FaultLaws.{text_first, first_of_stop}
 use Rattle.match_file.proofs.TextLength.{read_length}
 use Rattle.match_file.proofs.WallLaws.{walled_width, walled_height, walls_again}
 

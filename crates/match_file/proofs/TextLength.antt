@@ -1,5 +1,5 @@
 -- Every match's text is within the limit.
-use Rattle.std.proofs.Common.{◌≡◌, ◌⊎◌, inl, inr, ℕ, zero, suc, ◌+◌, ◌*◌, ◌≤◌, List, [], ◌∷◌, ◌++◌, length, map, refl, sym, ap, ◌∙◌, length-append, suc-mul, lit≤, arith}
+use Rattle.std.proofs.Common.{◌≡◌, ℕ, zero, suc, ◌+◌, ◌*◌, ◌≤◌, List, [], ◌∷◌, ◌++◌, length, map, ap, ◌∙◌, length-append, suc-mul, arith}
 use Rattle.std.specs.Prelude.{codes}
 use Rattle.std.specs.List.{AllByRecursion}
 use Rattle.std.proofs.lemmas.Bool.{ltb-false}
@@ -7,8 +7,7 @@ use Rattle.std.proofs.lemmas.List.{length-map}
 use Rattle.game_trait.specs.declared.limits.TheConstants.{LONGEST_MATCH_TEXT}
 use Rattle.command_lines.specs.CommandLine.{command_line}
 use Rattle.tss_io.specs.Lines.{as_line, lines_text}
-use Rattle.tss_io.specs.Kinds.{is_long}
-use Rattle.tss_io.proofs.KindLaws.{line_length, line_short, line_text}
+use Rattle.tss_io.proofs.KindLaws.{line_length, line_short}
 use Rattle.tss_io.proofs.Printing.{lines_text-append}
 use Rattle.tss_io.proofs.RunLaws.{each_all}
 use Rattle.match_file.specs.declared.body.Body.{Body}
@@ -18,11 +17,11 @@ use Rattle.match_file.specs.declared.opening.Opening.{Opening}
 use Rattle.match_file.specs.declared.player.Player.{Player}
 use Rattle.match_file.specs.declared.script_line.ScriptLine.{ScriptLine}
 use Rattle.match_file.specs.declared.script_line.ScriptLine.TheVariants.{Tick, Turn, Arrive, Step, World, Run, Restagger}
-use Rattle.match_file.specs.Sections.{PlanRight, WallRight, PickupRight, PlayerRight, CommandRight, ScriptRight, IsRead, IsOpening, IsBody, home_line, closing_lines, body_lines, front_lines}
-use Rattle.match_file.specs.Text.{head_line, plan_line, wall_line, pickup_line, script_line, script_lines}
+use Rattle.match_file.specs.Sections.{PlanRight, WallRight, PickupRight, PlayerRight, CommandRight, ScriptRight, IsRead, IsOpening, home_line, closing_lines, body_lines, front_lines}
+use Rattle.match_file.specs.Text.{plan_line, wall_line, pickup_line, script_line}
 use Rattle.match_file.proofs.ExactKinds.{IsSmall, short_name, length_exact, grid_exact, mirrors_exact, delays_exact, pace_exact, plan_exact, wall_exact, pickup_exact, player_exact, command_exact, tick_exact, turn_exact, arrive_exact, step_exact, world_exact, run_exact, restagger_exact}
 use Rattle.match_file.proofs.OpeningLaws.{opening_small, head_short}
-use Rattle.match_file.proofs.CountLaws.{Counts, counts_of}
+use Rattle.match_file.proofs.CountLaws.{counts_of}
 
 abbrev Short : ℕ → List (List ℕ) → Type 0
 Short k lines = AllByRecursion (λ l. length l ≤ k) lines

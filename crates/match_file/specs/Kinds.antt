@@ -1,5 +1,5 @@
 -- The kinds of line of a match text, each with its words, its place, its count and its further checks in their order.
-use Rattle.std.specs.Prelude.{◌≡◌, ℕ, ◌-◌, ◌^◌, Bool, true, false, ◌&&◌, ◌||◌, not, nat_lt, nat_le, ◌==◌, List, [], ◌∷◌, ◌++◌, length, Option, Some, None, bytes_eq, codes, slice_get, count_by}
+use Rattle.std.specs.Prelude.{ℕ, ◌-◌, ◌^◌, Bool, true, false, ◌&&◌, ◌||◌, not, nat_lt, nat_le, ◌==◌, List, [], ◌∷◌, ◌++◌, length, Option, Some, None, bytes_eq, codes, slice_get, count_by}
 use Rattle.std.specs.List.{list_any}
 use Rattle.game_trait.specs.declared.command.Act.{Act}
 use Rattle.game_trait.specs.declared.command.Command.{Command}
@@ -10,7 +10,6 @@ use Rattle.arena_rules.specs.declared.face.Face.TheVariants.{N, E, S, W}
 use Rattle.arena_rules.specs.declared.pickup.Kind as pickup_kinds
 use Rattle.arena_rules.specs.declared.pickup.Kind.TheVariants.{Ammo, Heal, Gold}
 use Rattle.arena_rules.specs.declared.pickup.PickupSpot.{PickupSpot}
-use Rattle.arena_rules.specs.declared.spot.Spot.{Spot}
 use Rattle.sync_model.specs.Schedule.{longest_delay}
 use Rattle.command_lines.specs.declared.ranges.CommandRanges.{CommandRanges}
 use Rattle.command_lines.specs.CommandLine.{last_player, command_form}

@@ -1,5 +1,5 @@
 -- Reading a match text: its lines one after another, every check of each line, and the first fault.
-use Rattle.std.specs.Prelude.{◌≡◌, ◌⊎◌, ◌<◌, ◌≤◌, ℕ, ◌+◌, Bool, true, false, ◌&&◌, ◌||◌, not, nat_lt, List, [], ◌∷◌, ◌++◌, length, map, Result, Ok, Err, if◌then◌else◌, bytes_eq, codes}
+use Rattle.std.specs.Prelude.{◌≡◌, ◌⊎◌, ◌<◌, ◌≤◌, ℕ, ◌+◌, Bool, false, ◌&&◌, ◌||◌, not, nat_lt, List, [], ◌∷◌, length, map, Result, Ok, Err, if◌then◌else◌, bytes_eq, codes}
 use Rattle.game_trait.specs.declared.limits.TheConstants.{LONGEST_MATCH_TEXT}
 use Rattle.arena_rules.specs.Ground.{Grid, open_grid, with_wall}
 use Rattle.tss_io.specs.declared.cause.Cause.{Cause}

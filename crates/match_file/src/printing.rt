@@ -1,6 +1,6 @@
 //! Printing match texts.
 
-ghost use Rattle.std.specs.Prelude.{◌≡◌, ◌≤◌, ◌<◌, ◌++◌, ◌∷◌, [], length, map, codes, decimal, OnOk, IfOk};
+ghost use Rattle.std.specs.Prelude.{◌≡◌, ◌≤◌, ◌<◌, ◌++◌, ◌∷◌, [], length, map, codes, decimal, slice_get, unwrap_or, OnOk, IfOk};
 ghost use Rattle.arena_rules.specs.Ground.{IsGrid};
 ghost use Rattle.command_lines.specs.CommandLine.{command_line};
 ghost use Rattle.tss_io.specs.Lines.{as_line, spaced, lines_text};
@@ -150,16 +150,11 @@ fn push_wall(out: &mut Vec<u8>, ground: &Ground, x: u8, y: u8) -> Result<(), NoM
     if ground.free(i32::from(x), i32::from(y)) {
         return Ok(());
     }
-    push_line(
-        out,
-        &[
-            Word::Text(b"wall"),
-            Word::Number(i64::from(x)),
-            Word::Number(i64::from(y)),
-        ],
-    )
+    push_two(out, b"wall", x, y)?;
+    Ok(())
 }
 
+#[tactic(auto, using(crate::proofs::PrintLaws::row_none))]
 fn push_row(out: &mut Vec<u8>, ground: &Ground, y: u8) -> Result<(), NoMemory>
     requires { y < ground.now.height }
     ensures { OnOk result (out.new.items ≡ out.old.items ++ lines_text (map wall_line (walls_in_row ground.now y ground.now.width))) }
@@ -170,6 +165,7 @@ fn push_row(out: &mut Vec<u8>, ground: &Ground, y: u8) -> Result<(), NoMemory>
     Ok(())
 }
 
+#[tactic(auto, using(crate::proofs::PrintLaws::walls_none))]
 fn push_walls(out: &mut Vec<u8>, ground: &Ground) -> Result<(), NoMemory>
     ensures { OnOk result (out.new.items ≡ out.old.items ++ lines_text (map wall_line (walls_of ground.now ground.now.width ground.now.height))) }
 {
@@ -179,6 +175,7 @@ fn push_walls(out: &mut Vec<u8>, ground: &Ground) -> Result<(), NoMemory>
     Ok(())
 }
 
+#[tactic(auto, using(tss_io::proofs::Printing::lines_none))]
 fn push_plans(alloc: Global, out: &mut Vec<u8>, plans: &[Seq<Tick>]) -> Result<(), NoMemory>
     ensures { OnOk result (out.new.items ≡ out.old.items ++ lines_text (map plan_line plans.now)) }
 {
@@ -188,6 +185,7 @@ fn push_plans(alloc: Global, out: &mut Vec<u8>, plans: &[Seq<Tick>]) -> Result<(
     Ok(())
 }
 
+#[tactic(auto, using(tss_io::proofs::Printing::lines_none))]
 fn push_pickups(out: &mut Vec<u8>, pickups: &[PickupSpot]) -> Result<(), NoMemory>
     ensures { OnOk result (out.new.items ≡ out.old.items ++ lines_text (map pickup_line pickups.now)) }
 {
@@ -197,18 +195,26 @@ fn push_pickups(out: &mut Vec<u8>, pickups: &[PickupSpot]) -> Result<(), NoMemor
     Ok(())
 }
 
+// The name of this player, who is there.
+fn name_of(roster: &Roster, player: u8) -> &[u8]
+    ensures { result.now ≡ unwrap_or (slice_get roster.now player) [] }
+{
+    roster.name(player).unwrap_or(b"".as_slice())
+}
+
+#[tactic(auto, using(crate::proofs::PrintLaws::players_none))]
 fn push_players(out: &mut Vec<u8>, roster: &Roster, homes: &[Spot]) -> Result<(), NoMemory>
     requires few { length homes.now ≤ 32 }
     requires named { length roster.now ≡ length homes.now }
     ensures { OnOk result (out.new.items ≡ out.old.items ++ lines_text (player_lines roster.now homes.now)) }
 {
     for (player, home) in homes.iter().enumerate() {
-        let name = roster.name(player as u8).unwrap_or(b"".as_slice());
-        push_player(out, name, home)?;
+        push_player(out, name_of(roster, player as u8), home)?;
     }
     Ok(())
 }
 
+#[tactic(auto, using(tss_io::proofs::Printing::lines_none))]
 fn push_commands(out: &mut Vec<u8>, commands: &[Command]) -> Result<(), NoMemory>
     ensures { OnOk result (out.new.items ≡ out.old.items ++ lines_text (map command_line commands.now)) }
 {
@@ -218,6 +224,7 @@ fn push_commands(out: &mut Vec<u8>, commands: &[Command]) -> Result<(), NoMemory
     Ok(())
 }
 
+#[tactic(auto, using(tss_io::proofs::Printing::lines_none))]
 fn push_script_lines(out: &mut Vec<u8>, script: &[ScriptLine]) -> Result<(), NoMemory>
     ensures { OnOk result (out.new.items ≡ out.old.items ++ lines_text (map script_line script.now)) }
 {
@@ -239,17 +246,23 @@ fn push_script(out: &mut Vec<u8>, script: &[ScriptLine]) -> Result<(), NoMemory>
     Ok(())
 }
 
+fn push_grid(out: &mut Vec<u8>, ground: &Ground) -> Result<(), NoMemory>
+    ensures { OnOk result (out.new.items ≡ out.old.items ++ as_line (grid_line ground.now.width ground.now.height)) }
+{
+    let words = [
+        Word::Text(b"grid"),
+        Word::Number(i64::from(ground.width())),
+        Word::Number(i64::from(ground.height())),
+    ];
+    push_line(out, &words)
+}
+
 fn push_opening(alloc: Global, out: &mut Vec<u8>, m: &Match) -> Result<(), NoMemory>
     ensures { OnOk result (out.new.items ≡ out.old.items ++ lines_text (opening_lines m.now)) }
 {
     push_head(out, m.version)?;
     push_number(out, b"length", m.length)?;
-    let grid = [
-        Word::Text(b"grid"),
-        Word::Number(i64::from(m.setup.ground.width())),
-        Word::Number(i64::from(m.setup.ground.height())),
-    ];
-    push_line(out, &grid)?;
+    push_grid(out, &m.setup.ground)?;
     push_number(out, b"mirrors", u32::from(m.mirrors))?;
     push_numbers(alloc, out, b"delays", m.delays.as_slice())?;
     push_number(out, b"pace", m.pace)?;

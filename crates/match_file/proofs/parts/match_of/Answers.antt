@@ -1,6 +1,4 @@
-use Rattle.std.proofs.Common.{arith}
 use Rattle.match_file.proofs.ReadIsMatch.{is_match_of, walls_within}
-use Rattle.match_file.proofs.OpeningLaws.{opening_small}
 use Rattle.match_file.proofs.CountLaws.{counts_of}
 use Rattle.match_file.proofs.parts.match_of.Goals as goal
 
