@@ -1,7 +1,9 @@
 -- The text of a match, both ways.
-use Rattle.std.proofs.Common.{◌≡◌, inl, inr, ℕ, ◌+◌, ◌≤◌, Bool, true, false, cond, ltb, List, [], ◌∷◌, ◌++◌, length, map, Result, Ok, Err, refl, sym, ap, subst, ◌∙◌, append_assoc, append-nil}
+use Rattle.std.proofs.Common.{◌≡◌, inl, inr, ℕ, ◌+◌, ◌≤◌, Bool, true, false, cond, ltb, List, [], ◌∷◌, ◌++◌, length, map, Result, Ok, Err, refl, sym, ap, subst, ◌∙◌, append_assoc, append-nil, take, drop, ◌-◌, length-append, arith}
 use Rattle.std.specs.Prelude.{IfOk, IfErr, codes}
 use Rattle.std.specs.List.{AllByRecursion}
+use Rattle.std.proofs.Math.Seq.{drop-append_seam}
+use Rattle.std.proofs.lemmas.List.{take-append-drop}
 use Rattle.std.proofs.lemmas.Bool.{le-ltb, ltb-true, ltb-false}
 use Rattle.game_trait.specs.declared.limits.TheConstants.{LONGEST_MATCH_TEXT}
 use Rattle.arena_rules.specs.Ground.{open_grid}
@@ -11,10 +13,12 @@ use Rattle.tss_io.specs.declared.cause.Cause.TheVariants.{End, Long}
 use Rattle.tss_io.specs.declared.fault.Refused.{Refused}
 use Rattle.tss_io.specs.declared.fault.TextFault.{TextFault}
 use Rattle.tss_io.specs.declared.fault.TextFault.TheVariants as text_faults
+use Rattle.tss_io.specs.declared.fault.LineFault.{LineFault}
+use Rattle.tss_io.specs.declared.fault.LineFault.TheVariants as line_faults
 use Rattle.tss_io.specs.Lines.{Lines, torn, line, lines_of, text_of, lines_text, as_line}
-use Rattle.tss_io.specs.Reading.{Gives, refused_at}
+use Rattle.tss_io.specs.Reading.{Gives, refused_at, Fails, FailsAt, fault_at}
 use Rattle.tss_io.specs.Results.{◌>>=◌}
-use Rattle.tss_io.specs.Runs.{Stop, is_end, ended, ahead}
+use Rattle.tss_io.specs.Runs.{Stop, is_end, ended, ahead, FirstFault}
 use Rattle.tss_io.proofs.Results.{then, guard_then, unless_then}
 use Rattle.tss_io.proofs.LineLaws.{text_of-lines_of}
 use Rattle.tss_io.proofs.Spaced.{Lacks, lines_of-line}
@@ -29,14 +33,14 @@ use Rattle.match_file.specs.declared.player.Player.{Player}
 use Rattle.match_file.specs.declared.script_line.ScriptLine.{ScriptLine}
 use Rattle.match_file.specs.Data.{MatchData, IsMatch}
 use Rattle.match_file.specs.Kinds.{is_ended}
-use Rattle.match_file.specs.Reading.{walled, match_at, match_of, as_match, read_match, read_text, IsFirst}
+use Rattle.match_file.specs.Reading.{walled, match_at, match_of, as_match, read_match, read_text, IsFirst, head_due, take_line, checks_of, at_last, IsFirstAt}
 use Rattle.match_file.specs.Sections.{IsRead, home_line, body_lines, front_lines, closing_lines}
 use Rattle.match_file.specs.declared.cell.Cell.{Cell}
 use Rattle.match_file.specs.Text.{head_line, number_line, grid_line, delays_line, player_lines, script_lines, plan_line, wall_line, pickup_line, walls_of, match_lines, match_text}
 use Rattle.match_file.proofs.ReadLaws.{match_takes, match_again, all_lack}
 use Rattle.match_file.proofs.ReadIsMatch.{is_match_of, walls_within, walls_rising}
 use Rattle.match_file.proofs.MatchIsRead.{opening_of, body_of, is_read, match_is}
-use Rattle.match_file.proofs.FaultLaws.{text_first, first_of_stop}
+use Rattle.match_file.proofs.FaultLaws.{text_first, first_of_stop, match_first}
 use Rattle.match_file.proofs.TextLength.{read_length}
 use Rattle.match_file.proofs.WallLaws.{walled_width, walled_height, walls_again}
 
@@ -194,3 +198,56 @@ refused_first text (Err (text_faults.Refused refused)) h =
     either (ltb LONGEST_MATCH_TEXT (length text)) _ _ _
     (λ long e. inl (ltb-true _ _ long, same_refusal _ _ e))
     (λ short e. inr (ltb-false _ _ short, first_of_stop 1 (lines_of text) refused (text_first 1 (lines_of text) refused (parts_first (match_at 1 (lines_of text)) refused (ended_first _ refused e))))) h
+
+-- ---- a match inside a longer text
+
+-- what stands behind the lines of a match
+behind_lines : (lines : List (List ℕ)) (rest : List ℕ) → text_of (ahead lines (lines_of rest)) ≡ lines_text lines ++ rest
+unfolding text_of ahead lines_text
+behind_lines [] rest = text_of-lines_of rest
+behind_lines (l ∷ lines) rest = ap (λ (t : List ℕ). as_line l ++ t) (behind_lines lines rest) ∙ sym (append_assoc (as_line l) (lines_text lines) rest)
+
+abbrev placed : MatchData → ℕ → Lines → MatchData × Stop (Unit {0})
+placed m next rest = (m, record { state = tt; next = next; rest = rest })
+
+pub front_found : (n next : ℕ) (text rest : List ℕ) (m : MatchData) → read_match n (lines_of text) ≡ Ok (placed m next (lines_of rest)) → IsMatch m × (text ≡ match_text m ++ rest)
+front_found n next text rest m e =
+    let f = match_found n (lines_of text) (placed m next (lines_of rest)) e in
+    (f.sound, sym (text_of-lines_of text) ∙ ap text_of f.whole ∙ behind_lines (match_lines m) rest)
+
+pub front_reads : (n : ℕ) (text rest : List ℕ) (m : MatchData) → IsMatch m → text ≡ match_text m ++ rest → read_match n (lines_of text) ≡ Ok (placed m (n + 6 + length (body_lines (body_of m))) (lines_of rest))
+front_reads n text rest m is e = rw (e, match_front m rest is) (match_reads n m (lines_of rest) is)
+
+-- what is left of a walk that goes on to its last bytes
+pub left_behind : (text : List ℕ) (start : ℕ) (front rest : List ℕ) → drop start text ≡ front ++ rest → drop (length text - length rest) text ≡ rest
+left_behind text start front rest e =
+    let whole : text ≡ (take start text ++ front) ++ rest = sym (take-append-drop start text) ∙ ap (λ (t : List ℕ). take start text ++ t) e ∙ sym (append_assoc (take start text) front rest) in
+    let long : length text ≡ length (take start text ++ front) + length rest = ap length whole ∙ length-append (take start text ++ front) rest in
+    let place : length text - length rest ≡ length (take start text ++ front) = omega (arith, long) in
+    rw place (subst (λ (t : List ℕ). drop (length (take start text ++ front)) t ≡ rest) (sym whole) (drop-append_seam (take start text ++ front) rest))
+
+matched_fails : (r : Result (Opening × Stop Body) Refused) (refused : Refused) → (r >>= λ (x : Opening × Stop Body). matched x) ≡ Err refused → r ≡ Err refused
+matched_fails (Ok x) refused e = absurd cc
+matched_fails (Err c) refused e = cc
+
+pub front_refused : (n : ℕ) (lines : Lines) (refused : Refused) → read_match n lines ≡ Err refused → FirstFault take_line checks_of at_last n head_due lines refused
+unfolding read_match
+front_refused n lines refused e = first_of_stop n lines refused (match_first n lines refused (matched_fails (match_at n lines) refused e))
+
+-- the two readings of one text agree
+pub same_reading : (r : Result (MatchData × Stop (Unit {0})) Refused) (x y : MatchData × Stop (Unit {0})) → r ≡ Ok x → r ≡ Ok y → x.0 ≡ y.0
+same_reading r x y e f = cc
+
+pub no_reading : (r : Result (MatchData × Stop (Unit {0})) Refused) (x : MatchData × Stop (Unit {0})) (refused : Refused) → r ≡ Ok x → r ≡ Err refused → ⊥
+no_reading r x refused e f = absurd cc
+
+pub at_only : (first n : ℕ) (text : List ℕ) (fault : LineFault) → FailsAt n fault (read_match first (lines_of text)) → (m : MatchData) (rest : List ℕ) → IsMatch m → text ≡ match_text m ++ rest → Fails {Y = MatchData} (fault_at n fault) (Ok m)
+at_only first n text line_faults.NoMemory h m rest is e = tt
+at_only first n text (line_faults.Refused cause) h m rest is e = absurd (no_reading _ _ (refused_at n cause) (front_reads first text rest m is e) h)
+
+pub at_refused : (first n : ℕ) (text : List ℕ) (fault : LineFault) → FailsAt n fault (read_match first (lines_of text)) → IsFirstAt first text (fault_at n fault)
+at_refused first n text line_faults.NoMemory h = tt
+at_refused first n text (line_faults.Refused cause) h = front_refused first (lines_of text) (refused_at n cause) h
+
+pub ok_only : (first next : ℕ) (text behind : List ℕ) (x : MatchData) → read_match first (lines_of text) ≡ Ok (placed x next (lines_of behind)) → (m : MatchData) (rest : List ℕ) → IsMatch m → text ≡ match_text m ++ rest → ◌≡◌ {A = Result MatchData Refused} (Ok m) (Ok x)
+ok_only first next text behind x h m rest is e = ap Ok (same_reading _ _ _ (front_reads first text rest m is e) h)

@@ -1,11 +1,12 @@
 //! Reading match texts.
 
-ghost use Rattle.std.specs.Prelude.{◌≡◌, ◌≤◌, ◌<◌, ◌+◌, ◌++◌, ◌^◌, ℕ, List, length, IfOk, IfErr, Ok};
+ghost use Rattle.std.specs.Prelude.{◌≡◌, ◌≤◌, ◌<◌, ◌+◌, ◌++◌, ◌^◌, ℕ, List, length, IfOk, IfErr, OnErr, Ok};
 ghost use Rattle.tss_io.specs.Lines.{lines_of};
 ghost use Rattle.tss_io.specs.Reading.{Gives, GivesLine, Placed};
 ghost use Rattle.tss_io.specs.Runs.{is_end, stopped, ended};
+ghost use Rattle.tss_io.specs.Walks.{left_of};
 ghost use Rattle.match_file.specs.Data.{MatchData, IsMatch};
-ghost use Rattle.match_file.specs.Reading.{match_at, read_text, read_match, IsFirst};
+ghost use Rattle.match_file.specs.Reading.{match_at, read_text, read_match, IsFirst, IsFirstAt};
 ghost use Rattle.match_file.specs.Text.{match_text};
 
 use crate::body::{Body, read_body};
@@ -14,7 +15,7 @@ use crate::opening::{Opening, read_opening};
 use crate::parts::match_of;
 use game_trait::limits::LONGEST_MATCH_TEXT;
 use std::alloc::Global;
-use tss_io::{Cause, LineFault, TextFault};
+use tss_io::{Cause, LineFault, Lines, TextFault};
 
 // What the lines of a match text say, from this place on, and the text behind them. The number of the line that is read is kept in
 // `line`, which has the first one's.
@@ -98,4 +99,29 @@ pub fn read_match(alloc: Global, text: &[u8]) -> Result<Match, TextFault>
     ensures refused { IfErr result (IsFirst text.now) }
 {
     read_exactly(alloc, text)
+}
+
+/// Reads a match whose text stands inside a longer one, from where `lines` stands, and leaves `lines` behind its `end` line. Lines
+/// are counted from `first`, which is at most 4,000,000,000. Bytes behind the match are no fault of it. On `Refused` and on
+/// `NoMemory` `lines` stands where it stood.
+pub fn read_match_at(alloc: Global, lines: &mut Lines, first: u32) -> Result<Match, TextFault>
+    requires { first ≤ 4000000000 }
+    // What is read is a match, and its text is what was walked over.
+    ensures found { IfOk result (λ m. IsMatch m × (left_of lines.old ≡ match_text m ++ left_of lines.new)) }
+    // A match's text is read as that match, whatever stands behind it, unless memory runs out.
+    ensures only { (m : MatchData) (rest : List ℕ) → IsMatch m → left_of lines.old ≡ match_text m ++ rest → Gives (λ v. v) result (Ok m) }
+    // A refusal names the first faulty line and its first failing check.
+    ensures refused { IfErr result (IsFirstAt first (left_of lines.old)) }
+    ensures text { lines.new.text ≡ lines.old.text }
+    ensures err { OnErr result (lines.new ≡ lines.old) }
+{
+    let rest = lines.rest();
+    let mut line = first;
+    match read_front(alloc, &mut line, rest) {
+        Ok((read, rest)) => {
+            lines.leave(rest.len());
+            Ok(read)
+        }
+        Err(fault) => Err(fault.at(line)),
+    }
 }
