@@ -44,20 +44,20 @@ acts_short Right = lit≤ tt
 acts_short Shoot = lit≤ tt
 acts_short Dash = lit≤ tt
 
-pub command_form_exact : (version : ℕ) (ranges : CommandRanges) → ranges.last_time < 10 ^ 10 → ranges.last_mirror < 10 ^ 10 → ranges.last_player < 10 ^ 10 → ExactForm (command_form version ranges) (CommandFits version ranges) (λ _. 50)
+pub command_form_exact : (version : ℕ) (ranges : CommandRanges) → ranges.last_time < 10000 → ranges.last_mirror < 10 → ranges.last_player < 100 → ExactForm (command_form version ranges) (CommandFits version ranges) (λ _. 23)
 command_form_exact version ranges time from player =
     made_exact _ _ (λ _. refl) (λ _. refl)
-    (then_exact (number_exact 0 ranges.last_time time) (then_exact (number_exact 0 ranges.last_mirror from) (then_exact (number_exact 0 999999 (lit< tt)) (then_exact (number_exact 0 ranges.last_player player)
+    (then_exact (number_exact 0 ranges.last_time 4 (lit< tt) time (omega arith)) (then_exact (number_exact 0 ranges.last_mirror 1 (lit< tt) from (omega arith)) (then_exact (number_exact 0 999999 6 (lit< tt) (lit< tt) (lit< tt)) (then_exact (number_exact 0 ranges.last_player 2 (lit< tt) player (omega arith))
     (only_exact (choice_exact act_word (acts_of version) 5 (acts_fit version) (acts_told version) acts_short))))))
 
-last_small : (version : ℕ) → last_player version < 10000000000
-last_small version = elim (eqb version 1) as (λ t. cond t 15 31 < 10000000000) [ true ↦ lit< tt | false ↦ lit< tt ]
+pub last_small : (version : ℕ) → last_player version < 100
+last_small version = elim (eqb version 1) as (λ t. cond t 15 31 < 100) [ true ↦ lit< tt | false ↦ lit< tt ]
 
 pub line_exact : (version : ℕ) → ExactKind (line_kind version) (λ _. CommandFits version (widest version))
 unfolding is_word
 line_exact version = record {
   keyword = refl;
-  longest = λ _. 50;
+  longest = λ _. 23;
   form = λ _. command_form_exact version (widest version) (lit< tt) (lit< tt) (last_small version);
   short = λ _ _ _. lit≤ tt;
 }

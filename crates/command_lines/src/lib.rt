@@ -7,6 +7,6 @@ mod read;
 mod words;
 
 pub use print::{print_command, push_command};
-pub use ranges::CommandRanges;
+pub use ranges::{CommandRanges, last_player};
 pub use read::{CommandFault, read_command};
 pub use words::CommandWords;

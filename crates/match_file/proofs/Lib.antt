@@ -1,14 +1,14 @@
-mod Lines
-mod Steps
-mod CommandLaws
-mod Spaced
-mod LineLaws
-mod NameLaws
-mod CommandTexts
-mod ScriptLaws
-mod ScriptLines
-mod ScriptTexts
-mod ScriptData
-mod FaultLaws
-mod MatchLaws
+pub mod BodyLaws
+pub mod CountLaws
+pub mod ExactKinds
+pub mod FaultLaws
+pub mod LiftLaws
+pub mod MatchIsRead
+pub mod OpeningLaws
+pub mod PrintLaws
+pub mod ReadIsMatch
+pub mod ReadLaws
+pub mod RosterLaws
+pub mod TextLaws
 pub mod TextLength
+pub mod WallLaws

@@ -1,89 +1,107 @@
--- How long the text of a match of the plain form is.
-use Rattle.std.proofs.Common.{◌≡◌, ℕ, ◌+◌, ◌*◌, ◌^◌, ◌<◌, ◌≤◌, List, [], ◌∷◌, ◌++◌, length, map, refl, sym, subst, arith, lit≤, length-append}
-use Rattle.std.specs.Prelude.{decimal}
+-- Every match's text is within the limit.
+use Rattle.std.proofs.Common.{◌≡◌, ℕ, zero, suc, ◌+◌, ◌*◌, ◌≤◌, List, [], ◌∷◌, ◌++◌, length, map, ap, ◌∙◌, length-append, suc-mul, arith}
+use Rattle.std.specs.Prelude.{codes}
 use Rattle.std.specs.List.{AllByRecursion}
-use Rattle.game_trait.specs.declared.command.Command.{Command}
+use Rattle.std.proofs.lemmas.Bool.{ltb-false}
+use Rattle.std.proofs.lemmas.List.{length-map}
+use Rattle.game_trait.specs.declared.limits.TheConstants.{LONGEST_MATCH_TEXT}
+use Rattle.command_lines.specs.CommandLine.{command_line}
+use Rattle.tss_io.specs.Lines.{as_line, lines_text}
+use Rattle.tss_io.proofs.KindLaws.{line_length, line_short}
+use Rattle.tss_io.proofs.Printing.{lines_text-append}
+use Rattle.tss_io.proofs.RunLaws.{each_all}
+use Rattle.match_file.specs.declared.body.Body.{Body}
+use Rattle.match_file.specs.declared.body.Stage.{Stage}
+use Rattle.match_file.specs.declared.body.Stage.TheVariants.{Open, InScript, Ended}
 use Rattle.match_file.specs.declared.opening.Opening.{Opening}
-use Rattle.match_file.specs.Reading.{PlayerData}
+use Rattle.match_file.specs.declared.player.Player.{Player}
 use Rattle.match_file.specs.declared.script_line.ScriptLine.{ScriptLine}
-use Rattle.tss_io.specs.Lines.{Lines, line, text_of, spaced}
-use Rattle.match_file.specs.Data.{MatchData, IsPlain}
-use Rattle.match_file.specs.Text.{head_words, length_word, grid_word, mirrors_word, delays_word, pace_word, script_word, end_word, command_line, script_line, before, match_text}
-use Rattle.match_file.proofs.LineLaws.{IsKeyword, length_keyword, grid_keyword, mirrors_keyword, delays_keyword, pace_keyword, head_short, spaced_short, short_number, IsPlainCommand, command_short, player_short}
-use Rattle.match_file.proofs.CommandTexts.{command_lines}
-use Rattle.match_file.proofs.ScriptLines.{IsPlainLine, script_line_short}
-use Rattle.match_file.proofs.ScriptTexts.{AreScript, last_line, closing_lines}
-use Rattle.match_file.proofs.MatchLaws.{IsPlainParts, parts_of, plain_lines, match_lines-plain}
+use Rattle.match_file.specs.declared.script_line.ScriptLine.TheVariants.{Tick, Turn, Arrive, Step, World, Run, Restagger}
+use Rattle.match_file.specs.Sections.{PlanRight, WallRight, PickupRight, PlayerRight, CommandRight, ScriptRight, IsRead, IsOpening, home_line, closing_lines, body_lines, front_lines}
+use Rattle.match_file.specs.Text.{plan_line, wall_line, pickup_line, script_line}
+use Rattle.match_file.proofs.ExactKinds.{IsSmall, short_name, length_exact, grid_exact, mirrors_exact, delays_exact, pace_exact, plan_exact, wall_exact, pickup_exact, player_exact, command_exact, tick_exact, turn_exact, arrive_exact, step_exact, world_exact, run_exact, restagger_exact}
+use Rattle.match_file.proofs.OpeningLaws.{opening_small, head_short}
+use Rattle.match_file.proofs.CountLaws.{counts_of}
 
--- lines in front of others, each with at most so many bytes
-length-before : (most : ℕ) (more : List (List (List ℕ))) (rest : Lines) → AllByRecursion (λ words. length (spaced words) ≤ most) more → length (text_of (before more rest)) ≤ length more * (most + 1) + length (text_of rest)
-unfolding text_of before
-length-before most [] rest h = omega arith
-length-before most (words ∷ more) rest h =
-    omega (arith, length-append (spaced words ++ 10 ∷ []) (text_of (before more rest)), length-append (spaced words) (10 ∷ []), h.0, length-before most more rest h.1)
+abbrev Short : ℕ → List (List ℕ) → Type 0
+Short k lines = AllByRecursion (λ l. length l ≤ k) lines
 
-lines_of_commands : (ticks : ℕ) (commands : List Command) → ticks ≤ 8192 → AllByRecursion (IsPlainCommand ticks) commands → AllByRecursion (λ words. length (spaced words) ≤ 120) (map command_line commands)
-lines_of_commands ticks [] few h = tt
-lines_of_commands ticks (x ∷ commands) few h = (command_short ticks x few h.0, lines_of_commands ticks commands few h.1)
+line_more : (k n a b : ℕ) → a ≤ k → b ≤ n * (k + 1) → a + 1 + b ≤ suc n * (k + 1)
+line_more k n a b le more = omega (arith, suc-mul n (k + 1))
 
-lines_of_script : (commands : List Command) (script : List ScriptLine) → AllByRecursion (IsPlainLine commands) script → AllByRecursion (λ words. length (spaced words) ≤ 20) (map script_line script)
-lines_of_script commands [] h = tt
-lines_of_script commands (s ∷ script) h = (script_line_short commands s h.0, lines_of_script commands script h.1)
+lines_length : (k : ℕ) (lines : List (List ℕ)) → Short k lines → length (lines_text lines) ≤ length lines * (k + 1)
+unfolding lines_text
+lines_length k [] h = omega arith
+lines_length k (l ∷ lines) h =
+    let rest = line_more k (length lines) (length l) (length (lines_text lines)) h.0 (lines_length k lines h.1) in
+    omega (arith, rest, length-append (as_line l) (lines_text lines), length-append l (10 ∷ []))
 
-many_commands : (commands : List Command) → length (map command_line commands) ≡ length commands
-many_commands [] = refl
-many_commands (x ∷ commands) = rw (many_commands commands) refl
+mul_le : (a b c : ℕ) → a ≤ b → a * c ≤ b * c
+mul_le zero b c le = omega arith
+mul_le (suc a) zero c le = absurd (omega arith)
+mul_le (suc a) (suc b) c le = let h = mul_le a b c (omega (arith, le)) in omega (arith, suc-mul a c, suc-mul b c)
 
-many_lines : (script : List ScriptLine) → length (map script_line script) ≡ length script
-many_lines [] = refl
-many_lines (s ∷ script) = rw (many_lines script) refl
+-- a section of so many lines, each so short
+section_length : {A : Type 0} (f : A → List ℕ) (xs : List A) (k most : ℕ) → Short k (map f xs) → length xs ≤ most → length (lines_text (map f xs)) ≤ most * (k + 1)
+section_length f xs k most h few =
+    let all = lines_length k (map f xs) h in
+    let same : length (map f xs) ≡ length xs = length-map xs f in
+    let grow = mul_le (length xs) most (k + 1) few in
+    omega (arith, all, ap (λ (n : ℕ). n * (k + 1)) same, grow)
 
-last_length : length (text_of last_line) ≤ 4
-unfolding text_of end_word
-last_length = lit≤ tt
+script_short : (o : Opening) → IsSmall o → (plans commands before : _) (x : ScriptLine) → ScriptRight o plans commands before x → length (script_line x) ≤ 17
+unfolding tick_exact turn_exact arrive_exact step_exact world_exact run_exact restagger_exact
+script_short o small plans commands before (Tick m) r = let h : length (script_line (Tick m)) ≤ 6 = line_length (tick_exact o small) _ m r in omega arith
+script_short o small plans commands before (Turn m) r = let h : length (script_line (Turn m)) ≤ 6 = line_length (turn_exact o small) _ m r in omega arith
+script_short o small plans commands before (Arrive m f n) r = line_length (arrive_exact o small) _ (m, (f, n)) r
+script_short o small plans commands before (Step m c) r = let h : length (script_line (Step m c)) ≤ 8 = line_length (step_exact o small) _ (m, c) r in omega arith
+script_short o small plans commands before (World m c) r = let h : length (script_line (World m c)) ≤ 9 = line_length (world_exact o small) _ (m, c) r in omega arith
+script_short o small plans commands before (Run m c) r = let h : length (script_line (Run m c)) ≤ 7 = line_length (run_exact o small) _ (m, c) r in omega arith
+script_short o small plans commands before (Restagger m p) r = let h : length (script_line (Restagger m p)) ≤ 13 = line_length (restagger_exact o small) _ (m, p) r in omega arith
 
-closing_length : (commands : List Command) (script : List ScriptLine) → AreScript commands script → length (text_of (closing_lines script)) ≤ 262144 * 21 + 11
-unfolding before text_of script_word spaced
-closing_length commands [] h = omega (arith, last_length)
-closing_length commands (s ∷ script) h =
-    omega (arith, length-before 20 (map script_line (s ∷ script)) last_line (lines_of_script commands (s ∷ script) h.each), many_lines (s ∷ script), h.count, last_length)
+player_short : (o : Opening) (walls pickups before : _) (p : Player) → PlayerRight o walls pickups before p → length (home_line p) ≤ 60
+unfolding player_exact
+player_short o walls pickups before p r =
+    let twelve = short_name p.name r.tests.0 in
+    let h : length (home_line p) ≤ 6 + (1 + (length p.name + (1 + (10 + (1 + (10 + (1 + 1))))))) = line_length (player_exact o) _ p r in
+    omega arith
 
--- one line in front
-length-line : (l : List ℕ) (rest : Lines) (most more : ℕ) → length l ≤ most → length (text_of rest) ≤ more → length (text_of (line l rest)) ≤ (most + 1) + more
-unfolding text_of
-length-line l rest most more short so = omega (arith, length-append (l ++ 10 ∷ []) (text_of rest), length-append l (10 ∷ []), short, so)
+closing_length : (stage : Stage) (script : List ScriptLine) (n : ℕ) → length (lines_text (map script_line script)) ≤ n → length (lines_text (closing_lines stage script)) ≤ n + 20
+unfolding lines_text
+closing_length Open script n le = omega arith
+closing_length InScript script n le = omega (arith, length-append (as_line (codes "script")) (lines_text (map script_line script)))
+closing_length Ended [] n le = omega arith
+closing_length Ended (x ∷ script) n le =
+    omega (arith, length-append (as_line (codes "script")) (lines_text (map script_line (x ∷ script) ++ codes "end" ∷ [])), ap length (lines_text-append (map script_line (x ∷ script)) (codes "end" ∷ [])), length-append (lines_text (map script_line (x ∷ script))) (lines_text (codes "end" ∷ [])))
 
-number_line_length : (keyword : List ℕ) (n : ℕ) → IsKeyword keyword → n < 2 ^ 32 → length (spaced (keyword ∷ decimal n ∷ [])) ≤ 120
-number_line_length keyword n k small = omega (arith, spaced_short (keyword ∷ decimal n ∷ []), k.short, short_number n small)
+head_length : (o : Opening) → IsOpening o → length (lines_text (front_lines o)) ≤ 726
+head_length o is =
+    lines_length 120 (front_lines o)
+    (ltb-false _ _ (head_short o.version is.version), (ltb-false _ _ (line_short length_exact tt o.length is.length), (ltb-false _ _ (line_short grid_exact tt (o.width, o.height) is.grid), (ltb-false _ _ (line_short mirrors_exact tt o.mirrors is.mirrors), (ltb-false _ _ (line_short delays_exact tt o.delays is.delays), (ltb-false _ _ (line_short (pace_exact o.delays) tt o.pace is.pace), tt))))))
 
-grid_length : (w h : ℕ) → w ≤ 64 → h ≤ 64 → length (spaced (grid_word ∷ decimal w ∷ decimal h ∷ [])) ≤ 120
-grid_length w h narrow low = omega (arith, spaced_short (grid_word ∷ decimal w ∷ decimal h ∷ []), grid_keyword.short, short_number w (omega arith), short_number h (omega arith))
-
-plain_length : (o : Opening) (p : PlayerData) (commands : List Command) (script : List ScriptLine) → IsPlainParts o p commands script → length (text_of (plain_lines o p commands script)) ≤ 8388608
-plain_length o p commands script h =
-    let ticks = h.opening.ticks in
-    let width = h.opening.width in
-    let height = h.opening.height in
-    let mirrors = h.opening.mirrors in
-    let delay = h.opening.delay in
-    let pace = h.opening.pace in
-    let c : length (text_of (command_lines commands (closing_lines script))) ≤ 16384 * 121 + (262144 * 21 + 11) =
-    omega (arith, length-before 120 (map command_line commands) (closing_lines script) (lines_of_commands o.length commands ticks.1 h.commands.each), many_commands commands, h.commands.count, closing_length commands script h.script)
-    in
-    let whole =
-    length-line (spaced head_words) _ 120 _ head_short
-    (length-line _ _ 120 _ (number_line_length length_word o.length length_keyword (omega (arith, ticks.1)))
-    (length-line _ _ 120 _ (grid_length o.sides.width o.sides.height width.1 height.1)
-    (length-line _ _ 120 _ (number_line_length mirrors_word o.mirrors mirrors_keyword (omega (arith, mirrors.1)))
-    (length-line _ _ 120 _ (number_line_length delays_word o.delay delays_keyword (omega (arith, delay)))
-    (length-line _ _ 120 _ (number_line_length pace_word o.pace pace_keyword (omega (arith, pace, delay)))
-    (length-line _ _ 120 _ (player_short o.sides p h.player width.1 height.1) c))))))
-    in
-    omega (arith, whole)
-
--- The text of a match of the plain form has at most 8,388,608 bytes.
-pub length-match_text : (m : MatchData) → IsPlain m → length (match_text m) ≤ 8388608
-length-match_text m h =
-    let parts = parts_of m h in
-    subst (λ (q : MatchData). length (match_text q) ≤ 8388608) (sym parts.whole)
-    (subst (λ (lines : Lines). length (text_of lines) ≤ 8388608) (sym (match_lines-plain parts.o parts.p m.commands m.script)) (plain_length parts.o parts.p m.commands m.script parts.fit))
+pub read_length : (o : Opening) (b : Body) → IsRead o b → length (lines_text (front_lines o ++ body_lines b)) ≤ LONGEST_MATCH_TEXT
+unfolding wall_exact pickup_exact command_exact
+read_length o b read =
+    let is = read.opening in
+    let h = read.body in
+    let small = opening_small o is in
+    let c = counts_of o b is h in
+    let front = head_length o is in
+    let plans = section_length plan_line b.plans 120 7 (each_all (PlanRight o) plan_line (λ l. length l ≤ 120) (λ before a r. ltb-false _ _ (line_short (plan_exact o small) _ a r)) [] b.plans h.plans) c.plans in
+    let walls = section_length wall_line b.walls 26 4096 (each_all (WallRight o) wall_line (λ l. length l ≤ 26) (λ before a r. line_length (wall_exact o) _ a r) [] b.walls h.walls) c.walls in
+    let pickups = section_length pickup_line b.pickups 33 32 (each_all (PickupRight o b.walls) pickup_line (λ l. length l ≤ 33) (λ before a r. line_length (pickup_exact o) _ a r) [] b.pickups h.pickups) c.pickups in
+    let players = section_length home_line b.players 60 32 (each_all (PlayerRight o b.walls b.pickups) home_line (λ l. length l ≤ 60) (player_short o b.walls b.pickups) [] b.players h.players) c.players in
+    let commands = section_length command_line b.commands 26 32768 (each_all (CommandRight o b.players) command_line (λ l. length l ≤ 26) (λ before a r. line_length (command_exact o small) _ a r) [] b.commands h.commands) c.commands in
+    let script = section_length script_line b.script 17 262144 (each_all (ScriptRight o b.plans b.commands) script_line (λ l. length l ≤ 17) (script_short o small b.plans b.commands) [] b.script h.script) c.script in
+    let closing = closing_length b.stage b.script 4718592 script in
+    let s5 = map command_line b.commands ++ closing_lines b.stage b.script in
+    let s4 = map home_line b.players ++ s5 in
+    let s3 = map pickup_line b.pickups ++ s4 in
+    let s2 = map wall_line b.walls ++ s3 in
+    let e0 = ap length (lines_text-append (front_lines o) (map plan_line b.plans ++ s2)) ∙ length-append (lines_text (front_lines o)) _ in
+    let e1 = ap length (lines_text-append (map plan_line b.plans) s2) ∙ length-append (lines_text (map plan_line b.plans)) _ in
+    let e2 = ap length (lines_text-append (map wall_line b.walls) s3) ∙ length-append (lines_text (map wall_line b.walls)) _ in
+    let e3 = ap length (lines_text-append (map pickup_line b.pickups) s4) ∙ length-append (lines_text (map pickup_line b.pickups)) _ in
+    let e4 = ap length (lines_text-append (map home_line b.players) s5) ∙ length-append (lines_text (map home_line b.players)) _ in
+    let e5 = ap length (lines_text-append (map command_line b.commands) (closing_lines b.stage b.script)) ∙ length-append (lines_text (map command_line b.commands)) _ in
+    omega arith

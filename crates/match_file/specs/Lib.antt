@@ -1,5 +1,6 @@
-pub mod Causes
 pub mod Names
 pub mod Data
 pub mod Text
+pub mod Kinds
 pub mod Reading
+pub mod Sections

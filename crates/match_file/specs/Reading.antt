@@ -1,330 +1,205 @@
--- Reading a match text from its first line to its end, with the first fault that is met. Now each fault is that the text isn't
--- of the plain form.
-use Rattle.std.specs.Prelude.{◌≡◌, ℕ, ◌-◌, ◌^◌, Bool, true, false, ◌&&◌, ◌||◌, not, nat_lt, List, [], ◌∷◌, ◌++◌, length, replicate, Option, Some, None, Result, Ok, Err, if◌then◌else◌, bytes_eq}
-use Rattle.game_trait.specs.declared.command.Act.{Act}
-use Rattle.game_trait.specs.declared.command.Act.TheVariants.{Go, Left, Right}
-use Rattle.game_trait.specs.declared.command.Command.{Command}
-use Rattle.arena_rules.specs.declared.face.Face.{Face}
-use Rattle.arena_rules.specs.declared.face.Face.TheVariants.{N, E, S, W}
-use Rattle.arena_rules.specs.declared.spot.Spot.{Spot}
-use Rattle.tss_io.specs.Decimals.{number_of}
+-- Reading a match text: its lines one after another, every check of each line, and the first fault.
+use Rattle.std.specs.Prelude.{◌≡◌, ◌⊎◌, ◌<◌, ◌≤◌, ℕ, ◌+◌, Bool, false, ◌&&◌, ◌||◌, not, nat_lt, List, [], ◌∷◌, length, map, Result, Ok, Err, if◌then◌else◌, bytes_eq, codes}
+use Rattle.game_trait.specs.declared.limits.TheConstants.{LONGEST_MATCH_TEXT}
+use Rattle.arena_rules.specs.Ground.{Grid, open_grid, with_wall}
+use Rattle.tss_io.specs.declared.cause.Cause.{Cause}
+use Rattle.tss_io.specs.declared.cause.Cause.TheVariants.{Head, Shape, Long}
+use Rattle.tss_io.specs.declared.fault.Refused.{Refused}
+use Rattle.tss_io.specs.declared.fault.TextFault.{TextFault}
+use Rattle.tss_io.specs.declared.fault.TextFault.TheVariants as text_faults
+use Rattle.tss_io.specs.Lines.{Lines, lines_of, words_of}
 use Rattle.tss_io.specs.Results.{◌>>=◌}
-use Rattle.match_file.specs.declared.cause.Cause.TheVariants.{Shape}
-use Rattle.match_file.specs.declared.fault.Refused.{Refused}
-use Rattle.match_file.specs.declared.fault.TextFault.{TextFault}
-use Rattle.match_file.specs.declared.fault.TextFault.TheVariants as faults
+use Rattle.tss_io.specs.Reading.{refused_at}
+use Rattle.tss_io.specs.Forms.{front_at}
+use Rattle.tss_io.specs.Kinds.{step, all_tests, line_at, once, is_right, keyword_step, keyword_checks}
+use Rattle.tss_io.specs.Runs.{at, Stop, run_to, ended, FirstFault}
+use Rattle.match_file.specs.declared.body.Body.{Body}
+use Rattle.match_file.specs.declared.body.Stage.TheVariants.{Open, InScript, Ended}
+use Rattle.match_file.specs.declared.cell.Cell.{Cell}
 use Rattle.match_file.specs.declared.opening.Opening.{Opening}
-use Rattle.match_file.specs.declared.opening.Sides.{Sides}
-use Rattle.match_file.specs.declared.player.Player.{Player}
-use Rattle.match_file.specs.declared.script_line.ScriptLine.{ScriptLine}
-use Rattle.match_file.specs.declared.script_line.ScriptLine.TheVariants.{Tick, Turn, Arrive, Step}
-use Rattle.tss_io.specs.Lines.{Lines, torn, line, lines_of, words_of, spaced}
-use Rattle.match_file.specs.Names.{is_name, has_command}
 use Rattle.match_file.specs.Data.{MatchData}
-use Rattle.match_file.specs.Text.{length_word, grid_word, mirrors_word, delays_word, pace_word, player_word, command_word, script_word, end_word, tick_word, turn_word, arrive_word, step_word, head_words, face_word, act_word}
+use Rattle.match_file.specs.Kinds.{is_open, is_script, is_ended, is_none, length_kind, grid_kind, mirrors_kind, delays_kind, pace_kind, plan_kind, wall_kind, pickup_kind, player_kind, command_kind, tick_kind, turn_kind, arrive_kind, step_kind, world_kind, run_kind, restagger_kind}
 
--- the text isn't of the plain form
-abbrev pub shape : Refused
-shape = record { line = 0; cause = Shape }
+-- ---- a line of the body
 
--- what a function returned, seen by view, is what reading gives
-abbrev pub Answers : {X Y : Type 0} → (X → Y) → Result X Refused → Result Y Refused → Type 0
-Answers view (Ok x) read = read ≡ Ok (view x)
-Answers view (Err e) read = read ≡ Err e
+-- the line of the kind that its first word names
+unfoldable pub by_word : Opening → Body → List ℕ → List (List ℕ) → Result Body Cause
+by_word o b word words =
+    if bytes_eq word (codes "arrive") then step (arrive_kind o) b words
+    else (if bytes_eq word (codes "turn") then step (turn_kind o) b words
+    else (if bytes_eq word (codes "tick") then step (tick_kind o) b words
+    else (if bytes_eq word (codes "step") then step (step_kind o) b words
+    else (if bytes_eq word (codes "world") then step (world_kind o) b words
+    else (if bytes_eq word (codes "run") then step (run_kind o) b words
+    else (if bytes_eq word (codes "restagger") then step (restagger_kind o) b words
+    else (if bytes_eq word (codes "cmd") then step (command_kind o) b words
+    else (if bytes_eq word (codes "wall") then step (wall_kind o) b words
+    else (if bytes_eq word (codes "pickup") then step (pickup_kind o) b words
+    else (if bytes_eq word (codes "player") then step (player_kind o) b words
+    else (if bytes_eq word (codes "plan") then step (plan_kind o) b words
+    else Err Shape)))))))))))
 
--- what a function found, seen by view, is what reading gives, which is refused where there was nothing to find
-abbrev pub Finds : {X Y : Type 0} → (X → Y) → Option X → Result Y Refused → Type 0
-Finds view (Some x) read = read ≡ Ok (view x)
-Finds view None read = read ≡ Err shape
+-- a script may begin: a player is there
+abbrev pub may_open : Body → Bool
+may_open b = is_open b.stage && not (is_none b.players)
 
--- memory ran out, or reading gives this fault
-abbrev pub Fails : {Y : Type 0} → TextFault → Result Y Refused → Type 0
-Fails faults.NoMemory read = Unit {0}
-Fails (faults.Refused e) read = read ≡ Err e
+-- the text may end: a player is there and no script was begun, or the script has a line
+abbrev pub may_end : Body → Bool
+may_end b = may_open b || (is_script b.stage && not (is_none b.script))
 
--- what a function returned, seen by view, is what reading gives, unless memory ran out
-abbrev pub Gives : {X Y : Type 0} → (X → Y) → Result X TextFault → Result Y Refused → Type 0
-Gives view (Ok x) read = read ≡ Ok (view x)
-Gives view (Err e) read = Fails e read
+-- a line of the body
+unfoldable pub take : Opening → Body → List ℕ → Result Body Cause
+take o b l =
+    if bytes_eq l (codes "script") then (if may_open b then Ok (record b { stage = InScript }) else Err Shape)
+    else (if bytes_eq l (codes "end") then (if may_end b then Ok (record b { stage = Ended }) else Err Shape)
+    else (front_at (words_of l) >>= λ front. by_word o b front.0 front.1))
 
--- memory ran out, or the text isn't of the plain form
-abbrev pub IsShape : TextFault → Type 0
-IsShape faults.NoMemory = Unit {0}
-IsShape (faults.Refused e) = e ≡ shape
+abbrev pub is_last : Body → Bool
+is_last b = is_ended b.stage
 
--- the next line, and the lines after it
-unfoldable pub line_at : Lines → Result (List ℕ × Lines) Refused
-line_at (torn bytes) = Err shape
-line_at (line l rest) = if nat_lt 120 (length l) then Err shape else Ok (l, rest)
+-- every check of a line whose first word is this, in their order
+abbrev pub word_checks : Opening → Body → List ℕ → List (List ℕ) → List (Bool × Cause)
+word_checks o b word words =
+    if bytes_eq word (codes "arrive") then all_tests (arrive_kind o) b words
+    else (if bytes_eq word (codes "turn") then all_tests (turn_kind o) b words
+    else (if bytes_eq word (codes "tick") then all_tests (tick_kind o) b words
+    else (if bytes_eq word (codes "step") then all_tests (step_kind o) b words
+    else (if bytes_eq word (codes "world") then all_tests (world_kind o) b words
+    else (if bytes_eq word (codes "run") then all_tests (run_kind o) b words
+    else (if bytes_eq word (codes "restagger") then all_tests (restagger_kind o) b words
+    else (if bytes_eq word (codes "cmd") then all_tests (command_kind o) b words
+    else (if bytes_eq word (codes "wall") then all_tests (wall_kind o) b words
+    else (if bytes_eq word (codes "pickup") then all_tests (pickup_kind o) b words
+    else (if bytes_eq word (codes "player") then all_tests (player_kind o) b words
+    else (if bytes_eq word (codes "plan") then all_tests (plan_kind o) b words
+    else (false, Shape) ∷ [])))))))))))
 
--- the first word where others follow, and these
-unfoldable pub front_at : List (List ℕ) → Result (List ℕ × List (List ℕ)) Refused
-front_at [] = Err shape
-front_at (word ∷ []) = Err shape
-front_at (word ∷ next ∷ more) = Ok (word, next ∷ more)
+abbrev pub behind_checks : Opening → Body → Result (List ℕ × List (List ℕ)) Cause → List (Bool × Cause)
+behind_checks o b (Ok front) = word_checks o b front.0 front.1
+behind_checks o b (Err cause) = (false, Shape) ∷ []
 
--- the word where it is the last
-unfoldable pub last_at : List (List ℕ) → Result (List ℕ) Refused
-last_at [] = Err shape
-last_at (word ∷ []) = Ok word
-last_at (word ∷ next ∷ more) = Err shape
+-- every check of a line of the body, in their order
+abbrev pub body_checks : Opening → Body → List ℕ → List (Bool × Cause)
+body_checks o b l =
+    if bytes_eq l (codes "script") then (may_open b, Shape) ∷ []
+    else (if bytes_eq l (codes "end") then (may_end b, Shape) ∷ []
+    else behind_checks o b (front_at (words_of l)))
 
--- the words behind this first word
-unfoldable pub behind : List ℕ → List ℕ → Result (List (List ℕ)) Refused
-behind keyword l = do
-  front ← front_at (words_of l)
-  if bytes_eq front.0 keyword then Ok front.1 else Err shape
+-- ---- the lines up to the pace
 
--- a number that is there and at least this
-abbrev pub at_least : ℕ → Option ℕ → Result ℕ Refused
-at_least least None = Err shape
-at_least least (Some n) = if nat_lt n least then Err shape else Ok n
+-- the version that the first line names
+abbrev pub head_version : List ℕ → Result ℕ Cause
+head_version l = if bytes_eq l (codes "tss match 1") then Ok 1 else (if bytes_eq l (codes "tss match 2") then Ok 2 else Err Head)
 
--- the number that a word writes, in its range
-unfoldable pub number_in : ℕ → ℕ → List ℕ → Result ℕ Refused
-number_in least most word = at_least least (number_of word most)
+unfoldable pub head_at : Lines → Result (ℕ × Lines) Cause
+head_at lines = line_at lines >>= λ l. head_version l.0 >>= λ version. Ok (version, l.1)
 
--- the number that the first word writes, where other words follow, and these
-unfoldable pub front_number_in : ℕ → ℕ → List (List ℕ) → Result (ℕ × List (List ℕ)) Refused
-front_number_in least most words = do
-  front ← front_at words
-  n ← number_in least most front.0
-  Ok (n, front.1)
+-- the lines up to the pace, of which the first has this number
+unfoldable pub opening_at : ℕ → Lines → Result (Opening × Lines) Refused
+opening_at n lines = do
+  head ← at n (head_at lines)
+  length ← at (n + 1) (once length_kind tt head.1)
+  grid ← at (n + 2) (once grid_kind tt length.1)
+  mirrors ← at (n + 3) (once mirrors_kind tt grid.1)
+  delays ← at (n + 4) (once delays_kind tt mirrors.1)
+  pace ← at (n + 5) (once (pace_kind delays.0) tt delays.1)
+  Ok (record { version = head.0; length = length.0; width = grid.0.0; height = grid.0.1; mirrors = mirrors.0; delays = delays.0; pace = pace.0 }, pace.1)
 
--- the number that the word writes, where it is the last
-unfoldable pub last_number_in : ℕ → ℕ → List (List ℕ) → Result ℕ Refused
-last_number_in least most words = last_at words >>= number_in least most
+-- ---- the whole text
 
--- the words behind this first word of the next line, and the lines after it
-unfoldable pub keyword_line_at : List ℕ → Lines → Result (List (List ℕ) × Lines) Refused
-keyword_line_at keyword lines = do
-  l ← line_at lines
-  words ← behind keyword l.0
-  Ok (words, l.1)
+abbrev pub no_body : Body
+no_body = record { stage = Open; plans = []; walls = []; pickups = []; players = []; commands = []; script = [] }
 
--- the first line
-unfoldable pub head_at : Lines → Result Lines Refused
-head_at lines = do
-  l ← line_at lines
-  if bytes_eq l.0 (spaced head_words) then Ok l.1 else Err shape
+-- the lines of a match text, of which the first has this number, and where they end
+unfoldable pub match_at : ℕ → Lines → Result (Opening × Stop Body) Refused
+match_at n lines = opening_at n lines >>= λ opening. run_to (take opening.0) is_last (n + 6) no_body opening.1 >>= λ stop. Ok (opening.0, stop)
 
--- a line of a first word and one number in its range, and the lines after it
-unfoldable pub number_at : List ℕ → ℕ → ℕ → Lines → Result (ℕ × Lines) Refused
-number_at keyword least most lines = do
-  l ← keyword_line_at keyword lines
-  n ← last_number_in least most l.0
-  Ok (n, l.1)
+-- the grid with these cells walled too
+unfoldable pub walled : Grid → List Cell → Grid
+walled grid [] = grid
+walled grid (cell ∷ walls) = walled (with_wall grid cell.x cell.y) walls
 
--- the sides of the grid
-unfoldable pub grid_at : Lines → Result (Sides × Lines) Refused
-grid_at lines = do
-  l ← keyword_line_at grid_word lines
-  width ← front_number_in 3 64 l.0
-  height ← last_number_in 1 64 width.1
-  Ok (record { width = width.0; height = height }, l.1)
-
--- what the lines up to the pace say
-unfoldable pub opening_at : Lines → Result (Opening × Lines) Refused
-opening_at lines = do
-  head ← head_at lines
-  length ← number_at length_word 1 8192 head
-  grid ← grid_at length.1
-  mirrors ← number_at mirrors_word 1 1 grid.1
-  delay ← number_at delays_word 0 1024 mirrors.1
-  pace ← number_at pace_word 0 delay.0 delay.1
-  Ok (record { length = length.0; sides = grid.0; mirrors = mirrors.0; delay = delay.0; pace = pace.0 }, pace.1)
-
--- the facing that a word names
-unfoldable pub face_of : List ℕ → Result Face Refused
-face_of word =
-    if bytes_eq word (face_word N) then Ok N
-    else (if bytes_eq word (face_word E) then Ok E
-    else (if bytes_eq word (face_word S) then Ok S
-    else (if bytes_eq word (face_word W) then Ok W
-    else Err shape)))
-
--- a player's name and home
-pub record PlayerData : Type 0 where
-  pub name : List ℕ
-  pub home : Spot
-
--- the same, without where the name lies in memory
-abbrev pub player_seen : Player → PlayerData
-player_seen player = record { name = player.name.now; home = player.home }
-
--- a player's line, whose cell is in the grid, and the lines after it
-unfoldable pub player_at : Sides → Lines → Result (PlayerData × Lines) Refused
-player_at sides lines = do
-  l ← keyword_line_at player_word lines
-  name ← front_at l.0
-  x ← front_number_in 0 (2 ^ 32 - 1) name.1
-  y ← front_number_in 0 (2 ^ 32 - 1) x.1
-  word ← last_at y.1
-  face ← face_of word
-  if is_name name.0 && (nat_lt x.0 sides.width && nat_lt y.0 sides.height)
-      then Ok (record { name = name.0; home = record { x = x.0; y = y.0; face = face } }, l.1)
-      else Err shape
-
--- the act that a word names; no shot is in the plain form
-unfoldable pub act_of : List ℕ → Result Act Refused
-act_of word =
-    if bytes_eq word (act_word Go) then Ok Go
-    else (if bytes_eq word (act_word Left) then Ok Left
-    else (if bytes_eq word (act_word Right) then Ok Right
-    else Err shape))
-
--- a command's line in a match of this length
-unfoldable pub command_at : ℕ → List ℕ → Result Command Refused
-command_at length l = do
-  words ← behind command_word l
-  time ← front_number_in 0 (length - 1) words
-  from ← front_number_in 0 0 time.1
-  number ← front_number_in 0 999999 from.1
-  player ← front_number_in 0 0 number.1
-  word ← last_at player.1
-  act ← act_of word
-  Ok (record { time = time.0; from = from.0; number = number.0; player = player.0; act = act })
-
--- the commands with one more, where there is room and none has its mirror and number
-unfoldable pub added : List Command → Command → Result (List Command) Refused
-added commands x =
-    if nat_lt (length commands) 16384 && not (has_command x.from x.number commands)
-    then Ok (commands ++ x ∷ [])
-    else Err shape
-
--- the line closes the commands: the end, or the opening of the script
-abbrev pub is_closing : List ℕ → Bool
-is_closing l = bytes_eq l end_word || bytes_eq l script_word
-
--- a line behind the commands so far: with its command there are these and the lines after it, or it closes them
-abbrev pub line_step : ℕ → List Command → List ℕ × Lines → Result (List Command × Option Lines) Refused
-line_step ticks so_far l =
-    if is_closing l.0 then Ok (so_far, None)
-    else (command_at ticks l.0 >>= λ x. added so_far x >>= λ more. Ok (more, Some l.1))
-
--- the same for the next line
-unfoldable pub commands_step : ℕ → List Command → Lines → Result (List Command × Option Lines) Refused
-commands_step ticks so_far lines = line_at lines >>= line_step ticks so_far
-
--- the commands so far and those of the lines up to the one that closes them, and the lines from that one on
-unfoldable pub commands_at : ℕ → List Command → Lines → Result (List Command × Lines) Refused
-commands_at ticks so_far (torn bytes) = Err shape
-commands_at ticks so_far (line l rest) =
-    if nat_lt 120 (length l) then Err shape
-    else (if is_closing l then Ok (so_far, line l rest)
-    else (command_at ticks l >>= λ x. added so_far x >>= λ more. commands_at ticks more rest))
-
--- a mirror's tick, by the words behind the first
-unfoldable pub tick_at : List (List ℕ) → Result ScriptLine Refused
-tick_at words = do
-  mirror ← last_number_in 0 0 words
-  Ok (Tick mirror)
-
--- a mirror's turn, in the same way
-unfoldable pub turn_at : List (List ℕ) → Result ScriptLine Refused
-turn_at words = do
-  mirror ← last_number_in 0 0 words
-  Ok (Turn mirror)
-
--- the arrival of one of the commands
-unfoldable pub arrive_at : List Command → List (List ℕ) → Result ScriptLine Refused
-arrive_at commands words = do
-  mirror ← front_number_in 0 0 words
-  from ← front_number_in 0 0 mirror.1
-  number ← last_number_in 0 999999 from.1
-  if has_command from.0 number commands then Ok (Arrive mirror.0 from.0 number) else Err shape
-
--- a copy's step
-unfoldable pub step_at : List (List ℕ) → Result ScriptLine Refused
-step_at words = do
-  mirror ← front_number_in 0 0 words
-  copy ← last_number_in 0 0 mirror.1
-  Ok (Step mirror.0 copy)
-
--- a script's line of the kind that the first word names; no world and no run is in the plain form
-unfoldable pub kind_at : List Command → List ℕ → List (List ℕ) → Result ScriptLine Refused
-kind_at commands word words =
-    if bytes_eq word tick_word then tick_at words
-    else (if bytes_eq word turn_word then turn_at words
-    else (if bytes_eq word arrive_word then arrive_at commands words
-    else (if bytes_eq word step_word then step_at words
-    else Err shape)))
-
--- a line of the script in a match of these commands
-unfoldable pub script_line_at : List Command → List ℕ → Result ScriptLine Refused
-script_line_at commands l = front_at (words_of l) >>= λ words. kind_at commands words.0 words.1
-
--- the script with one more line, where there is room
-unfoldable pub lengthened : List ScriptLine → ScriptLine → Result (List ScriptLine) Refused
-lengthened script s = if nat_lt (length script) 262144 then Ok (script ++ s ∷ []) else Err shape
-
--- no byte is left
-abbrev pub is_end : Lines → Bool
-is_end (torn []) = true
-is_end (torn (b ∷ bytes)) = false
-is_end (line l rest) = false
-
--- a line behind the script so far: with it there are these and the lines after it, or it is the last line
-abbrev pub script_line_step : List Command → List ScriptLine → List ℕ × Lines → Result (List ScriptLine × Option Lines) Refused
-script_line_step commands so_far l =
-    if bytes_eq l.0 end_word then (if is_end l.1 && nat_lt 0 (length so_far) then Ok (so_far, None) else Err shape)
-    else (script_line_at commands l.0 >>= λ s. lengthened so_far s >>= λ more. Ok (more, Some l.1))
-
--- the same for the next line
-unfoldable pub script_step : List Command → List ScriptLine → Lines → Result (List ScriptLine × Option Lines) Refused
-script_step commands so_far lines = line_at lines >>= script_line_step commands so_far
-
--- the script so far and the lines up to the last; a script has at least one line
-unfoldable pub script_at : List Command → List ScriptLine → Lines → Result (List ScriptLine) Refused
-script_at commands so_far (torn bytes) = Err shape
-script_at commands so_far (line l rest) =
-    if nat_lt 120 (length l) then Err shape
-    else (if bytes_eq l end_word then (if is_end rest && nat_lt 0 (length so_far) then Ok so_far else Err shape)
-    else (script_line_at commands l >>= λ s. lengthened so_far s >>= λ more. script_at commands more rest))
-
--- a line behind the commands: the end of the text, or the opening of the script
-abbrev pub closing_step : List Command → List ℕ × Lines → Result (List ScriptLine) Refused
-closing_step commands l =
-    if bytes_eq l.0 end_word then (if is_end l.1 then Ok [] else Err shape)
-    else (if bytes_eq l.0 script_word then script_at commands [] l.1 else Err shape)
-
--- the script, where there is one, up to the end of the text
-unfoldable pub closing_at : List Command → Lines → Result (List ScriptLine) Refused
-closing_at commands lines = line_at lines >>= closing_step commands
-
--- the commands and the script, up to the end of the text
-unfoldable pub events_at : ℕ → Lines → Result (List Command × List ScriptLine) Refused
-events_at ticks lines = do
-  commands ← commands_at ticks [] lines
-  script ← closing_at commands.0 commands.1
-  Ok (commands.0, script)
-
--- the match of these parts
-abbrev pub plain_match : Opening → PlayerData → List Command → List ScriptLine → MatchData
-plain_match opening player commands script = record {
-  length = opening.length;
-  mirrors = opening.mirrors;
-  delays = opening.delay ∷ [];
-  pace = opening.pace;
-  layout = record {
-    grid = record { width = opening.sides.width; height = opening.sides.height; walls = replicate 64 0 };
-    pickups = [];
-    players = player.home ∷ [];
-  };
-  names = player.name ∷ [];
-  commands = commands;
-  script = script;
+-- the match that these lines say
+abbrev pub match_of : Opening → Body → MatchData
+match_of o b = record {
+  version = o.version;
+  length = o.length;
+  mirrors = o.mirrors;
+  delays = o.delays;
+  plans = b.plans;
+  pace = o.pace;
+  layout = record { grid = walled (open_grid o.width o.height) b.walls; pickups = b.pickups; players = map (λ p. p.home) b.players };
+  names = map (λ p. p.name) b.players;
+  commands = b.commands;
+  script = b.script;
 }
 
--- the match of lines
-unfoldable pub match_at : Lines → Result MatchData Refused
-match_at lines = do
-  opening ← opening_at lines
-  player ← player_at opening.0.sides opening.1
-  commands ← commands_at opening.0.length [] player.1
-  script ← closing_at commands.0 commands.1
-  Ok (plain_match opening.0 player.0 commands.0 script)
+-- what was read, as a match
+abbrev pub as_match : Opening × Stop Body → MatchData × Stop (Unit {0})
+as_match x = (match_of x.0 x.1.state, record { state = tt; next = x.1.next; rest = x.1.rest })
 
--- the match that a text says
+-- the match of the lines from this number on, the number of the line behind it, and the lines from that one on
+unfoldable pub read_match : ℕ → Lines → Result (MatchData × Stop (Unit {0})) Refused
+read_match n lines = match_at n lines >>= λ x. Ok (as_match x)
+
+-- what a text says
 unfoldable pub read_text : List ℕ → Result MatchData Refused
-read_text text = match_at (lines_of text)
+read_text text =
+    if nat_lt LONGEST_MATCH_TEXT (length text) then Err (refused_at 0 Long)
+    else (read_match 1 (lines_of text) >>= λ x. ended x.1 >>= λ _. Ok x.0)
+
+-- ---- every check of every line
+
+-- which line is due, and what was read before it
+pub data At : Type 0 where
+  head_due : At
+  length_due : ℕ → At
+  grid_due : ℕ → ℕ → At
+  mirrors_due : ℕ → ℕ → ℕ × ℕ → At
+  delays_due : ℕ → ℕ → ℕ × ℕ → ℕ → At
+  pace_due : ℕ → ℕ → ℕ × ℕ → ℕ → List ℕ → At
+  in_body : Opening → Body → At
+
+-- the line, taken
+abbrev pub take_line : At → List ℕ → Result At Cause
+take_line head_due l = head_version l >>= λ version. Ok (length_due version)
+take_line (length_due version) l = keyword_step length_kind tt l >>= λ n. Ok (grid_due version n)
+take_line (grid_due version length) l = keyword_step grid_kind tt l >>= λ sides. Ok (mirrors_due version length sides)
+take_line (mirrors_due version length sides) l = keyword_step mirrors_kind tt l >>= λ n. Ok (delays_due version length sides n)
+take_line (delays_due version length sides mirrors) l = keyword_step delays_kind tt l >>= λ delays. Ok (pace_due version length sides mirrors delays)
+take_line (pace_due version length sides mirrors delays) l =
+    keyword_step (pace_kind delays) tt l >>= λ n. Ok (in_body (record { version = version; length = length; width = sides.0; height = sides.1; mirrors = mirrors; delays = delays; pace = n }) no_body)
+take_line (in_body o b) l = take o b l >>= λ c. Ok (in_body o c)
+
+-- Every check of the line, in their order.
+abbrev pub checks_of : At → List ℕ → List (Bool × Cause)
+checks_of head_due l = (is_right (head_version l), Head) ∷ []
+checks_of (length_due version) l = keyword_checks length_kind tt l
+checks_of (grid_due version length) l = keyword_checks grid_kind tt l
+checks_of (mirrors_due version length sides) l = keyword_checks mirrors_kind tt l
+checks_of (delays_due version length sides mirrors) l = keyword_checks delays_kind tt l
+checks_of (pace_due version length sides mirrors delays) l = keyword_checks (pace_kind delays) tt l
+checks_of (in_body o b) l = body_checks o b l
+
+-- no line comes behind the one that was taken last
+abbrev pub at_last : At → Bool
+at_last head_due = false
+at_last (length_due version) = false
+at_last (grid_due version length) = false
+at_last (mirrors_due version length sides) = false
+at_last (delays_due version length sides mirrors) = false
+at_last (pace_due version length sides mirrors delays) = false
+at_last (in_body o b) = is_last b
+
+-- The refusal names the first faulty line of a match text that begins here with the line of this number, and that line's first
+-- failing check.
+abbrev pub IsFirstAt : ℕ → List ℕ → TextFault → Type 0
+IsFirstAt n text text_faults.NoMemory = Unit {0}
+IsFirstAt n text (text_faults.Refused refused) = FirstFault take_line checks_of at_last n head_due (lines_of text) refused
+
+-- The refusal is of the whole text for its length, or names the first faulty line and that line's first failing check.
+abbrev pub IsFirst : List ℕ → TextFault → Type 0
+IsFirst text text_faults.NoMemory = Unit {0}
+IsFirst text (text_faults.Refused refused) =
+    ((LONGEST_MATCH_TEXT < length text) × (refused ≡ refused_at 0 Long))
+    ⊎ ((length text ≤ LONGEST_MATCH_TEXT) × FirstFault take_line checks_of at_last 1 head_due (lines_of text) refused)

@@ -1,19 +1,24 @@
-//! Match texts, read into matches that can't be wrong.
+//! Match texts, read into matches that can't be wrong, and printed from them.
 #![tactic(auto)]
 
-mod cause;
+mod body;
+mod cell;
 mod commands;
-mod fault;
 mod game_match;
 mod opening;
+mod parts;
+mod place;
 mod player;
+mod printing;
 mod reading;
 mod script;
 mod script_line;
-mod words;
+mod script_lines;
+mod versions;
 
-pub use cause::Cause;
-pub use fault::{Refused, TextFault};
-pub use game_match::Match;
-pub use reading::read_match;
+pub use game_match::{Match, find_command, lift};
+pub use printing::print_match;
+pub use reading::{read_match, read_match_at};
 pub use script_line::ScriptLine;
+pub use tss_io::{Cause, Refused, TextFault};
+pub use versions::MOST_COMMANDS_IN_2;

@@ -1,101 +1,222 @@
-//! The lines up to the pace: how long the match is, its grid, its mirrors and their delays. No call takes memory.
+//! What the lines up to the pace say.
 
-ghost use Rattle.std.specs.Prelude.{◌≡◌, ◌≤◌, ◌<◌, IfSome};
+ghost use Rattle.std.specs.Prelude.{◌≡◌, ◌≤◌, ◌<◌, ◌+◌, ◌-◌, true, length, IfOk};
+ghost use Rattle.game_trait.specs.declared.limits.TheConstants.{MOST_COPIES};
+ghost use Rattle.sync_model.specs.Schedule.{longest_delay};
 ghost use Rattle.tss_io.specs.Lines.{lines_of};
-ghost use Rattle.match_file.specs.Reading.{Finds, Answers, head_at, number_at, grid_at, opening_at};
+ghost use Rattle.tss_io.specs.Reading.{Answers, GivesLine, Placed};
+ghost use Rattle.tss_io.specs.Kinds.{once};
+ghost use Rattle.match_file.specs.Kinds.{in_grid, ranges_of, number_kind, length_kind, grid_kind, mirrors_kind, delays_kind, pace_kind, rises, rises_from};
+ghost use Rattle.match_file.specs.Reading.{head_version, head_at, opening_at};
 
-use crate::fault::Refused;
-use crate::words::{self, SHAPE};
+use command_lines::{CommandRanges, last_player};
+use game_trait::limits::{
+    LONGEST_DELAY, LONGEST_MATCH, MOST_COPIES, MOST_MIRRORS, NARROWEST_GRID, TALLEST_GRID,
+    WIDEST_GRID,
+};
+use game_trait::{MirrorId, Tick};
+use std::alloc::Global;
+use tss_io::words::{count, each_word, front, keyword_line, last, next_line, number, numbers};
+use tss_io::{Cause, LineFault, Seq};
 
-/// The sides of a grid.
-#[derive(Clone, Copy)]
-pub struct Sides {
+/// What the lines up to the pace say.
+#[derive(Drop)]
+pub struct Opening {
+    /// The text's version, 1 or 2.
+    pub version: u8,
+    /// How many ticks the match has, from 1 to 8,192.
+    pub length: Tick,
     /// The number of columns, from 3 to 64.
     pub width: u8,
     /// The number of rows, from 1 to 64.
     pub height: u8,
-}
-
-/// What the lines up to the pace say.
-#[derive(Clone, Copy)]
-pub struct Opening {
-    /// How many ticks the match has, from 1 to 8,192.
-    pub length: u32,
-    /// The sides of its grid, in cells.
-    pub sides: Sides,
-    /// How many mirrors play it, now 1.
+    /// How many mirrors play it, from 1 to 8.
     pub mirrors: u8,
-    /// How many ticks the one copy lags, at most 1,024.
-    pub delay: u32,
-    /// How many ticks a mirror may be ahead of another, at most the delay.
-    pub pace: u32,
+    /// How many ticks the copies lag, 1 to 8 rising numbers up to 1,024.
+    pub delays: Seq<Tick>,
+    /// How many ticks a mirror may be ahead of another, at most the last delay.
+    pub pace: Tick,
 }
 
-// The text behind the first line, where that is the head of a match text.
-#[tactic(auto, unfolding(crate::specs::Reading::head_at, crate::specs::Text::head_words, tss_io::specs::Lines::spaced))]
-fn read_head(text: &[u8]) -> Option<&[u8]>
-    ensures { Finds (λ x. lines_of x.now) result (head_at (lines_of text.now)) }
-{
-    match words::next_line(text) {
-        Some((line, rest)) if line == b"tss match 1".as_slice() => Some(rest),
-        _ => None,
+impl Opening {
+    /// Whether the cell is in the grid.
+    pub fn in_grid(&self, x: u32, y: u32) -> bool
+        ensures value { result ≡ in_grid self.now x y }
+        ensures bytes { result ≡ true → (x < 256) × (y < 256) }
+    {
+        x < u32::from(self.width) && y < u32::from(self.height)
+    }
+
+    /// The last mirror, where there is one.
+    pub fn last_mirror(&self) -> MirrorId
+        ensures { result ≡ self.now.mirrors - 1 }
+    {
+        self.mirrors.saturating_sub(1)
+    }
+
+    /// The last copy, where there is one; there are at most 8.
+    pub fn last_copy(&self) -> u8
+        requires { length self.now.delays ≤ MOST_COPIES }
+        ensures value { result ≡ length self.now.delays - 1 }
+        ensures few { result < MOST_COPIES }
+    {
+        self.delays.len().saturating_sub(1) as u8
+    }
+
+    /// The numbers that a command's line may have.
+    pub fn ranges(&self) -> CommandRanges
+        ensures { result ≡ ranges_of self.now }
+    {
+        CommandRanges {
+            last_time: self.length.saturating_sub(1),
+            last_mirror: self.last_mirror(),
+            last_player: last_player(self.version),
+        }
     }
 }
 
-// The number of a line that is the keyword and one number, from least to most, and the text behind the line.
-#[tactic(auto, unfolding(crate::specs::Reading::number_at))]
-fn read_number<'a>(keyword: &[u8], least: u32, most: u32, text: &'a [u8]) -> Option<(u32, &'a [u8])>
-    ensures read { Finds (λ x. (x.0, lines_of x.1.now)) result (number_at keyword.now least most (lines_of text.now)) }
-    ensures range { IfSome result (λ x. (least ≤ x.0) × (x.0 ≤ most)) }
+// The version that the first line names.
+fn version_of(line: &[u8]) -> Result<u8, Cause>
+    ensures { Answers (λ x. x) result (head_version line.now) }
 {
-    let (words, rest) = words::keyword_line(keyword, text)?;
-    let number = words::last_number(least, most, words)?;
-    Some((number, rest))
+    if line == b"tss match 1".as_slice() {
+        Ok(1)
+    } else if line == b"tss match 2".as_slice() {
+        Ok(2)
+    } else {
+        Err(Cause::Head)
+    }
 }
 
-// The sides of the grid, and the text behind the line.
-#[tactic(auto, unfolding(crate::specs::Reading::grid_at, crate::specs::Text::grid_word))]
-fn read_grid(text: &[u8]) -> Option<(Sides, &[u8])>
-    ensures { Finds (λ x. (x.0, lines_of x.1.now)) result (grid_at (lines_of text.now)) }
+#[tactic(auto, unfolding(crate::specs::Reading::head_at))]
+fn head_line(text: &[u8]) -> Result<(u8, &[u8]), Cause>
+    ensures read { Answers (λ x. (x.0, lines_of x.1.now)) result (head_at (lines_of text.now)) }
+    ensures shorter { IfOk result (λ x. length x.1.now < length text.now) }
 {
-    let (words, rest) = words::keyword_line(b"grid", text)?;
-    let (width, words) = words::front_number(3, 64, words)?;
-    let height = words::last_number(1, 64, words)?;
-    let sides = Sides {
-        width: width as u8,
-        height: height as u8,
-    };
-    Some((sides, rest))
+    let (line, rest) = next_line(text)?;
+    let version = version_of(line)?;
+    Ok((version, rest))
 }
 
-/// What the lines up to the pace say, and the text behind them.
-#[tactic(auto, unfolding(crate::specs::Reading::opening_at, crate::specs::Text::length_word, crate::specs::Text::mirrors_word, crate::specs::Text::delays_word, crate::specs::Text::pace_word))]
-pub fn read_opening(text: &[u8]) -> Result<(Opening, &[u8]), Refused>
-    ensures { Answers (λ x. (x.0, lines_of x.1.now)) result (opening_at (lines_of text.now)) }
+// The number of a line of one number alone.
+fn number_line<'a>(
+    keyword: &[u8],
+    least: u32,
+    most: u32,
+    text: &'a [u8],
+) -> Result<(u32, &'a [u8]), Cause>
+    ensures read { Answers (λ x. (x.0, lines_of x.1.now)) result (once (number_kind keyword.now least most) tt (lines_of text.now)) }
+    ensures range { IfOk result (λ x. (least ≤ x.0) × (x.0 ≤ most)) }
+    ensures shorter { IfOk result (λ x. length x.1.now < length text.now) }
 {
-    let Some(rest) = read_head(text) else {
-        return Err(SHAPE);
+    let (words, rest) = keyword_line(keyword, text)?;
+    let number = number(least, most, last(words)?)?;
+    Ok((number, rest))
+}
+
+fn grid_line(text: &[u8]) -> Result<((u8, u8), &[u8]), Cause>
+    ensures read { Answers (λ x. (x.0, lines_of x.1.now)) result (once grid_kind tt (lines_of text.now)) }
+    ensures shorter { IfOk result (λ x. length x.1.now < length text.now) }
+{
+    let (words, rest) = keyword_line(b"grid", text)?;
+    let (width, words) = front(words)?;
+    let height = last(words)?;
+    let width = number(NARROWEST_GRID, WIDEST_GRID, width)? as u8;
+    let height = number(1, TALLEST_GRID, height)? as u8;
+    Ok(((width, height), rest))
+}
+
+/// Whether each is below the next.
+pub fn rises(delays: &[Tick]) -> bool
+    ensures { result ≡ rises delays.now }
+{
+    let Some((first, more)) = delays.split_first() else {
+        return true;
     };
-    let Some((length, rest)) = read_number(b"length", 1, 8192, rest) else {
-        return Err(SHAPE);
-    };
-    let Some((sides, rest)) = read_grid(rest) else {
-        return Err(SHAPE);
-    };
-    let Some((mirrors, rest)) = read_number(b"mirrors", 1, 1, rest) else {
-        return Err(SHAPE);
-    };
-    let Some((delay, rest)) = read_number(b"delays", 0, 1024, rest) else {
-        return Err(SHAPE);
-    };
-    let Some((pace, rest)) = read_number(b"pace", 0, delay, rest) else {
-        return Err(SHAPE);
-    };
+    let mut last = *first;
+    for delay in more {
+        if *delay <= last {
+            return false;
+        }
+        last = *delay;
+    }
+    true
+}
+
+fn delays_line(alloc: Global, text: &[u8]) -> Result<(Seq<Tick>, &[u8]), LineFault>
+    ensures read { GivesLine (λ x. (x.0, lines_of x.1.now)) result (once delays_kind tt (lines_of text.now)) }
+    ensures few { IfOk result (λ x. length x.0 ≤ MOST_COPIES) }
+    ensures shorter { IfOk result (λ x. length x.1.now < length text.now) }
+{
+    let (words, rest) = keyword_line(b"delays", text)?;
+    each_word(words)?;
+    if count(words) > MOST_COPIES {
+        return Err(LineFault::Refused(Cause::Many));
+    }
+    let delays = numbers(alloc, 0, LONGEST_DELAY, words)?;
+    if !rises(delays.as_slice()) {
+        return Err(LineFault::Refused(Cause::Order));
+    }
+    Ok((delays, rest))
+}
+
+// The last of the delays.
+#[tactic(auto, unfolding(sync_model::specs::Lists::last_of))]
+fn longest_of(delays: &Seq<Tick>) -> Tick
+    ensures { result ≡ longest_delay delays.now }
+{
+    let mut last = 0;
+    for delay in delays.as_slice() {
+        last = *delay;
+    }
+    last
+}
+
+fn pace_line<'a>(delays: &Seq<Tick>, text: &'a [u8]) -> Result<(Tick, &'a [u8]), Cause>
+    ensures read { Answers (λ x. (x.0, lines_of x.1.now)) result (once (pace_kind delays.now) tt (lines_of text.now)) }
+    ensures shorter { IfOk result (λ x. length x.1.now < length text.now) }
+{
+    let (words, rest) = keyword_line(b"pace", text)?;
+    let pace = number(0, LONGEST_DELAY, last(words)?)?;
+    if pace > longest_of(delays) {
+        return Err(Cause::Number);
+    }
+    Ok((pace, rest))
+}
+
+/// The lines up to the pace, and the text behind them. The number of the line that is read is kept in `line`, which has the first
+/// one's.
+#[tactic(auto, unfolding(crate::specs::Reading::opening_at))]
+pub fn read_opening<'a>(
+    alloc: Global,
+    line: &mut u32,
+    text: &'a [u8],
+) -> Result<(Opening, &'a [u8]), LineFault>
+    requires { line.old ≤ 4000000000 }
+    ensures read { Placed (λ x. (x.0, lines_of x.1.now)) line.new result (opening_at line.old (lines_of text.now)) }
+    ensures number { IfOk result (λ _. line.new ≡ line.old + 5) }
+    ensures copies { IfOk result (λ x. length x.0.delays ≤ MOST_COPIES) }
+    ensures shorter { IfOk result (λ x. length x.1.now ≤ length text.now) }
+{
+    let first = *line;
+    let (version, rest) = head_line(text)?;
+    *line = first + 1;
+    let (length, rest) = number_line(b"length", 1, LONGEST_MATCH, rest)?;
+    *line = first + 2;
+    let ((width, height), rest) = grid_line(rest)?;
+    *line = first + 3;
+    let (mirrors, rest) = number_line(b"mirrors", 1, MOST_MIRRORS as u32, rest)?;
+    *line = first + 4;
+    let (delays, rest) = delays_line(alloc, rest)?;
+    *line = first + 5;
+    let (pace, rest) = pace_line(&delays, rest)?;
     let opening = Opening {
+        version,
         length,
-        sides,
+        width,
+        height,
         mirrors: mirrors as u8,
-        delay,
+        delays,
         pace,
     };
     Ok((opening, rest))

@@ -1,36 +1,40 @@
-//! The line of a player. No call takes memory.
+//! The names and homes of players.
 
-ghost use Rattle.std.specs.Prelude.{◌≡◌};
+ghost use Rattle.std.specs.Prelude.{◌≡◌, [], ◌∷◌};
 ghost use Rattle.std.specs.List.{list_all};
-ghost use Rattle.tss_io.specs.Lines.{lines_of};
+ghost use Rattle.arena_rules.specs.declared.face.Face.TheVariants as faces;
+ghost use Rattle.tss_io.specs.Reading.{Answers};
+ghost use Rattle.tss_io.specs.Forms.{picked};
 ghost use Rattle.match_file.specs.Names.{is_letter, is_name_byte, is_name};
-ghost use Rattle.match_file.specs.Reading.{Finds, Answers, face_of, player_at, player_seen};
+ghost use Rattle.match_file.specs.Kinds.{has_name, has_home};
+ghost use Rattle.match_file.specs.Text.{face_word};
 
-use crate::fault::Refused;
-use crate::opening::Sides;
-use crate::words::{self, SHAPE};
 use arena_rules::{Face, Spot};
+use tss_io::{Cause, Seq};
 
 /// A player's name and home.
-#[derive(Clone, Copy)]
-pub struct Player<'a> {
+#[derive(Drop)]
+pub struct Player {
     /// 1 to 12 letters from a to z and digits, a letter first.
-    pub name: &'a [u8],
+    pub name: Seq<u8>,
     /// The cell in which the player begins, and where it looks.
     pub home: Spot,
 }
 
-// The facing that the word names.
-#[tactic(auto, unfolding(crate::specs::Reading::face_of))]
-fn face(word: &[u8]) -> Option<Face>
-    ensures { Finds (λ x. x) result (face_of word.now) }
+/// The facing that the word names.
+pub fn face_of(word: &[u8]) -> Result<Face, Cause>
+    ensures { Answers (λ x. x) result (picked face_word (faces.N ∷ faces.E ∷ faces.S ∷ faces.W ∷ []) word.now) }
 {
-    match word {
-        b"n" => Some(Face::N),
-        b"e" => Some(Face::E),
-        b"s" => Some(Face::S),
-        b"w" => Some(Face::W),
-        _ => None,
+    if word == b"n".as_slice() {
+        Ok(Face::N)
+    } else if word == b"e".as_slice() {
+        Ok(Face::E)
+    } else if word == b"s".as_slice() {
+        Ok(Face::S)
+    } else if word == b"w".as_slice() {
+        Ok(Face::W)
+    } else {
+        Err(Cause::Shape)
     }
 }
 
@@ -55,9 +59,9 @@ fn are_name_bytes(bytes: &[u8]) -> bool
     bytes.iter().all(|byte| is_name_byte(*byte))
 }
 
-// Whether the word is a name: 1 to 12 letters from a to z and digits, a letter first.
+/// Whether the word is a name: 1 to 12 letters from a to z and digits, a letter first (this project's own rule).
 #[tactic(auto, unfolding(crate::specs::Names::is_name))]
-fn is_name(word: &[u8]) -> bool
+pub fn is_name(word: &[u8]) -> bool
     ensures { result ≡ is_name word.now }
 {
     match word {
@@ -66,36 +70,18 @@ fn is_name(word: &[u8]) -> bool
     }
 }
 
-/// A player's name and home in the grid, and the text behind the line.
-#[tactic(auto, unfolding(crate::specs::Reading::player_at, crate::specs::Text::player_word))]
-pub fn read_player(sides: Sides, text: &[u8]) -> Result<(Player<'_>, &[u8]), Refused>
-    ensures { Answers (λ x. (player_seen x.0, lines_of x.1.now)) result (player_at sides (lines_of text.now)) }
+/// Whether one of the players has this name.
+#[tactic(auto, unfolding(crate::specs::Kinds::has_name))]
+pub fn has_name(name: &[u8], players: &[Player]) -> bool
+    ensures { result ≡ has_name name.now players.now }
 {
-    let Some((words, rest)) = words::keyword_line(b"player", text) else {
-        return Err(SHAPE);
-    };
-    let Some((name, words)) = words::front(words) else {
-        return Err(SHAPE);
-    };
-    let Some((x, words)) = words::front_number(0, u32::MAX, words) else {
-        return Err(SHAPE);
-    };
-    let Some((y, words)) = words::front_number(0, u32::MAX, words) else {
-        return Err(SHAPE);
-    };
-    let Some(word) = words::last(words) else {
-        return Err(SHAPE);
-    };
-    let Some(face) = face(word) else {
-        return Err(SHAPE);
-    };
-    if !is_name(name) || x >= u32::from(sides.width) || y >= u32::from(sides.height) {
-        return Err(SHAPE);
-    }
-    let home = Spot {
-        x: x as u8,
-        y: y as u8,
-        face,
-    };
-    Ok((Player { name, home }, rest))
+    players.iter().any(|p| p.name.as_slice() == name)
+}
+
+/// Whether one of the players' homes is in this cell.
+#[tactic(auto, unfolding(crate::specs::Kinds::has_home))]
+pub fn has_home(x: u8, y: u8, players: &[Player]) -> bool
+    ensures { result ≡ has_home x y players.now }
+{
+    players.iter().any(|p| p.home.x == x && p.home.y == y)
 }

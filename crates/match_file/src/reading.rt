@@ -1,114 +1,127 @@
-ghost use Rattle.std.specs.Prelude.{◌≡◌, ◌≤◌, length, [], ◌∷◌, Ok, IfOk, IfErr};
-ghost use Rattle.arena_rules.specs.Ground.{open_grid};
+//! Reading match texts.
+
+ghost use Rattle.std.specs.Prelude.{◌≡◌, ◌≤◌, ◌<◌, ◌+◌, ◌++◌, ◌^◌, ℕ, List, length, IfOk, IfErr, OnErr, Ok};
 ghost use Rattle.tss_io.specs.Lines.{lines_of};
-ghost use Rattle.match_file.specs.Data.{MatchData, IsMatch, IsPlain};
+ghost use Rattle.tss_io.specs.Reading.{Gives, GivesLine, Placed};
+ghost use Rattle.tss_io.specs.Runs.{is_end, stopped, ended};
+ghost use Rattle.tss_io.specs.Walks.{left_of};
+ghost use Rattle.match_file.specs.Data.{MatchData, IsMatch};
+ghost use Rattle.match_file.specs.Reading.{match_at, read_text, read_match, IsFirst, IsFirstAt};
 ghost use Rattle.match_file.specs.Text.{match_text};
-ghost use Rattle.match_file.specs.Reading.{Gives, IsShape, player_seen, events_at, plain_match, read_text};
 
-use crate::commands::read_commands;
-use crate::fault::TextFault;
+use crate::body::{Body, read_body};
 use crate::game_match::Match;
-use crate::opening::{Opening, Sides, read_opening};
-use crate::player::{Player, read_player};
-use crate::script::read_script;
-use crate::script_line::ScriptLine;
-use arena_rules::{Ground, Roster, Setup, Spot};
-use arrayvec::ArrayVec;
-use game_trait::Command;
+use crate::opening::{Opening, read_opening};
+use crate::parts::match_of;
+use game_trait::limits::LONGEST_MATCH_TEXT;
 use std::alloc::Global;
-use tss_io::{NoMemory, Seq};
+use tss_io::{Cause, LineFault, Lines, TextFault};
 
-// The roster of the one name.
-fn roster_of(alloc: Global, name: &[u8]) -> Result<Roster, NoMemory>
-    ensures { IfOk result (λ roster. roster ≡ name.now ∷ []) }
-{
-    let mut roster = Roster::new(alloc)?;
-    roster.add(name)?;
-    Ok(roster)
-}
-
-// A grid of these sides without walls and pickups, with one player.
-fn setup_of(sides: Sides, home: Spot) -> Setup
-    requires width { (3 ≤ sides.width) × (sides.width ≤ 64) }
-    requires height { (1 ≤ sides.height) × (sides.height ≤ 64) }
-    ensures ground { result.ground ≡ open_grid sides.width sides.height }
-    ensures pickups { result.pickups.items ≡ [] }
-    ensures players { result.players.items ≡ home ∷ [] }
-{
-    let mut players = ArrayVec::new();
-    players.push(home);
-    Setup {
-        ground: Ground::new(sides.width, sides.height),
-        pickups: ArrayVec::new(),
-        players,
-    }
-}
-
-// The match of these parts.
-fn plain_match(
-    opening: Opening,
-    player: Player<'_>,
-    roster: Roster,
-    commands: Seq<Command>,
-    script: Seq<ScriptLine>,
-) -> Match
-    requires named { roster ≡ player.name.now ∷ [] }
-    requires sound { IsMatch (plain_match opening (player_seen player) commands script) }
-    ensures { result ≡ plain_match opening (player_seen player.entry) commands script }
-{
-    let mut delays = ArrayVec::new();
-    delays.push(opening.delay);
-    Match {
-        length: opening.length,
-        mirrors: opening.mirrors,
-        delays,
-        pace: opening.pace,
-        setup: setup_of(opening.sides, player.home),
-        roster,
-        commands,
-        script,
-    }
-}
-
-// The commands and the script, up to the end of the text.
-#[tactic(auto, unfolding(crate::specs::Reading::events_at))]
-fn read_events(
+// What the lines of a match text say, from this place on, and the text behind them. The number of the line that is read is kept in
+// `line`, which has the first one's.
+#[tactic(auto, unfolding(crate::specs::Reading::match_at))]
+fn read_parts<'a>(
     alloc: Global,
-    ticks: u32,
-    text: &[u8],
-) -> Result<(Seq<Command>, Seq<ScriptLine>), TextFault>
-    requires { 1 ≤ ticks }
-    ensures { Gives (λ x. x) result (events_at ticks (lines_of text.now)) }
+    line: &mut u32,
+    text: &'a [u8],
+) -> Result<(Opening, Body, &'a [u8]), LineFault>
+    requires { line.old ≤ 4000000000 }
+    ensures read { Placed (λ x. (x.0, stopped x.1 line.new (lines_of x.2.now))) line.new result (match_at line.old (lines_of text.now)) }
+    ensures shorter { IfOk result (λ x. length x.2.now ≤ length text.now) }
 {
-    let (commands, rest) = read_commands(alloc, ticks, text)?;
-    let script = read_script(alloc, &commands, rest)?;
-    Ok((commands.into_seq(), script))
+    let (opening, rest) = read_opening(alloc, line, text)?;
+    *line += 1;
+    let (body, rest) = read_body(alloc, &opening, line, rest)?;
+    Ok((opening, body, rest))
 }
 
-// The match that the text says.
-#[tactic(auto, unfolding(crate::specs::Reading::read_text, crate::specs::Reading::match_at))]
-fn match_of(alloc: Global, text: &[u8]) -> Result<Match, TextFault>
+// Whether no byte is left.
+fn at_end(text: &[u8]) -> bool
+    ensures { result ≡ is_end (lines_of text.now) }
+{
+    text.is_empty()
+}
+
+// The match from this place on, and the text behind it.
+#[tactic(auto, unfolding(crate::specs::Reading::read_match))]
+fn read_front<'a>(
+    alloc: Global,
+    line: &mut u32,
+    text: &'a [u8],
+) -> Result<(Match, &'a [u8]), LineFault>
+    requires { line.old ≤ 4000000000 }
+    ensures read { Placed (λ x. (x.0, stopped tt line.new (lines_of x.1.now))) line.new result (read_match line.old (lines_of text.now)) }
+    ensures shorter { IfOk result (λ x. length x.1.now ≤ length text.now) }
+{
+    let (opening, body, rest) = read_parts(alloc, line, text)?;
+    let read = match_of(alloc, opening, body)?;
+    Ok((read, rest))
+}
+
+// The match that the whole text says. The number of the line that is read is kept in `line`.
+#[tactic(auto, unfolding(crate::specs::Reading::read_text))]
+fn read_whole(alloc: Global, line: &mut u32, text: &[u8]) -> Result<Match, LineFault>
+    ensures { Placed (λ m. m) line.new result (read_text text.now) }
+{
+    *line = 0;
+    if text.len() > LONGEST_MATCH_TEXT {
+        return Err(LineFault::Refused(Cause::Long));
+    }
+    *line = 1;
+    let (read, rest) = read_front(alloc, line, text)?;
+    if !at_end(rest) {
+        return Err(LineFault::Refused(Cause::End));
+    }
+    Ok(read)
+}
+
+fn read_exactly(alloc: Global, text: &[u8]) -> Result<Match, TextFault>
     ensures { Gives (λ m. m) result (read_text text.now) }
 {
-    let (opening, rest) = read_opening(text)?;
-    let (player, rest) = read_player(opening.sides, rest)?;
-    let (commands, script) = read_events(alloc, opening.length, rest)?;
-    let roster = roster_of(alloc, player.name)?;
-    Ok(plain_match(opening, player, roster, commands, script))
+    let mut line = 0;
+    match read_whole(alloc, &mut line, text) {
+        Ok(read) => Ok(read),
+        Err(fault) => Err(fault.at(line)),
+    }
 }
 
-/// Reads a match text (this project's own form). Now it reads the plain form: one mirror, one delay, one player, no walls
-/// and pickups, the acts `go`, `left` and `right`, and a script of `tick`, `turn`, `arrive` and `step` lines or none. Every
-/// other text is refused as a whole, as line 0 with the cause `Shape`. `NoMemory` says nothing of the text.
+/// Reads a match text (this project's own form): the lines of one match of version 1 or 2, with no byte behind them, and at most
+/// 8,388,608 bytes. `Refused` is the first faulty line with that line's first failing check, or line 0 where the text is too
+/// long; `NoMemory` says nothing of the text.
 pub fn read_match(alloc: Global, text: &[u8]) -> Result<Match, TextFault>
-    // What is read is a match of the plain form, and the text is its text.
-    ensures found { IfOk result (λ m. IsPlain m × (text.now ≡ match_text m)) }
-    // The text of a match of the plain form is read as that match, unless memory runs out.
-    ensures only { (m : MatchData) → IsPlain m → text.now ≡ match_text m → Gives (λ v. v) result (Ok m) }
+    // What is read is a match, and the text is its text.
+    ensures found { IfOk result (λ m. IsMatch m × (text.now ≡ match_text m)) }
+    // The text of a match is read as that match, unless memory runs out.
+    ensures only { (m : MatchData) → IsMatch m → text.now ≡ match_text m → Gives (λ v. v) result (Ok m) }
     // The match, or the refusal, is the one that reading gives, unless memory runs out.
     ensures exact { Gives (λ v. v) result (read_text text.now) }
-    // A refusal names the whole text.
-    ensures refused { IfErr result IsShape }
+    // A refusal names the first faulty line and its first failing check, or the whole text for its length.
+    ensures refused { IfErr result (IsFirst text.now) }
 {
-    match_of(alloc, text)
+    read_exactly(alloc, text)
+}
+
+/// Reads a match whose text stands inside a longer one, from where `lines` stands, and leaves `lines` behind its `end` line. Lines
+/// are counted from `first`, which is at most 4,000,000,000. Bytes behind the match are no fault of it. On `Refused` and on
+/// `NoMemory` `lines` stands where it stood.
+pub fn read_match_at(alloc: Global, lines: &mut Lines, first: u32) -> Result<Match, TextFault>
+    requires { first ≤ 4000000000 }
+    // What is read is a match, and its text is what was walked over.
+    ensures found { IfOk result (λ m. IsMatch m × (left_of lines.old ≡ match_text m ++ left_of lines.new)) }
+    // A match's text is read as that match, whatever stands behind it, unless memory runs out.
+    ensures only { (m : MatchData) (rest : List ℕ) → IsMatch m → left_of lines.old ≡ match_text m ++ rest → Gives (λ v. v) result (Ok m) }
+    // A refusal names the first faulty line and its first failing check.
+    ensures refused { IfErr result (IsFirstAt first (left_of lines.old)) }
+    ensures text { lines.new.text ≡ lines.old.text }
+    ensures err { OnErr result (lines.new ≡ lines.old) }
+{
+    let rest = lines.rest();
+    let mut line = first;
+    match read_front(alloc, &mut line, rest) {
+        Ok((read, rest)) => {
+            lines.leave(rest.len());
+            Ok(read)
+        }
+        Err(fault) => Err(fault.at(line)),
+    }
 }

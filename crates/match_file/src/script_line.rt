@@ -1,3 +1,8 @@
+//! The lines of a script.
+
+ghost use Rattle.std.specs.Prelude.{◌≡◌};
+ghost use Rattle.match_file.specs.Data.{shows};
+
 use game_trait::{MirrorId, Number};
 
 /// One line of a match's script: what happens next, and at which mirror.
@@ -32,4 +37,22 @@ pub enum ScriptLine {
         mirror: MirrorId,
         copy: u8,
     },
+    /// A mirror goes over to another plan of delays, of which plan 0 is the match's first.
+    Restagger {
+        mirror: MirrorId,
+        plan: u8,
+    },
+}
+
+impl ScriptLine {
+    /// Whether the line prints a world or a run.
+    pub fn shows(&self) -> bool
+        ensures { result ≡ shows self.now }
+    {
+        match *self {
+            ScriptLine::World { .. } => true,
+            ScriptLine::Run { .. } => true,
+            _ => false,
+        }
+    }
 }

@@ -80,13 +80,13 @@ decimal_is_word n small = is_word-some (decimal n) (decimal-some n small) (IsWor
 same_ok : {A : Type 0} (x y : A) → ◌≡◌ {A = Result A Cause} (Ok x) (Ok y) → x ≡ y
 same_ok x y e = cc
 
--- numbers in a range of at most ten digits
-pub number_exact : (least most : ℕ) → most < 10 ^ 10 → ExactField (number least most) (InRange least most) (λ _. 10)
-number_exact least most small = record {
+-- numbers in a range of at most so many digits
+pub number_exact : (least most digits : ℕ) → 0 < digits → most < 10 ^ digits → most < 2 ^ 64 → ExactField (number least most) (InRange least most) (λ _. digits)
+number_exact least most digits some small word = record {
   takes = λ w r n _ see e. let t = number_takes least most r n e in (same_ok w r see ∙ t.0, t.1);
-  again = λ n h. (decimal n, refl, number_again least most n (omega arith) h);
+  again = λ n h. (decimal n, refl, number_again least most n word h);
   fit = λ n h. let up = h.1 in decimal_is_word n (omega arith);
-  short = λ n h. let up = h.1 in length-decimal-le 10 n (omega arith) (omega arith) (omega arith);
+  short = λ n h. let up = h.1 in length-decimal-le digits n some (omega arith) (omega arith);
   shape = λ w c e. absurd cc;
   number = λ r c e. number_err least most r c e;
 }
@@ -267,7 +267,7 @@ words_all : (words : List (List ℕ)) → AreWords words → list_all is_word wo
 words_all [] h = refl
 words_all (w ∷ words) h = rw (h.0, words_all words h.1) refl
 
-numbers_takes : (least most : ℕ) (ws : List (List ℕ)) (ns : List ℕ) → numbers_in least most ws ≡ Ok ns → (ws ≡ map decimal ns) × AllByRecursion (InRange least most) ns × (length ws ≡ length ns)
+pub numbers_takes : (least most : ℕ) (ws : List (List ℕ)) (ns : List ℕ) → numbers_in least most ws ≡ Ok ns → (ws ≡ map decimal ns) × AllByRecursion (InRange least most) ns × (length ws ≡ length ns)
 unfolding numbers_in
 numbers_takes least most [] [] e = (refl, tt, refl)
 numbers_takes least most [] (n ∷ ns) e = absurd cc

@@ -99,6 +99,13 @@ spaced_short word (next ∷ words) = omega (arith, length-append word (32 ∷ jo
 pub line_fits : {S R A T : Type 0} {k : Kind S R A T} {Fits : S → A → Type 0} → ExactKind k Fits → (s : S) (a : A) → Sound k Fits s a → AreWords (line_words k s a)
 line_fits x s a h = (x.keyword, (x.form s).fit a h.fits)
 
+-- how long such a line is
+pub line_length : {S R A T : Type 0} {k : Kind S R A T} {Fits : S → A → Type 0} (x : ExactKind k Fits) (s : S) (a : A) → Sound k Fits s a → length (line_text k s a) ≤ length k.keyword + x.longest a
+line_length {k = k} x s a h =
+    let u = spaced_short k.keyword ((k.form s).words a) in
+    let v = (x.form s).short a h.fits in
+    omega arith
+
 pub line_short : {S R A T : Type 0} {k : Kind S R A T} {Fits : S → A → Type 0} → ExactKind k Fits → (s : S) (a : A) → Sound k Fits s a → is_long (line_text k s a) ≡ false
 line_short {k = k} x s a h =
     let u = spaced_short k.keyword ((k.form s).words a) in

@@ -1,16 +1,16 @@
 pub mod DecimalLaws
+pub mod EachLaws
 pub mod FormLaws
 pub mod KindLaws
-mod LineLaws
-mod LineSteps
-mod OverLaws
-mod Pairs
-mod Printing
-mod ReadFaults
+pub mod LineLaws
+pub mod LineSteps
+pub mod OverLaws
+pub mod Printing
+pub mod ReadFaults
 pub mod Results
-mod RunLaws
-mod RunToLaws
-mod Spaced
+pub mod RunLaws
+pub mod RunToLaws
+pub mod Spaced
 pub mod Streams
-mod WalkLaws
-mod WordLists
+pub mod WalkLaws
+pub mod WordLists

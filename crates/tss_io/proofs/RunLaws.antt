@@ -26,7 +26,7 @@ pub record Ran {S : Type 0} (take : S → List ℕ → Result S Cause) (is_last 
 same_oks : {S : Type 0} (s t : S) → ◌≡◌ {A = Result S Refused} (Ok s) (Ok t) → s ≡ t
 same_oks s t e = cc
 
-is_end_takes : (lines : Lines) → is_end lines ≡ true → lines ≡ torn []
+pub is_end_takes : (lines : Lines) → is_end lines ≡ true → lines ≡ torn []
 is_end_takes (torn []) e = refl
 is_end_takes (torn (b ∷ bytes)) e = absurd cc
 is_end_takes (line l rest) e = absurd cc
@@ -124,6 +124,12 @@ follows_says take is_last Is said one s (l ∷ front) t is good =
     let k = one s l good.2 is good.3 in
     let r = follows_says take is_last Is said one good.2 front t k.1 good.4 in
     (r.0 ∙ ap (λ (x : List (List ℕ)). x ++ front) k.0 ∙ append_assoc (said s) (l ∷ []) front, r.1)
+
+-- What each line keeps, all lines do.
+pub follows_keeps : {S : Type 0} (take : S → List ℕ → Result S Cause) (is_last : S → Bool) (Is : S → Type 0) → ((s : S) (l : List ℕ) (t : S) → Is s → take s l ≡ Ok t → Is t) → (s : S) (front : List (List ℕ)) (t : S) → Is s → Follows take is_last s front t → Is t
+unfolding Follows
+follows_keeps take is_last Is one s [] t is good = subst Is good is
+follows_keeps take is_last Is one s (l ∷ front) t is good = follows_keeps take is_last Is one good.2 front t (one s l good.2 is good.3) good.4
 
 -- Items, each right behind those before it, follow one another.
 pub items_follow : {S A : Type 0} (take : S → List ℕ → Result S Cause) (is_last : S → Bool) (Right : List A → A → Type 0) (written : A → List ℕ) (with_items : List A → S)

@@ -84,7 +84,7 @@ abbrev pub AreLines : Lines → Type 0
 AreLines (torn bytes) = bytes ≡ []
 AreLines (line l rest) = Lacks 10 l × AreLines rest
 
-lines_of-line : (l bytes : List ℕ) → Lacks 10 l → lines_of (as_line l ++ bytes) ≡ line l (lines_of bytes)
+pub lines_of-line : (l bytes : List ℕ) → Lacks 10 l → lines_of (as_line l ++ bytes) ≡ line l (lines_of bytes)
 unfolding lines_of
 lines_of-line [] bytes h = refl
 lines_of-line (b ∷ l) bytes h = rw (h.0, lines_of-line l bytes h.1) refl

@@ -1,6 +1,0 @@
-use Rattle.std.proofs.Common.{sym, ◌∙◌}
-use Rattle.match_file.proofs.ScriptLaws.{is_end-lines_of}
-use Rattle.match_file.proofs.script.at_end.Goals as goal
-
-pub returns : goal.returns
-returns c = c.is_empty.ensures ∙ sym (is_end-lines_of c.args.text.now)

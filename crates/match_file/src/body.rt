@@ -1,0 +1,376 @@
+//! The lines behind the pace.
+
+ghost use Rattle.std.specs.Prelude.{◌≡◌, ◌≤◌, ◌<◌, ◌+◌, ◌^◌, ◌&&◌, length, IfOk};
+ghost use Rattle.game_trait.specs.declared.limits.TheConstants.{MOST_COPIES};
+ghost use Rattle.tss_io.specs.Lines.{lines_of, words_of};
+ghost use Rattle.tss_io.specs.Reading.{GivesLine, Placed};
+ghost use Rattle.tss_io.specs.Kinds.{step};
+ghost use Rattle.tss_io.specs.Runs.{line_step, run_to, stopped};
+ghost use Rattle.match_file.specs.Kinds.{is_open, is_script, is_ended, is_none, plan_kind, wall_kind, pickup_kind, player_kind, command_kind, tick_kind, turn_kind, arrive_kind, step_kind, world_kind, run_kind, restagger_kind};
+ghost use Rattle.match_file.specs.Sections.{IsOpening};
+ghost use Rattle.match_file.specs.Reading.{by_word, may_open, may_end, take, is_last, no_body};
+
+use crate::cell::Cell;
+use crate::commands::Commands;
+use crate::opening::{Opening, rises};
+use crate::place::{has_pickup, has_wall, is_behind_all, kind_of};
+use crate::player::{Player, face_of, has_home, has_name, is_name};
+use crate::script::Script;
+use crate::script_line::ScriptLine;
+use crate::versions::{most_commands, most_players};
+use arena_rules::{PickupSpot, Spot};
+use command_lines::CommandWords;
+use game_trait::limits::{GREATEST_NUMBER, LONGEST_DELAY, MOST_PICKUPS, MOST_PLANS};
+use game_trait::{MirrorId, Tick};
+use std::alloc::Global;
+use tss_io::words::{front, last, next_line, number, numbers, so_many_words};
+use tss_io::{Cause, LineFault, Seq};
+
+/// How far a text was read.
+#[derive(Clone, Copy, Debug, PartialEq, Eq)]
+pub enum Stage {
+    /// Up to a line in front of the script.
+    Open,
+    /// Up to a line of the script.
+    InScript,
+    /// Up to its end.
+    Ended,
+}
+
+/// What the lines behind the pace say, as far as they were read.
+#[derive(Drop)]
+pub struct Body {
+    /// How far that is.
+    pub stage: Stage,
+    /// The further plans of delays, at most 7.
+    pub plans: Seq<Seq<Tick>>,
+    /// The walls, row by row.
+    pub walls: Seq<Cell>,
+    /// The pickups, at most 32.
+    pub pickups: Seq<PickupSpot>,
+    /// The players, in version 1 at most 16, in version 2 at most 32.
+    pub players: Seq<Player>,
+    /// The commands, in version 1 at most 16,384, in version 2 at most 32,768.
+    pub commands: Commands,
+    /// The script, at most 262,144 lines.
+    pub script: Script,
+}
+
+fn is_open(stage: Stage) -> bool
+    ensures { result ≡ is_open stage }
+{
+    match stage {
+        Stage::Open => true,
+        Stage::InScript => false,
+        Stage::Ended => false,
+    }
+}
+
+pub fn is_script(stage: Stage) -> bool
+    ensures { result ≡ is_script stage }
+{
+    match stage {
+        Stage::Open => false,
+        Stage::InScript => true,
+        Stage::Ended => false,
+    }
+}
+
+pub fn is_ended(stage: Stage) -> bool
+    ensures { result ≡ is_ended stage }
+{
+    match stage {
+        Stage::Open => false,
+        Stage::InScript => false,
+        Stage::Ended => true,
+    }
+}
+
+impl Body {
+    fn new(alloc: Global) -> Body
+        ensures { result ≡ no_body }
+    {
+        Body {
+            stage: Stage::Open,
+            plans: Seq::new(alloc),
+            walls: Seq::new(alloc),
+            pickups: Seq::new(alloc),
+            players: Seq::new(alloc),
+            commands: Commands::new(alloc),
+            script: Script::new(alloc),
+        }
+    }
+
+    // Whether no player and no command was read.
+    fn has_no_player(&self) -> bool
+        ensures { result ≡ (is_none self.now.players && is_none self.now.commands) }
+    {
+        self.players.is_empty() && self.commands.len() == 0
+    }
+
+    fn take_plan(&mut self, alloc: Global, opening: &Opening, words: &[u8]) -> Result<(), LineFault>
+        ensures { GivesLine (λ _. self.new) result (step (plan_kind opening.now) self.old (words_of words.now)) }
+    {
+        if !is_open(self.stage)
+            || !self.walls.is_empty()
+            || !self.pickups.is_empty()
+            || !self.has_no_player()
+        {
+            return Err(LineFault::Refused(Cause::Shape));
+        }
+        so_many_words(opening.delays.len(), words)?;
+        if self.plans.len() >= MOST_PLANS - 1 {
+            return Err(LineFault::Refused(Cause::Many));
+        }
+        let delays = numbers(alloc, 0, LONGEST_DELAY, words)?;
+        if !rises(delays.as_slice()) {
+            return Err(LineFault::Refused(Cause::Order));
+        }
+        self.plans.push(delays)?;
+        Ok(())
+    }
+
+    fn take_wall(&mut self, opening: &Opening, words: &[u8]) -> Result<(), LineFault>
+        ensures { GivesLine (λ _. self.new) result (step (wall_kind opening.now) self.old (words_of words.now)) }
+    {
+        if !is_open(self.stage) || !self.pickups.is_empty() || !self.has_no_player() {
+            return Err(LineFault::Refused(Cause::Shape));
+        }
+        let (x, words) = front(words)?;
+        let y = last(words)?;
+        let x = number(0, u32::MAX, x)?;
+        let y = number(0, u32::MAX, y)?;
+        if !opening.in_grid(x, y) {
+            return Err(LineFault::Refused(Cause::Place));
+        }
+        let cell = Cell {
+            x: x as u8,
+            y: y as u8,
+        };
+        if !is_behind_all(cell, self.walls.as_slice()) {
+            return Err(LineFault::Refused(Cause::Order));
+        }
+        self.walls.push(cell)?;
+        Ok(())
+    }
+
+    fn take_pickup(&mut self, opening: &Opening, words: &[u8]) -> Result<(), LineFault>
+        ensures { GivesLine (λ _. self.new) result (step (pickup_kind opening.now) self.old (words_of words.now)) }
+    {
+        if !is_open(self.stage) || !self.has_no_player() {
+            return Err(LineFault::Refused(Cause::Shape));
+        }
+        let (x, words) = front(words)?;
+        let (y, words) = front(words)?;
+        let kind = kind_of(last(words)?)?;
+        if self.pickups.len() >= MOST_PICKUPS {
+            return Err(LineFault::Refused(Cause::Many));
+        }
+        let x = number(0, u32::MAX, x)?;
+        let y = number(0, u32::MAX, y)?;
+        if !opening.in_grid(x, y) {
+            return Err(LineFault::Refused(Cause::Place));
+        }
+        let pickup = PickupSpot {
+            x: x as u8,
+            y: y as u8,
+            kind,
+        };
+        if has_wall(pickup.x, pickup.y, self.walls.as_slice()) {
+            return Err(LineFault::Refused(Cause::Place));
+        }
+        if has_pickup(pickup.x, pickup.y, self.pickups.as_slice()) {
+            return Err(LineFault::Refused(Cause::Place));
+        }
+        self.pickups.push(pickup)?;
+        Ok(())
+    }
+
+    fn take_player(
+        &mut self,
+        alloc: Global,
+        opening: &Opening,
+        words: &[u8],
+    ) -> Result<(), LineFault>
+        ensures { GivesLine (λ _. self.new) result (step (player_kind opening.now) self.old (words_of words.now)) }
+    {
+        if !is_open(self.stage) || self.commands.len() > 0 {
+            return Err(LineFault::Refused(Cause::Shape));
+        }
+        let (name, words) = front(words)?;
+        let (x, words) = front(words)?;
+        let (y, words) = front(words)?;
+        let face = face_of(last(words)?)?;
+        if self.players.len() >= most_players(opening.version) {
+            return Err(LineFault::Refused(Cause::Many));
+        }
+        let x = number(0, u32::MAX, x)?;
+        let y = number(0, u32::MAX, y)?;
+        if !is_name(name) {
+            return Err(LineFault::Refused(Cause::Name));
+        }
+        if has_name(name, self.players.as_slice()) {
+            return Err(LineFault::Refused(Cause::Name));
+        }
+        if !opening.in_grid(x, y) {
+            return Err(LineFault::Refused(Cause::Place));
+        }
+        let home = Spot {
+            x: x as u8,
+            y: y as u8,
+            face,
+        };
+        if has_wall(home.x, home.y, self.walls.as_slice()) {
+            return Err(LineFault::Refused(Cause::Place));
+        }
+        if has_pickup(home.x, home.y, self.pickups.as_slice()) {
+            return Err(LineFault::Refused(Cause::Place));
+        }
+        if has_home(home.x, home.y, self.players.as_slice()) {
+            return Err(LineFault::Refused(Cause::Place));
+        }
+        let name = Seq::of(name.to_vec(alloc)?);
+        self.players.push(Player { name, home })?;
+        Ok(())
+    }
+
+    fn take_command(&mut self, opening: &Opening, words: &[u8]) -> Result<(), LineFault>
+        ensures { GivesLine (λ _. self.new) result (step (command_kind opening.now) self.old (words_of words.now)) }
+    {
+        if !self.may_open() {
+            return Err(LineFault::Refused(Cause::Shape));
+        }
+        let words = CommandWords::of(opening.version, words)?;
+        if self.commands.len() >= most_commands(opening.version) {
+            return Err(LineFault::Refused(Cause::Many));
+        }
+        let command = words.read(opening.ranges())?;
+        if usize::from(command.player) >= self.players.len() {
+            return Err(LineFault::Refused(Cause::Name));
+        }
+        if self.commands.has(command.from, command.number) {
+            return Err(LineFault::Refused(Cause::Name));
+        }
+        self.commands.push(&command)?;
+        Ok(())
+    }
+
+    // Whether the script may begin.
+    fn may_open(&self) -> bool
+        ensures { result ≡ may_open self.now }
+    {
+        is_open(self.stage) && !self.players.is_empty()
+    }
+
+    // Whether the text may end here.
+    fn may_end(&self) -> bool
+        ensures { result ≡ may_end self.now }
+    {
+        self.may_open() || (is_script(self.stage) && !self.script.is_none())
+    }
+
+    // A line of the kind that its first word names.
+    #[tactic(auto, unfolding(crate::specs::Reading::by_word))]
+    fn take_words(
+        &mut self,
+        alloc: Global,
+        opening: &Opening,
+        word: &[u8],
+        words: &[u8],
+    ) -> Result<(), LineFault>
+        requires { length opening.now.delays ≤ MOST_COPIES }
+        ensures { GivesLine (λ _. self.new) result (by_word opening.now self.old word.now (words_of words.now)) }
+    {
+        if word == b"arrive".as_slice() {
+            self.take_arrive(opening, words)
+        } else if word == b"turn".as_slice() {
+            self.take_turn(opening, words)
+        } else if word == b"tick".as_slice() {
+            self.take_tick(opening, words)
+        } else if word == b"step".as_slice() {
+            self.take_step(opening, words)
+        } else if word == b"world".as_slice() {
+            self.take_world(opening, words)
+        } else if word == b"run".as_slice() {
+            self.take_run(opening, words)
+        } else if word == b"restagger".as_slice() {
+            self.take_restagger(opening, words)
+        } else if word == b"cmd".as_slice() {
+            self.take_command(opening, words)
+        } else if word == b"wall".as_slice() {
+            self.take_wall(opening, words)
+        } else if word == b"pickup".as_slice() {
+            self.take_pickup(opening, words)
+        } else if word == b"player".as_slice() {
+            self.take_player(alloc, opening, words)
+        } else if word == b"plan".as_slice() {
+            self.take_plan(alloc, opening, words)
+        } else {
+            Err(LineFault::Refused(Cause::Shape))
+        }
+    }
+
+    // A line of the body.
+    #[tactic(auto, unfolding(crate::specs::Reading::take))]
+    fn take(&mut self, alloc: Global, opening: &Opening, line: &[u8]) -> Result<(), LineFault>
+        requires { length opening.now.delays ≤ MOST_COPIES }
+        ensures { GivesLine (λ _. self.new) result (take opening.now self.old line.now) }
+    {
+        if line == b"script".as_slice() {
+            if !self.may_open() {
+                return Err(LineFault::Refused(Cause::Shape));
+            }
+            self.stage = Stage::InScript;
+            return Ok(());
+        }
+        if line == b"end".as_slice() {
+            if !self.may_end() {
+                return Err(LineFault::Refused(Cause::Shape));
+            }
+            self.stage = Stage::Ended;
+            return Ok(());
+        }
+        let (word, words) = front(line)?;
+        self.take_words(alloc, opening, word, words)
+    }
+
+    // The next line of the body, and the text behind it.
+    #[tactic(auto, unfolding(tss_io::specs::Runs::line_step))]
+    fn take_line<'a>(
+        &mut self,
+        alloc: Global,
+        opening: &Opening,
+        text: &'a [u8],
+    ) -> Result<&'a [u8], LineFault>
+        requires { length opening.now.delays ≤ MOST_COPIES }
+        ensures read { GivesLine (λ rest. (self.new, lines_of rest.now)) result (line_step (take opening.now) self.old (lines_of text.now)) }
+        ensures shorter { IfOk result (λ rest. length rest.now < length text.now) }
+    {
+        let (line, rest) = next_line(text)?;
+        self.take(alloc, opening, line)?;
+        Ok(rest)
+    }
+}
+
+/// The lines of the body, from this one on, and the text behind them. The number of the line that is read is kept in `line`, which
+/// has the first one's.
+pub fn read_body<'a>(
+    alloc: Global,
+    opening: &Opening,
+    line: &mut u32,
+    text: &'a [u8],
+) -> Result<(Body, &'a [u8]), LineFault>
+    requires copies { length opening.now.delays ≤ MOST_COPIES }
+    requires opening { IsOpening opening.now }
+    requires counted { line.old ≤ 4000000010 }
+    ensures read { Placed (λ x. stopped x.0 line.new (lines_of x.1.now)) line.new result (run_to (take opening.now) is_last line.old no_body (lines_of text.now)) }
+    ensures shorter { IfOk result (λ x. length x.1.now ≤ length text.now) }
+{
+    let mut body = Body::new(alloc);
+    let mut rest = text;
+    while !is_ended(body.stage) {
+        rest = body.take_line(alloc, opening, rest)?;
+        *line += 1;
+    }
+    Ok((body, rest))
+}

@@ -1,0 +1,90 @@
+//! The parts of a match, made of what was read.
+
+ghost use Rattle.std.specs.Prelude.{◌≡◌, ◌≤◌, ◌<◌, length, map, IfOk};
+ghost use Rattle.std.specs.List.{AllByRecursion, IsDistinct};
+ghost use Rattle.std.specs.Prelude.{bytes_eq};
+ghost use Rattle.arena_rules.specs.Ground.{open_grid};
+ghost use Rattle.match_file.specs.Reading.{match_of, walled};
+ghost use Rattle.match_file.specs.Sections.{IsRead};
+
+use crate::body::Body;
+use crate::cell::Cell;
+use crate::game_match::Match;
+use crate::opening::Opening;
+use crate::player::Player;
+use arena_rules::{Ground, PickupSpot, Roster, Setup, Spot};
+use arrayvec::ArrayVec;
+use std::alloc::Global;
+use tss_io::NoMemory;
+
+// The ground of these sides with these walls.
+fn ground_of(width: u8, height: u8, walls: &[Cell]) -> Ground
+    requires width { (3 ≤ width) × (width ≤ 64) }
+    requires height { (1 ≤ height) × (height ≤ 64) }
+    requires walls { AllByRecursion (λ c. (c.x < width) × (c.y < height)) walls.now }
+    ensures { result ≡ walled (open_grid width height) walls.now }
+{
+    let mut ground = Ground::new(width, height);
+    for cell in walls {
+        ground.wall(cell.x, cell.y);
+    }
+    ground
+}
+
+fn pickups_of(pickups: &[PickupSpot]) -> ArrayVec<PickupSpot, 32>
+    requires { length pickups.now ≤ 32 }
+    ensures { result.items ≡ pickups.now }
+{
+    let mut kept = ArrayVec::new();
+    for pickup in pickups {
+        kept.push(*pickup);
+    }
+    kept
+}
+
+fn homes_of(players: &[Player]) -> ArrayVec<Spot, 32>
+    requires { length players.now ≤ 32 }
+    ensures { result.items ≡ map (λ p. p.home) players.now }
+{
+    let mut homes = ArrayVec::new();
+    for player in players {
+        homes.push(player.home);
+    }
+    homes
+}
+
+fn roster_of(alloc: Global, players: &[Player]) -> Result<Roster, NoMemory>
+    requires { IsDistinct bytes_eq (map (λ p. p.name) players.now) }
+    ensures { IfOk result (λ roster. roster ≡ map (λ p. p.name) players.now) }
+{
+    let mut roster = Roster::new(alloc)?;
+    for player in players {
+        roster.add(player.name.as_slice())?;
+    }
+    Ok(roster)
+}
+
+/// The match of what was read.
+pub fn match_of(alloc: Global, opening: Opening, body: Body) -> Result<Match, NoMemory>
+    requires { IsRead opening body }
+    ensures { IfOk result (λ m. m ≡ match_of opening body) }
+{
+    let roster = roster_of(alloc, body.players.as_slice())?;
+    let setup = Setup {
+        ground: ground_of(opening.width, opening.height, body.walls.as_slice()),
+        pickups: pickups_of(body.pickups.as_slice()),
+        players: homes_of(body.players.as_slice()),
+    };
+    Ok(Match {
+        version: opening.version,
+        length: opening.length,
+        mirrors: opening.mirrors,
+        delays: opening.delays,
+        plans: body.plans,
+        pace: opening.pace,
+        setup,
+        roster,
+        commands: body.commands.into_list(),
+        script: body.script.into_seq(),
+    })
+}

@@ -1,0 +1,53 @@
+//! Walls and pickups, and the cells that they take.
+
+ghost use Rattle.std.specs.Prelude.{◌≡◌, [], ◌∷◌};
+ghost use Rattle.arena_rules.specs.declared.pickup.Kind.TheVariants as pickup_kinds;
+ghost use Rattle.tss_io.specs.Reading.{Answers};
+ghost use Rattle.tss_io.specs.Forms.{picked};
+ghost use Rattle.match_file.specs.Kinds.{has_wall, has_pickup, is_behind, last_cell};
+ghost use Rattle.match_file.specs.Text.{kind_word};
+
+use crate::cell::Cell;
+use arena_rules::{Kind, PickupSpot};
+use tss_io::Cause;
+
+/// The kind of pickup that the word names.
+pub fn kind_of(word: &[u8]) -> Result<Kind, Cause>
+    ensures { Answers (λ x. x) result (picked kind_word (pickup_kinds.Ammo ∷ pickup_kinds.Heal ∷ pickup_kinds.Gold ∷ []) word.now) }
+{
+    if word == b"ammo".as_slice() {
+        Ok(Kind::Ammo)
+    } else if word == b"heal".as_slice() {
+        Ok(Kind::Heal)
+    } else if word == b"gold".as_slice() {
+        Ok(Kind::Gold)
+    } else {
+        Err(Cause::Shape)
+    }
+}
+
+/// Whether the cell stands behind the last of the cells, row by row.
+pub fn is_behind_all(cell: Cell, cells: &[Cell]) -> bool
+    ensures { result ≡ is_behind cell (last_cell cells.now) }
+{
+    match cells.last() {
+        None => true,
+        Some(last) => last.y < cell.y || (last.y == cell.y && last.x < cell.x),
+    }
+}
+
+/// Whether one of the walls is in this cell.
+#[tactic(auto, unfolding(crate::specs::Kinds::has_wall))]
+pub fn has_wall(x: u8, y: u8, walls: &[Cell]) -> bool
+    ensures { result ≡ has_wall x y walls.now }
+{
+    walls.iter().any(|c| c.x == x && c.y == y)
+}
+
+/// Whether one of the pickups is in this cell.
+#[tactic(auto, unfolding(crate::specs::Kinds::has_pickup))]
+pub fn has_pickup(x: u8, y: u8, pickups: &[PickupSpot]) -> bool
+    ensures { result ≡ has_pickup x y pickups.now }
+{
+    pickups.iter().any(|p| p.x == x && p.y == y)
+}

@@ -1,0 +1,164 @@
+//! The lines of a script, as they are read.
+
+ghost use Rattle.std.specs.Prelude.{◌≡◌, ◌≤◌, ◌-◌, length};
+ghost use Rattle.game_trait.specs.declared.limits.TheConstants.{MOST_COPIES};
+ghost use Rattle.tss_io.specs.Lines.{words_of};
+ghost use Rattle.tss_io.specs.Reading.{Answers, GivesLine};
+ghost use Rattle.tss_io.specs.Forms.{number_in};
+ghost use Rattle.tss_io.specs.Kinds.{step};
+ghost use Rattle.match_file.specs.Kinds.{tick_kind, turn_kind, arrive_kind, step_kind, world_kind, run_kind, restagger_kind};
+
+use crate::body::{Body, is_script};
+use crate::opening::Opening;
+use crate::script_line::ScriptLine;
+use game_trait::MirrorId;
+use game_trait::limits::{GREATEST_NUMBER, MOST_PLANS};
+use tss_io::words::{front, last, number};
+use tss_io::{Cause, LineFault};
+
+// The mirror that the word names.
+fn mirror_of(opening: &Opening, word: &[u8]) -> Result<MirrorId, Cause>
+    ensures { Answers (λ x. x) result (number_in 0 (opening.now.mirrors - 1) word.now) }
+{
+    Ok(number(0, u32::from(opening.last_mirror()), word)? as u8)
+}
+
+// The copy that the word names.
+fn copy_of(opening: &Opening, word: &[u8]) -> Result<u8, Cause>
+    requires { length opening.now.delays ≤ MOST_COPIES }
+    ensures { Answers (λ x. x) result (number_in 0 (length opening.now.delays - 1) word.now) }
+{
+    Ok(number(0, u32::from(opening.last_copy()), word)? as u8)
+}
+
+impl Body {
+    pub fn take_tick(&mut self, opening: &Opening, words: &[u8]) -> Result<(), LineFault>
+        ensures { GivesLine (λ _. self.new) result (step (tick_kind opening.now) self.old (words_of words.now)) }
+    {
+        if !is_script(self.stage) {
+            return Err(LineFault::Refused(Cause::Shape));
+        }
+        let mirror = last(words)?;
+        if !self.script.has_room() {
+            return Err(LineFault::Refused(Cause::Many));
+        }
+        let mirror = mirror_of(opening, mirror)?;
+        self.script.push(ScriptLine::Tick { mirror })?;
+        Ok(())
+    }
+
+    pub fn take_turn(&mut self, opening: &Opening, words: &[u8]) -> Result<(), LineFault>
+        ensures { GivesLine (λ _. self.new) result (step (turn_kind opening.now) self.old (words_of words.now)) }
+    {
+        if !is_script(self.stage) {
+            return Err(LineFault::Refused(Cause::Shape));
+        }
+        let mirror = last(words)?;
+        if !self.script.has_room() {
+            return Err(LineFault::Refused(Cause::Many));
+        }
+        let mirror = mirror_of(opening, mirror)?;
+        self.script.push(ScriptLine::Turn { mirror })?;
+        Ok(())
+    }
+
+    pub fn take_arrive(&mut self, opening: &Opening, words: &[u8]) -> Result<(), LineFault>
+        ensures { GivesLine (λ _. self.new) result (step (arrive_kind opening.now) self.old (words_of words.now)) }
+    {
+        if !is_script(self.stage) {
+            return Err(LineFault::Refused(Cause::Shape));
+        }
+        let (mirror, words) = front(words)?;
+        let (from, words) = front(words)?;
+        let name = last(words)?;
+        if !self.script.has_room() {
+            return Err(LineFault::Refused(Cause::Many));
+        }
+        let mirror = mirror_of(opening, mirror)?;
+        let from = mirror_of(opening, from)?;
+        let number = number(0, GREATEST_NUMBER, name)?;
+        if !self.commands.has(from, number) {
+            return Err(LineFault::Refused(Cause::Name));
+        }
+        self.script.push(ScriptLine::Arrive {
+            mirror,
+            from,
+            number,
+        })?;
+        Ok(())
+    }
+
+    pub fn take_step(&mut self, opening: &Opening, words: &[u8]) -> Result<(), LineFault>
+        requires { length opening.now.delays ≤ MOST_COPIES }
+        ensures { GivesLine (λ _. self.new) result (step (step_kind opening.now) self.old (words_of words.now)) }
+    {
+        if !is_script(self.stage) {
+            return Err(LineFault::Refused(Cause::Shape));
+        }
+        let (mirror, words) = front(words)?;
+        let copy = last(words)?;
+        if !self.script.has_room() {
+            return Err(LineFault::Refused(Cause::Many));
+        }
+        let mirror = mirror_of(opening, mirror)?;
+        let copy = copy_of(opening, copy)?;
+        self.script.push(ScriptLine::Step { mirror, copy })?;
+        Ok(())
+    }
+
+    pub fn take_world(&mut self, opening: &Opening, words: &[u8]) -> Result<(), LineFault>
+        requires { length opening.now.delays ≤ MOST_COPIES }
+        ensures { GivesLine (λ _. self.new) result (step (world_kind opening.now) self.old (words_of words.now)) }
+    {
+        if !is_script(self.stage) {
+            return Err(LineFault::Refused(Cause::Shape));
+        }
+        let (mirror, words) = front(words)?;
+        let copy = last(words)?;
+        if !self.script.has_showing_room() {
+            return Err(LineFault::Refused(Cause::Many));
+        }
+        let mirror = mirror_of(opening, mirror)?;
+        let copy = copy_of(opening, copy)?;
+        self.script.push(ScriptLine::World { mirror, copy })?;
+        Ok(())
+    }
+
+    pub fn take_run(&mut self, opening: &Opening, words: &[u8]) -> Result<(), LineFault>
+        requires { length opening.now.delays ≤ MOST_COPIES }
+        ensures { GivesLine (λ _. self.new) result (step (run_kind opening.now) self.old (words_of words.now)) }
+    {
+        if !is_script(self.stage) {
+            return Err(LineFault::Refused(Cause::Shape));
+        }
+        let (mirror, words) = front(words)?;
+        let copy = last(words)?;
+        if !self.script.has_showing_room() {
+            return Err(LineFault::Refused(Cause::Many));
+        }
+        let mirror = mirror_of(opening, mirror)?;
+        let copy = copy_of(opening, copy)?;
+        self.script.push(ScriptLine::Run { mirror, copy })?;
+        Ok(())
+    }
+
+    pub fn take_restagger(&mut self, opening: &Opening, words: &[u8]) -> Result<(), LineFault>
+        ensures { GivesLine (λ _. self.new) result (step (restagger_kind opening.now) self.old (words_of words.now)) }
+    {
+        if !is_script(self.stage) {
+            return Err(LineFault::Refused(Cause::Shape));
+        }
+        let (mirror, words) = front(words)?;
+        let plan = last(words)?;
+        if !self.script.has_room() {
+            return Err(LineFault::Refused(Cause::Many));
+        }
+        let mirror = mirror_of(opening, mirror)?;
+        let plan = number(0, MOST_PLANS as u32 - 1, plan)? as u8;
+        if usize::from(plan) > self.plans.len() {
+            return Err(LineFault::Refused(Cause::Number));
+        }
+        self.script.push(ScriptLine::Restagger { mirror, plan })?;
+        Ok(())
+    }
+}
