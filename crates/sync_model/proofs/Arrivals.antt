@@ -20,9 +20,10 @@ use Rattle.sync_model.specs.Change.{with_late, proposed_by_arrival}
 use Rattle.sync_model.specs.Staggered.{IsAhead, IsChained, IsComplete}
 use Rattle.sync_model.specs.Repairs.{AreFirst, is_late_at, last_late_clock, repaired_by_arrival}
 use Rattle.sync_model.proofs.Settle.{begins_with-Decides, IsFirstAtMost, NeverRises, settle-beats, settle-each}
-use Rattle.sync_model.proofs.Proposals.{complete-rebuilt, complete-late, with_late-past, with_late-due, beats-command, equal_clocks}
+use Rattle.sync_model.proofs.Proposals.{complete-rebuilt, complete-late, with_late-past, with_late-due, beats-command}
 use Rattle.sync_model.proofs.Lists.{all-map}
 use Rattle.sync_model.proofs.Trailing.{beats-front, chained-falls, late-beats}
+use Rattle.sync_model.proofs.Drain.{equal_clocks}
 use Rattle.sync_model.proofs.Repairs.{ahead-front, front-snoc, chained-unrepaired, no-marks, repaired-goes_on, unrepaired-same, none-marked, marks-first}
 
 -- a command of a new name stands in no complete run

@@ -10,7 +10,7 @@ use Rattle.game_trait.specs.declared.command.Command.{Command}
 use Rattle.game_trait.specs.declared.command.Item.{Item}
 use Rattle.game_trait.specs.declared.command.Item.TheVariants.{Cmd, Beat}
 use Rattle.game_trait.specs.Keys.{in_key_order}
-use Rattle.game_trait.specs.Run.{beats, commands_of, IsPrefix}
+use Rattle.game_trait.specs.Run.{beats, commands_of}
 use Rattle.game_trait.specs.Ordered.{due_at, tick_of, ticks, ordered}
 use Rattle.game_trait.specs.Count.{times, within}
 use Rattle.game_trait.proofs.Runs.{beats-append, commands_of-append}
@@ -133,26 +133,6 @@ complete-late accepted x run complete =
       | false ↦ λ e. complete-due accepted x run (ltb-false x.time (beats run) e) complete
     ]
     refl
-
--- a run without a beat and without a command is empty
-nothing-left : (rest : List Item) → beats rest ≡ 0 → times (λ _. true) (commands_of rest) ≡ 0 → rest ≡ []
-unfolding beats commands_of times
-nothing-left [] no_beat no_command = refl
-nothing-left (Cmd x ∷ rest) no_beat no_command = absurd (omega arith)
-nothing-left (Beat ∷ rest) no_beat no_command = absurd (omega arith)
-
--- complete runs of which one begins with the other are one run where their clocks are equal
-pub equal_clocks :
-    (accepted : List Command) (front whole : List Item) → IsComplete accepted front → IsComplete accepted whole
-    → IsPrefix front whole → beats front ≡ beats whole → whole ≡ front
-unfolding IsComplete
-equal_clocks accepted front whole less more prefix same =
-    let rest = prefix.0 in
-    let clock = ap beats prefix.1 ∙ beats-append front rest in
-    let count = ap (λ (run : List Item). times (λ (x : Command). true) (commands_of run)) prefix.1 ∙ ap (times (λ (x : Command). true)) (commands_of-append front rest) ∙ times-append (λ (x : Command). true) (commands_of front) (commands_of rest) in
-    let left = less (λ x. true) in
-    let right = more (λ x. true) ∙ ap (λ (n : ℕ). times (λ (x : Command). true && ltb x.time n) accepted) (sym same) in
-    prefix.1 ∙ ap (λ (run : List Item). front ++ run) (nothing-left rest (omega arith) (omega arith)) ∙ append-nil front
 
 -- runs that are never early
 pub never_early-append :

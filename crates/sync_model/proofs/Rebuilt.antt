@@ -16,9 +16,10 @@ use Rattle.sync_model.specs.Change.{with_late, with_tick, proposed_by_arrival, p
 use Rattle.sync_model.specs.Staggered.{IsAhead, IsChained, IsComplete}
 use Rattle.sync_model.specs.Repairs.{is_late_at, last_late_clock, rebuild, IsLastLate}
 use Rattle.sync_model.proofs.Settle.{NeverRises, beats-rebuilt}
-use Rattle.sync_model.proofs.Proposals.{beats-with_late, beats-with_tick, with_late-past, beats-command, equal_clocks}
+use Rattle.sync_model.proofs.Proposals.{beats-with_late, beats-with_tick, with_late-past, beats-command}
 use Rattle.sync_model.proofs.Trailing.{beats-front, chained-falls, IsBehindAhead, step-beats, set-falls}
-use Rattle.sync_model.proofs.Repairs.{ahead-front, chained-settled, unrepaired-same, none-marked, step-marks, step-chained, front-chained}
+use Rattle.sync_model.proofs.Drain.{equal_clocks}
+use Rattle.sync_model.proofs.Repairs.{ahead-front, chained-settled, chained-unrepaired, no-marks, count-first, unrepaired-same, none-marked, step-marks, step-chained, front-chained}
 use Rattle.sync_model.proofs.Arrivals.{arrival-marks, count-marks, none-late, falls-all, head-late, last_late-alone, last_late-behind}
 
 -- a run rebuilt from a rebuilt one is rebuilt from that one's base
@@ -83,15 +84,24 @@ marked_settled accepted (q ∷ r ∷ rs) (suc (suc n)) m falls there marks =
     ∙ settle_one-repaired accepted q (rebuilt accepted r (get_or rs n [])) (rebuild accepted (get_or rs n []) n rs) head_at
     ∙ ap (λ (l : List Item). l ∷ rebuilt accepted r (get_or rs n []) ∷ rebuild accepted (get_or rs n []) n rs) (rebuilt_twice accepted q r (get_or rs n []) low falls.0)
 
+-- proposals that are chained are the settled runs, and none is repaired
+chained-stays : (accepted : List Command) (qs : List (List Item)) → IsChained qs → (settle accepted qs ≡ qs) × (repaired accepted qs ≡ 0)
+chained-stays accepted qs chained =
+    (chained-settled accepted qs chained, ap (times (λ (b : Bool). b)) (chained-unrepaired accepted qs chained) ∙ no-marks qs)
+
 -- a step of copy 0, and a step whose new run is a front of the run ahead: nothing else changes
-pub step_first : (accepted : List Command) (runs : List (List Item)) → IsChained runs → settle accepted (proposed_by_step accepted runs zero) ≡ proposed_by_step accepted runs zero
-step_first accepted runs chained = chained-settled accepted (proposed_by_step accepted runs zero) (step-chained accepted runs chained)
+pub step_first :
+    (accepted : List Command) (runs : List (List Item)) → IsChained runs
+    → (settle accepted (proposed_by_step accepted runs zero) ≡ proposed_by_step accepted runs zero)
+    × (repaired accepted (proposed_by_step accepted runs zero) ≡ 0)
+step_first accepted runs chained = chained-stays accepted (proposed_by_step accepted runs zero) (step-chained accepted runs chained)
 
 pub step_front :
     (accepted : List Command) (runs : List (List Item)) (c : ℕ) → IsChained runs
     → begins_with (get_or runs c []) (with_tick accepted (get_or runs (suc c) [])) ≡ true
-    → settle accepted (proposed_by_step accepted runs (suc c)) ≡ proposed_by_step accepted runs (suc c)
-step_front accepted runs c chained front = chained-settled accepted (proposed_by_step accepted runs (suc c)) (front-chained accepted runs c chained front)
+    → (settle accepted (proposed_by_step accepted runs (suc c)) ≡ proposed_by_step accepted runs (suc c))
+    × (repaired accepted (proposed_by_step accepted runs (suc c)) ≡ 0)
+step_front accepted runs c chained front = chained-stays accepted (proposed_by_step accepted runs (suc c)) (front-chained accepted runs c chained front)
 
 -- the base itself may be counted among the rebuilt
 rebuild-set :
@@ -107,24 +117,29 @@ pub step_apart :
     (accepted : List Command) (runs : List (List Item)) (c : ℕ)
     → IsChained runs → AllByRecursion (IsComplete accepted) runs → IsBehindAhead runs (suc c) → suc c < length runs
     → begins_with (get_or runs c []) (with_tick accepted (get_or runs (suc c) [])) ≡ false
-    → settle accepted (proposed_by_step accepted runs (suc c)) ≡ rebuild accepted (with_tick accepted (get_or runs (suc c) [])) (suc (suc c)) runs
+    → (settle accepted (proposed_by_step accepted runs (suc c)) ≡ rebuild accepted (with_tick accepted (get_or runs (suc c) [])) (suc (suc c)) runs)
+    × (repaired accepted (proposed_by_step accepted runs (suc c)) ≡ suc c)
 step_apart accepted runs c chained complete room there apart =
     let q = with_tick accepted (get_or runs (suc c) []) in
     let marks : which_repaired accepted (set runs (suc c) (with_tick accepted (get_or runs (suc c) []))) ≡ replicate (suc c) true ++ replicate (length (drop (suc c) runs)) false =
     step-marks accepted runs c chained complete room there apart ∙ ap (λ (l : List Bool). replicate (suc c) true ++ l) (none-marked (drop (suc c) runs)) in
     let falls = subst NeverRises (sym (step-beats accepted runs (suc c))) (set-falls runs (suc c) (chained-falls runs chained) room) in
     let same = length-set runs (suc c) q in
-    let up = beats-with_tick accepted (get_or runs (suc c) []) in
-    marked_settled accepted (set runs (suc c) (with_tick accepted (get_or runs (suc c) []))) (suc c) (length (drop (suc c) runs)) falls (omega arith) marks
-    ∙ ap (λ (b : List Item). rebuild accepted b (suc c) (set runs (suc c) q)) (get_or-set_same runs (suc c) q [] there)
-    ∙ rebuild-set accepted q runs (suc c) there (omega arith)
+    let up = beats-with_tick accepted (get_or runs (suc c) []) in (
+      marked_settled accepted (set runs (suc c) (with_tick accepted (get_or runs (suc c) []))) (suc c) (length (drop (suc c) runs)) falls (omega arith) marks
+          ∙ ap (λ (b : List Item). rebuild accepted b (suc c) (set runs (suc c) q)) (get_or-set_same runs (suc c) q [] there)
+          ∙ rebuild-set accepted q runs (suc c) there (omega arith),
+      ap (times (λ (b : Bool). b)) marks ∙ count-first (suc c) (length (drop (suc c) runs)),
+    )
 
 -- an arrival that is late at no copy changes no run
 pub arrival_early :
     (accepted : List Command) (x : Command) (runs : List (List Item)) → IsChained runs → list_any (is_late_at x) runs ≡ false
-    → settle (accepted ++ x ∷ []) (proposed_by_arrival x runs) ≡ runs
+    → (settle (accepted ++ x ∷ []) (proposed_by_arrival x runs) ≡ runs) × (repaired (accepted ++ x ∷ []) (proposed_by_arrival x runs) ≡ 0)
 arrival_early accepted x runs chained none =
-    ap (settle (accepted ++ x ∷ [])) (none-late x runs none) ∙ chained-settled (accepted ++ x ∷ []) runs chained
+    let same = none-late x runs none in
+    let stays = chained-stays (accepted ++ x ∷ []) runs chained in
+    (ap (settle (accepted ++ x ∷ [])) same ∙ stays.0, ap (repaired (accepted ++ x ∷ [])) same ∙ stays.1)
 
 -- the last copy at which a command is late
 behind-late : (x : Command) (a : List Item) (rest : List (List Item)) (m : ℕ) → IsLastLate x (a ∷ rest) (suc m) → IsLastLate x rest m
@@ -182,20 +197,20 @@ front-at a (r ∷ rs) (suc i) h there =
     (more.0 ++ h.0.0, h.0.1 ∙ ap (λ (l : List Item). l ++ h.0.0) more.1 ∙ append_assoc (get_or rs i []) more.0 h.0.0)
 
 -- a late arrival: the copies ahead of the last at which it is late are rebuilt from that copy's run with the command
-pub arrival_late :
+late-rebuilt :
     (accepted : List Command) (x : Command) (runs : List (List Item)) (m : ℕ) → list_any (same_name x) accepted ≡ false
     → IsChained runs → AllByRecursion (IsComplete accepted) runs → IsLastLate x runs m
     → settle (accepted ++ x ∷ []) (proposed_by_arrival x runs) ≡ rebuild (accepted ++ x ∷ []) (get_or runs m [] ++ Cmd x ∷ []) (suc m) runs
 unfolding settle rebuild IsChained which_repaired IsAhead
-arrival_late accepted x [] m new chained complete h = absurd (let there = h.there in omega arith)
-arrival_late accepted x (a ∷ rest) zero new chained complete h =
+late-rebuilt accepted x [] m new chained complete h = absurd (let there = h.there in omega arith)
+late-rebuilt accepted x (a ∷ rest) zero new chained complete h =
     let same : map (with_late x) (a ∷ rest) ≡ (a ++ Cmd x ∷ []) ∷ rest = rw (with_late-past x a h.late, none-late x rest h.none_behind) refl in
     let ahead = ahead-front (a ++ Cmd x ∷ []) a rest (Cmd x ∷ [], refl) chained.0 in
     ap (settle (accepted ++ x ∷ [])) same
     ∙ chained-settled (accepted ++ x ∷ []) ((a ++ Cmd x ∷ []) ∷ rest) (ahead, chained.1)
     ∙ ap (λ (l : List Item). l ∷ rest) (sym (rebuilt_level (accepted ++ x ∷ []) a (a ++ Cmd x ∷ []) (let e = beats-command x a in omega arith)))
-arrival_late accepted x (a ∷ []) (suc m) new chained complete h = absurd (let there = h.there in omega arith)
-arrival_late accepted x (a ∷ r ∷ rs) (suc m) new chained complete h =
+late-rebuilt accepted x (a ∷ []) (suc m) new chained complete h = absurd (let there = h.there in omega arith)
+late-rebuilt accepted x (a ∷ r ∷ rs) (suc m) new chained complete h =
     let b = get_or (r ∷ rs) m [] ++ Cmd x ∷ [] in
     let more = behind-late x a (r ∷ rs) m h in
     let in_rest : m < length (r ∷ rs) = more.there in
@@ -204,7 +219,7 @@ arrival_late accepted x (a ∷ r ∷ rs) (suc m) new chained complete h =
     let late_here : x.time < beats a = (let late = h.late in omega arith) in
     let own = with_late-past x a late_here in
     let behind : settle (accepted ++ x ∷ []) (map (with_late x) (r ∷ rs)) ≡ rebuilt (accepted ++ x ∷ []) r (get_or (r ∷ rs) m [] ++ Cmd x ∷ []) ∷ rebuild (accepted ++ x ∷ []) (get_or (r ∷ rs) m [] ++ Cmd x ∷ []) m rs =
-    arrival_late accepted x (r ∷ rs) m new chained.1 complete.1 more in
+    late-rebuilt accepted x (r ∷ rs) m new chained.1 complete.1 more in
     let marks = arrival-marks accepted x (a ∷ r ∷ rs) new chained complete (late-any x (a ∷ r ∷ rs) (suc m) h) in
     let clock = last_late-at x (a ∷ r ∷ rs) (suc m) chained h in
     let head : is_repaired (with_late x a) (settle (accepted ++ x ∷ []) (map (with_late x) (r ∷ rs))) ≡ ltb (last_late_clock x (a ∷ r ∷ rs)) (beats a) = cc in
@@ -232,12 +247,15 @@ arrival_late accepted x (a ∷ r ∷ rs) (suc m) new chained complete h =
     ]
     refl
 
--- and so many copies are repaired
-pub arrival_late_count :
+-- and the copies with a greater clock are repaired
+pub arrival_late :
     (accepted : List Command) (x : Command) (runs : List (List Item)) (m : ℕ) → list_any (same_name x) accepted ≡ false
     → IsChained runs → AllByRecursion (IsComplete accepted) runs → IsLastLate x runs m
-    → repaired (accepted ++ x ∷ []) (proposed_by_arrival x runs) ≡ times (λ run. ltb (beats (get_or runs m [])) (beats run)) runs
-arrival_late_count accepted x runs m new chained complete h =
-    ap (times (λ (b : Bool). b)) (arrival-marks accepted x runs new chained complete (late-any x runs m h))
-    ∙ count-marks (λ run. ltb (last_late_clock x runs) (beats run)) runs
-    ∙ ap (λ (k : ℕ). times (λ run. ltb k (beats run)) runs) (last_late-at x runs m chained h)
+    → (settle (accepted ++ x ∷ []) (proposed_by_arrival x runs) ≡ rebuild (accepted ++ x ∷ []) (get_or runs m [] ++ Cmd x ∷ []) (suc m) runs)
+    × (repaired (accepted ++ x ∷ []) (proposed_by_arrival x runs) ≡ times (λ run. ltb (beats (get_or runs m [])) (beats run)) runs)
+arrival_late accepted x runs m new chained complete h = (
+  late-rebuilt accepted x runs m new chained complete h,
+  ap (times (λ (b : Bool). b)) (arrival-marks accepted x runs new chained complete (late-any x runs m h))
+      ∙ count-marks (λ run. ltb (last_late_clock x runs) (beats run)) runs
+      ∙ ap (λ (k : ℕ). times (λ run. ltb k (beats run)) runs) (last_late-at x runs m chained h),
+)

@@ -15,9 +15,10 @@ use Rattle.sync_model.specs.Change.{with_tick, proposed_by_step}
 use Rattle.sync_model.specs.Staggered.{IsAhead, IsChained, IsComplete}
 use Rattle.sync_model.specs.Repairs.{AreFirst, repaired_by_step}
 use Rattle.sync_model.proofs.Settle.{begins_with-Decides, IsFirstAtMost, NeverRises, beats-rebuilt, settle-beats, settle-each}
-use Rattle.sync_model.proofs.Proposals.{complete-rebuilt, complete-tick, equal_clocks}
+use Rattle.sync_model.proofs.Proposals.{complete-rebuilt, complete-tick}
 use Rattle.sync_model.proofs.Lists.{all-set}
 use Rattle.sync_model.proofs.Trailing.{chained-falls, IsBehindAhead, step-beats, set-falls}
+use Rattle.sync_model.proofs.Drain.{equal_clocks}
 
 -- of two fronts of one list, one is a front of the other
 pub fronts-compare : {X : Type 0} (a b w : List X) → IsPrefix a w → IsPrefix b w → IsPrefix a b ⊎ IsPrefix b a

@@ -24,6 +24,10 @@ go_first from = go_named from 0
 abbrev pub go_at : ℕ → Command
 go_at time = record { time = time; from = 0; number = 0; player = 0; act = Go }
 
+-- a command to go at tick 2, the second of mirror 0
+abbrev pub go_next : Command
+go_next = record { time = 2; from = 0; number = 1; player = 0; act = Go }
+
 -- a match of four ticks with one copy without delay
 abbrev pub one_copy : {W : Type 0} → W → MirrorState W
 one_copy opening = opening_state opening 4 ((0 ∷ []) ∷ []) 8 0
@@ -61,6 +65,10 @@ late_after_three = turns_of 3 3 ++ Arrive (go_at 1) ∷ []
 
 abbrev pub late_after_five : List Event
 late_after_five = turns_of 3 5 ++ Arrive (go_at 1) ∷ []
+
+-- after three turns the command of tick 2 arrives too
+abbrev pub both_late : List Event
+both_late = late_after_three ++ Arrive go_next ∷ []
 
 -- five ticks, and three steps each of copies 0 and 1
 abbrev pub level : List Event
@@ -127,6 +135,10 @@ beat n = replicate n Beat
 -- a run of n beats with a command after so many of them
 abbrev pub run_with : Command → ℕ → ℕ → List Item
 run_with x at n = beat at ++ Cmd x ∷ beat (n - at)
+
+-- a run of n beats with the commands of ticks 1 and 2 in their places
+abbrev pub run_both : ℕ → List Item
+run_both n = Beat ∷ Cmd (go_at 1) ∷ Beat ∷ Cmd go_next ∷ beat (n - 2)
 
 -- a run of four beats with two commands of tick 0
 abbrev pub run_tied : Command → Command → List Item

@@ -20,10 +20,9 @@ pub use room::{
     from_history_kept, from_history_reached, opening_from_history, room_decides_nothing, room_spent,
 };
 pub use settling::{
-    arrival_count, arrival_early, arrival_late, arrival_late_count, arrival_repairs,
-    arrival_repairs_first, begins_with_prefix, last_late, rebuilt_level, rebuilt_twice,
-    settled_chained, step_apart, step_count, step_first, step_front, step_repairs,
-    step_repairs_first,
+    arrival_count, arrival_early, arrival_late, arrival_repairs, arrival_repairs_first,
+    begins_with_prefix, last_late, rebuilt_level, rebuilt_twice, settled_chained, step_apart,
+    step_count, step_first, step_front, step_repairs, step_repairs_first,
 };
 pub use staggered::{
     fits_kept, fixed_parts_kept, opening_staggered, staggered_along, staggered_kept,

@@ -9,7 +9,7 @@ ghost use Rattle.game_trait.specs.declared.event.Arrived.TheVariants.{Taken, Rep
 ghost use Rattle.game_trait.specs.declared.event.Stepped.TheVariants.{Ran, Idle};
 ghost use Rattle.sync_model.specs.Change.{after};
 ghost use Rattle.sync_model.specs.Turns.{turn_events, turns_of, drain};
-ghost use Rattle.sync_model.specs.Worked.{go_named, go_first, go_at, one_copy, two_copies, one_tick, three_copies, closer_plan, wider_plan, one_late, one_in_time, late_after_three, late_after_five, level, level_late, side_by_side, opposite, forward, back, back_late, answer_after, answers_after, runs_after, Outcome, outcome, beat, run_with, run_tied};
+ghost use Rattle.sync_model.specs.Worked.{go_named, go_first, go_at, go_next, one_copy, two_copies, one_tick, three_copies, closer_plan, wider_plan, one_late, one_in_time, late_after_three, late_after_five, both_late, level, level_late, side_by_side, opposite, forward, back, back_late, answer_after, answers_after, runs_after, Outcome, outcome, beat, run_with, run_both, run_tied};
 
 use game_trait::Game;
 
@@ -64,6 +64,19 @@ pub fn repaired_by_the_next_copy<G: Game>()
           repairs = 1;
           runs = replicate 3 (run_with (go_at 1) 1 8);
         } }
+{}
+
+/// The same, with a command of tick 2 that is late at copy 0 too: when copy 0 is repaired, what it executes again has the newcomer
+/// in its place.
+pub fn newcomers_are_replayed<G: Game>()
+    ensures runs { (o : G) → runs_after (three_copies o) both_late
+        ≡ (beat 3 ++ Cmd (go_at 1) ∷ Cmd go_next ∷ []) ∷ beat 1 ∷ [] ∷ [] }
+    ensures step { (o : G)
+        → answer_after (three_copies o) (both_late ++ Tick ∷ []) (Step 1) ≡ ToStep (Ran 1) }
+    ensures repaired { (o : G) → runs_after (three_copies o) (both_late ++ Tick ∷ Step 1 ∷ [])
+        ≡ run_both 3 ∷ run_with (go_at 1) 1 2 ∷ [] ∷ [] }
+    ensures drained { (o : G) → outcome (three_copies o) both_late
+        ≡ record { accepted = 2; turned = 0; repairs = 1; runs = replicate 3 (run_both 8) } }
 {}
 
 /// The clocks are 5, 3 and 1: the command is late at copies 0 and 1, and copy 0 is repaired at once. When copy 2 runs tick 1, both

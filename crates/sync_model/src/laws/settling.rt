@@ -22,18 +22,21 @@ use game_trait::Game;
 
 /// The test of whether a run begins with another decides just that.
 pub fn begins_with_prefix()
-    ensures { (ahead behind : List Item) → (begins_with ahead behind ≡ true) ↔ IsPrefix behind ahead }
+    ensures { (ahead behind : List Item)
+        → (begins_with ahead behind ≡ true) ↔ IsPrefix behind ahead }
 {}
 
 /// Settled runs are chained, whatever was proposed: each begins with the run behind it.
 pub fn settled_chained()
-    ensures { (accepted : List Command) (proposed : List (List Item)) → IsChained (settle accepted proposed) }
+    ensures { (accepted : List Command) (proposed : List (List Item))
+        → IsChained (settle accepted proposed) }
 {}
 
 /// The copies that an arrival repairs are the first so many from copy 0 on.
 pub fn arrival_repairs_first()
     ensures { (accepted : List Command) (x : Command) (runs : List (List Item))
-        → list_any (same_name x) accepted ≡ false → IsChained runs → AllByRecursion (IsComplete accepted) runs
+        → list_any (same_name x) accepted ≡ false
+        → IsChained runs → AllByRecursion (IsComplete accepted) runs
         → AreFirst (which_repaired (accepted ++ x ∷ []) (proposed_by_arrival x runs)) }
 {}
 
@@ -49,7 +52,8 @@ pub fn step_repairs_first()
 /// copy at which it is late.
 pub fn arrival_count()
     ensures { (accepted : List Command) (x : Command) (runs : List (List Item))
-        → list_any (same_name x) accepted ≡ false → IsChained runs → AllByRecursion (IsComplete accepted) runs
+        → list_any (same_name x) accepted ≡ false
+        → IsChained runs → AllByRecursion (IsComplete accepted) runs
         → repaired (accepted ++ x ∷ []) (proposed_by_arrival x runs) ≡ repaired_by_arrival x runs }
 {}
 
@@ -74,20 +78,24 @@ pub fn arrival_repairs<G: Game>()
 /// So many are repaired by a step that a staggered mirror runs.
 pub fn step_repairs<G: Game>()
     ensures { (s : MirrorState G) (c : ℕ) → IsStaggered s → c < length s.runs
-        → said s (Step c) ≡ ToStep (if is_idle s c then Idle else Ran (repaired_by_step s.accepted s.runs c)) }
+        → said s (Step c)
+        ≡ ToStep (if is_idle s c then Idle else Ran (repaired_by_step s.accepted s.runs c)) }
 {}
 
 /// A step of copy 0 changes no other run.
 pub fn step_first()
     ensures { (accepted : List Command) (runs : List (List Item)) → IsChained runs
-        → settle accepted (proposed_by_step accepted runs 0) ≡ proposed_by_step accepted runs 0 }
+        → let proposed = proposed_by_step accepted runs 0 in
+        (settle accepted proposed ≡ proposed) × (repaired accepted proposed ≡ 0) }
 {}
 
 /// Where the run ahead begins with the new run, a step changes no other run.
 pub fn step_front()
     ensures { (accepted : List Command) (runs : List (List Item)) (c : ℕ) → IsChained runs
-        → begins_with (slice_index_or runs c []) (with_tick accepted (slice_index_or runs (suc c) [])) ≡ true
-        → settle accepted (proposed_by_step accepted runs (suc c)) ≡ proposed_by_step accepted runs (suc c) }
+        → let new = with_tick accepted (slice_index_or runs (suc c) []) in
+        let proposed = proposed_by_step accepted runs (suc c) in
+        begins_with (slice_index_or runs c []) new ≡ true
+        → (settle accepted proposed ≡ proposed) × (repaired accepted proposed ≡ 0) }
 {}
 
 /// Where the run ahead doesn't begin with the new run, every run ahead becomes the new run, followed by the ordered part up to
@@ -97,15 +105,19 @@ pub fn step_apart()
         → IsChained runs → AllByRecursion (IsComplete accepted) runs
         → suc c < length runs → copy_clock runs (suc c) < copy_clock runs c
         → let new = with_tick accepted (slice_index_or runs (suc c) []) in
+        let proposed = proposed_by_step accepted runs (suc c) in
         begins_with (slice_index_or runs c []) new ≡ false
-        → settle accepted (proposed_by_step accepted runs (suc c)) ≡ rebuild accepted new (suc (suc c)) runs }
+        → (settle accepted proposed ≡ rebuild accepted new (suc (suc c)) runs)
+        × (repaired accepted proposed ≡ suc c) }
 {}
 
 /// An arrival that is late at no copy changes no run.
 pub fn arrival_early()
     ensures { (accepted : List Command) (x : Command) (runs : List (List Item))
         → IsChained runs → list_any (is_late_at x) runs ≡ false
-        → settle (accepted ++ x ∷ []) (proposed_by_arrival x runs) ≡ runs }
+        → let proposed = proposed_by_arrival x runs in
+        (settle (accepted ++ x ∷ []) proposed ≡ runs)
+        × (repaired (accepted ++ x ∷ []) proposed ≡ 0) }
 {}
 
 /// An arrival that is late at some copy is late at a last one.
@@ -115,30 +127,28 @@ pub fn last_late()
 {}
 
 /// The last copy at which an arrival is late gains it at its run's end. Every run ahead becomes that run, followed by the ordered
-/// part up to the clock that it had: so a run with the clock of that copy gains it at its end too.
+/// part up to the clock that it had: so a run with the clock of that copy gains it at its end too, and those with a greater clock
+/// are repaired.
 pub fn arrival_late()
     ensures { (accepted : List Command) (x : Command) (runs : List (List Item)) (m : ℕ)
-        → list_any (same_name x) accepted ≡ false → IsChained runs → AllByRecursion (IsComplete accepted) runs
-        → IsLastLate x runs m
-        → settle (accepted ++ x ∷ []) (proposed_by_arrival x runs)
-        ≡ rebuild (accepted ++ x ∷ []) (slice_index_or runs m [] ++ Cmd x ∷ []) (suc m) runs }
-{}
-
-/// It repairs the copies whose clock is greater than that copy's.
-pub fn arrival_late_count()
-    ensures { (accepted : List Command) (x : Command) (runs : List (List Item)) (m : ℕ)
-        → list_any (same_name x) accepted ≡ false → IsChained runs → AllByRecursion (IsComplete accepted) runs
-        → IsLastLate x runs m
-        → repaired (accepted ++ x ∷ []) (proposed_by_arrival x runs) ≡ times (λ run. nat_lt (copy_clock runs m) (beats run)) runs }
+        → list_any (same_name x) accepted ≡ false
+        → IsChained runs → AllByRecursion (IsComplete accepted) runs → IsLastLate x runs m
+        → let all = accepted ++ x ∷ [] in
+        let new = slice_index_or runs m [] ++ Cmd x ∷ [] in
+        let proposed = proposed_by_arrival x runs in
+        (settle all proposed ≡ rebuild all new (suc m) runs)
+        × (repaired all proposed ≡ times (λ run. nat_lt (copy_clock runs m) (beats run)) runs) }
 {}
 
 /// A run that is rebuilt from a rebuilt one is rebuilt from what that one was rebuilt from.
 pub fn rebuilt_twice()
-    ensures { (accepted : List Command) (ahead middle base : List Item) → beats base ≤ beats middle → beats middle ≤ beats ahead
+    ensures { (accepted : List Command) (ahead middle base : List Item)
+        → beats base ≤ beats middle → beats middle ≤ beats ahead
         → rebuilt accepted ahead (rebuilt accepted middle base) ≡ rebuilt accepted ahead base }
 {}
 
 /// A run that is rebuilt from one with no lower clock is that one.
 pub fn rebuilt_level()
-    ensures { (accepted : List Command) (ahead base : List Item) → beats ahead ≤ beats base → rebuilt accepted ahead base ≡ base }
+    ensures { (accepted : List Command) (ahead base : List Item)
+        → beats ahead ≤ beats base → rebuilt accepted ahead base ≡ base }
 {}
