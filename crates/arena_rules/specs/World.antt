@@ -3,7 +3,7 @@ use Rattle.std.specs.Prelude.{◌≡◌, ℕ, ◌+◌, ◌≤◌, ◌<◌, ◌^�
 use Rattle.std.specs.List.{list_any, list_all, IsDistinct}
 use Rattle.game_trait.specs.Game.{Rules}
 use Rattle.game_trait.specs.declared.command.Act.{Act}
-use Rattle.game_trait.specs.declared.command.Act.TheVariants.{Go, Left, Right, Shoot}
+use Rattle.game_trait.specs.declared.command.Act.TheVariants.{Go, Left, Right, Shoot, Dash}
 use Rattle.game_trait.specs.declared.command.Command.{Command}
 use Rattle.arena_rules.specs.Ground.{Grid, IsGrid, is_open}
 use Rattle.arena_rules.specs.Setup.{Layout, Cell, same_cell, spot_cell}
@@ -83,6 +83,7 @@ acted world number player Go = with_player world number (gone world player (ahea
 acted world number player Left = with_player world number (turned_to player (turned_left player.spot.face))
 acted world number player Right = with_player world number (turned_to player (turned_right player.spot.face))
 acted world number player Shoot = world
+acted world number player Dash = world
 
 -- the world after the act of a player who is there or not: nothing changes where he isn't
 abbrev pub acted_if_there : World → ℕ → Option Player → Act → World

@@ -143,6 +143,7 @@ impl Game for Arena {
             Act::Left => self.put(x.player, player.turned_to(player.spot.face.turned_left())),
             Act::Right => self.put(x.player, player.turned_to(player.spot.face.turned_right())),
             Act::Shoot => {}
+            Act::Dash => {}
         }
     }
 

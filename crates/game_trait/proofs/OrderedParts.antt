@@ -20,7 +20,7 @@ unfolding beats
 beats-tick_of accepted t = beats-append (map Cmd (due_at accepted t)) (Beat ∷ []) ∙ rw (beats-map_Cmd (due_at accepted t)) refl
 
 -- so many ticks have so many beats
-pub beats-ticks : (accepted : List Command) (t n : ℕ) → beats (ticks accepted t n) ≡ n
+beats-ticks : (accepted : List Command) (t n : ℕ) → beats (ticks accepted t n) ≡ n
 unfolding ticks beats
 beats-ticks accepted t zero = refl
 beats-ticks accepted t (suc n) =
@@ -31,7 +31,7 @@ pub beats-ordered : (accepted : List Command) (i j : ℕ) → beats (ordered acc
 beats-ordered accepted i j = beats-ticks accepted i (j - i)
 
 -- ticks go on where they end
-pub ticks-join : (accepted : List Command) (t m n : ℕ) → ticks accepted t (m + n) ≡ ticks accepted t m ++ ticks accepted (t + m) n
+ticks-join : (accepted : List Command) (t m n : ℕ) → ticks accepted t (m + n) ≡ ticks accepted t m ++ ticks accepted (t + m) n
 unfolding ticks
 ticks-join accepted t zero n = (let e : 0 + n ≡ n = omega arith in let f : t + 0 ≡ t = omega arith in rw (e, f) refl)
 ticks-join accepted t (suc m) n =

@@ -6,7 +6,7 @@ use Rattle.std.proofs.lemmas.Bool.{ltb-false, ltb-true, lt-ltb, le-ltb, and_part
 use Rattle.std.proofs.lemmas.Fmt.{length-decimal-le}
 use Rattle.std.proofs.lemmas.Slice.Eq.{bytes_eq-Decides}
 use Rattle.game_trait.specs.declared.command.Act.{Act}
-use Rattle.game_trait.specs.declared.command.Act.TheVariants.{Go, Left, Right, Shoot}
+use Rattle.game_trait.specs.declared.command.Act.TheVariants.{Go, Left, Right, Shoot, Dash}
 use Rattle.game_trait.specs.declared.command.Command.{Command}
 use Rattle.arena_rules.specs.declared.face.Face.{Face}
 use Rattle.arena_rules.specs.declared.face.Face.TheVariants.{N, E, S, W}
@@ -14,6 +14,7 @@ use Rattle.tss_io.specs.Decimals.{number_of}
 use Rattle.tss_io.specs.Reading.{◌>>=◌}
 use Rattle.tss_io.proofs.DecimalLaws.{number_of-some, number_of-decimal}
 use Rattle.tss_io.proofs.Reading.{bind_ok, then, guard_ok, unless_ok}
+use Rattle.match_file.specs.Data.{IsPlainAct}
 use Rattle.match_file.specs.declared.fault.Refused.{Refused}
 use Rattle.match_file.specs.declared.opening.Opening.{Opening}
 use Rattle.match_file.specs.declared.opening.Sides.{Sides}
@@ -277,24 +278,26 @@ face_fits E = (refl, lit≤ tt)
 face_fits S = (refl, lit≤ tt)
 face_fits W = (refl, lit≤ tt)
 
-act_takes : (word : List ℕ) (act : Act) → act_of word ≡ Ok act → (word ≡ act_word act) × (act ≢ Shoot)
+act_takes : (word : List ℕ) (act : Act) → act_of word ≡ Ok act → (word ≡ act_word act) × IsPlainAct act
 unfolding act_of
 act_takes word act e =
-    let P : Act → Type 0 = λ x. (word ≡ act_word x) × (x ≢ Shoot) in
-    chosen P _ Go _ act (λ h. (same_words word (act_word Go) h, λ e. cc)) (λ e. chosen P _ Left _ act (λ h. (same_words word (act_word Left) h, λ e. cc)) (λ e. chosen P _ Right _ act (λ h. (same_words word (act_word Right) h, λ e. cc)) (λ e. absurd cc) e) e) e
+    let P : Act → Type 0 = λ x. (word ≡ act_word x) × IsPlainAct x in
+    chosen P _ Go _ act (λ h. (same_words word (act_word Go) h, (λ e. cc, λ e. cc))) (λ e. chosen P _ Left _ act (λ h. (same_words word (act_word Left) h, (λ e. cc, λ e. cc))) (λ e. chosen P _ Right _ act (λ h. (same_words word (act_word Right) h, (λ e. cc, λ e. cc))) (λ e. absurd cc) e) e) e
 
-act_again : (act : Act) → act ≢ Shoot → act_of (act_word act) ≡ Ok act
+act_again : (act : Act) → IsPlainAct act → act_of (act_word act) ≡ Ok act
 unfolding act_of
 act_again Go h = refl
 act_again Left h = refl
 act_again Right h = refl
-act_again Shoot h = absurd (h refl)
+act_again Shoot h = absurd (h.0 refl)
+act_again Dash h = absurd (h.1 refl)
 
 act_fits : (act : Act) → IsWord (act_word act) × (length (act_word act) ≤ 5)
 act_fits Go = (refl, lit≤ tt)
 act_fits Left = (refl, lit≤ tt)
 act_fits Right = (refl, lit≤ tt)
 act_fits Shoot = (refl, lit≤ tt)
+act_fits Dash = (refl, lit≤ tt)
 
 -- ---- a player's line
 
@@ -361,7 +364,7 @@ pub record IsPlainCommand (ticks : ℕ) (x : Command) : Type 0 where
   pub from : x.from ≤ 0
   pub number : x.number ≤ 999999
   pub player : x.player ≤ 0
-  pub act : x.act ≢ Shoot
+  pub act : IsPlainAct x.act
 
 pub command_takes : (ticks : ℕ) (l : List ℕ) (x : Command) → command_at ticks l ≡ Ok x → (l ≡ spaced (command_line x)) × IsPlainCommand ticks x
 unfolding command_at

@@ -3,7 +3,6 @@ use Rattle.std.proofs.Common.{◌≡◌, ◌≢◌, ℕ, zero, suc, ◌<◌, Boo
 use Rattle.std.specs.Prelude.{decimal, replicate, filter, IfOk, IfErr}
 use Rattle.std.specs.List.{AllByRecursion, IsDistinct}
 use Rattle.std.proofs.lemmas.Bool.{lt-ltb, ltb-true, and_parts}
-use Rattle.game_trait.specs.declared.command.Act.TheVariants.{Shoot}
 use Rattle.game_trait.specs.declared.command.Command.{Command}
 use Rattle.arena_rules.specs.declared.spot.Spot.{Spot}
 use Rattle.arena_rules.specs.Ground.{Grid, open_grid, is_walled, is_open}
@@ -17,7 +16,7 @@ use Rattle.match_file.specs.declared.fault.TextFault.TheVariants as faults
 use Rattle.match_file.specs.declared.opening.Opening.{Opening}
 use Rattle.match_file.specs.declared.script_line.ScriptLine.{ScriptLine}
 use Rattle.match_file.specs.Lines.{Lines, line, lines_of, text_of, spaced}
-use Rattle.match_file.specs.Data.{MatchData, IsCommand, IsScriptLine, IsMatch, IsPlain, Rises}
+use Rattle.match_file.specs.Data.{MatchData, IsCommand, IsScriptLine, IsMatch, IsPlainAct, IsPlain, Rises}
 use Rattle.match_file.specs.Text.{head_words, length_word, grid_word, mirrors_word, delays_word, pace_word, before, below, walls_of, player_lines, player_line, command_line, match_lines, match_text}
 use Rattle.match_file.specs.Reading.{Gives, Fails, IsShape, PlayerData, plain_match, opening_at, player_at, commands_at, closing_at, events_at, match_at, read_text}
 use Rattle.match_file.proofs.Lines.{text_of-lines_of}
@@ -107,7 +106,7 @@ IsPlain-parts o p commands script h =
       player = refl;
       walls = refl;
       pickups = refl;
-      acts = all_map (IsPlainCommand o.length) (λ x. x.act ≢ Shoot) (λ x k. k.act) commands h.commands.each;
+      acts = all_map (IsPlainCommand o.length) (λ x. IsPlainAct x.act) (λ x k. k.act) commands h.commands.each;
       script = none_shown commands script h.script.each;
     }
 
@@ -115,7 +114,7 @@ all_both : {X : Type 0} (P Q R : X → Type 0) → ((x : X) → P x → Q x → 
 all_both P Q R step [] h k = tt
 all_both P Q R step (x ∷ xs) h k = (step x h.0 k.0, all_both P Q R step xs h.1 k.1)
 
-is_plain_command : (o : Opening) (p : PlayerData) (commands : List Command) (script : List ScriptLine) → o.mirrors ≡ 1 → (x : Command) → IsCommand (plain_match o p commands script) x → x.act ≢ Shoot → IsPlainCommand o.length x
+is_plain_command : (o : Opening) (p : PlayerData) (commands : List Command) (script : List ScriptLine) → o.mirrors ≡ 1 → (x : Command) → IsCommand (plain_match o p commands script) x → IsPlainAct x.act → IsPlainCommand o.length x
 is_plain_command o p commands script one x k act =
     let t = k.time in
     let f = k.from in
@@ -129,7 +128,7 @@ parts-IsPlain o p commands script h =
     let column = and_parts (ltb p.home.x o.sides.width) (ltb p.home.y o.sides.height && not (is_walled (open_grid o.sides.width o.sides.height) p.home.x p.home.y)) free.0 in
     let row = and_parts (ltb p.home.y o.sides.height) (not (is_walled (open_grid o.sides.width o.sides.height) p.home.x p.home.y)) column.1 in
     let each : AllByRecursion (IsPlainCommand o.length) commands =
-    all_both (IsCommand (plain_match o p commands script)) (λ x. x.act ≢ Shoot) (IsPlainCommand o.length) (is_plain_command o p commands script h.mirror) commands h.sound.commands h.acts
+    all_both (IsCommand (plain_match o p commands script)) (λ x. IsPlainAct x.act) (IsPlainCommand o.length) (is_plain_command o p commands script h.mirror) commands h.sound.commands h.acts
     in
     record {
       opening = record { ticks = h.sound.ticks; width = h.sound.layout.grid.width; height = h.sound.layout.grid.height; mirrors = (omega (arith, h.mirror), omega (arith, h.mirror)); delay = h.sound.delay.0; pace = h.sound.pace };

@@ -1,7 +1,8 @@
 -- A match as contracts see it, and which values are matches.
 use Rattle.std.specs.Prelude.{ℕ, ◌≡◌, ◌≢◌, ◌<◌, ◌≤◌, ◌-◌, Bool, true, false, List, [], ◌∷◌, length, replicate, slice_index, count_by, bytes_eq}
 use Rattle.std.specs.List.{AllByRecursion, IsDistinct}
-use Rattle.game_trait.specs.declared.command.Act.TheVariants.{Shoot}
+use Rattle.game_trait.specs.declared.command.Act.{Act}
+use Rattle.game_trait.specs.declared.command.Act.TheVariants.{Shoot, Dash}
 use Rattle.game_trait.specs.declared.command.Command.{Command}
 use Rattle.game_trait.specs.Keys.{NamesDiffer}
 use Rattle.arena_rules.specs.Setup.{Layout, IsLayout}
@@ -75,6 +76,10 @@ pub record IsMatch (m : MatchData) : Type 0 where
   pub script : AllByRecursion (IsScriptLine m) m.script
   pub shown : count_by shows m.script ≤ 1024
 
+-- an act of the plain form
+abbrev pub IsPlainAct : Act → Type 0
+IsPlainAct act = (act ≢ Shoot) × (act ≢ Dash)
+
 -- a match of one mirror, one copy and one player, without walls, pickups and shots, whose script prints no world and no run
 pub record IsPlain (m : MatchData) : Type 0 where
   pub sound : IsMatch m
@@ -83,5 +88,5 @@ pub record IsPlain (m : MatchData) : Type 0 where
   pub player : length m.names ≡ 1
   pub walls : m.layout.grid.walls ≡ replicate 64 0
   pub pickups : m.layout.pickups ≡ []
-  pub acts : AllByRecursion (λ x. x.act ≢ Shoot) m.commands
+  pub acts : AllByRecursion (λ x. IsPlainAct x.act) m.commands
   pub script : AllByRecursion (λ s. shows s ≡ false) m.script

@@ -1,7 +1,7 @@
 -- The text of a match, as lines of words.
 use Rattle.std.specs.Prelude.{ℕ, zero, suc, List, [], ◌∷◌, ◌++◌, map, filter, codes, decimal}
 use Rattle.game_trait.specs.declared.command.Act.{Act}
-use Rattle.game_trait.specs.declared.command.Act.TheVariants.{Go, Left, Right, Shoot}
+use Rattle.game_trait.specs.declared.command.Act.TheVariants.{Go, Left, Right, Shoot, Dash}
 use Rattle.game_trait.specs.declared.command.Command.{Command}
 use Rattle.arena_rules.specs.declared.face.Face.{Face}
 use Rattle.arena_rules.specs.declared.face.Face.TheVariants.{N, E, S, W}
@@ -92,6 +92,7 @@ act_word Go = codes "go"
 act_word Left = codes "left"
 act_word Right = codes "right"
 act_word Shoot = codes "shoot"
+act_word Dash = codes "dash"
 
 -- a wall's line, as its words
 abbrev pub wall_line : Cell → List (List ℕ)

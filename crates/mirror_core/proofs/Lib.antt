@@ -1,7 +1,5 @@
-pub mod Places
-pub mod Due
-pub mod Sound
-pub mod OneCopy
-pub mod Kept
-pub mod Names
-pub mod Calls
+mod PlanLaws
+mod Consistent
+mod OneCopy
+mod Kept
+mod Calls

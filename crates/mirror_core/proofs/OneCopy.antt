@@ -2,18 +2,19 @@
 use Rattle.std.proofs.Common.{◌≡◌, refl, ℕ, ◌-◌, true, false, [], ◌∷◌, ◌++◌, arith}
 use Rattle.std.proofs.lemmas.Bool.Decides.{nat_tests}
 use Rattle.game_trait.specs.declared.command.Command.{Command}
-use Rattle.game_trait.specs.declared.event.Event.TheVariants.{Tick, Arrive, Step}
-use Rattle.game_trait.specs.declared.event.Reply.TheVariants.{Tick as ToTick, Arrive as ToArrive, Step as ToStep}
+use Rattle.game_trait.specs.declared.event.Event.TheVariants.{Tick, Arrive, Step, Restagger}
+use Rattle.game_trait.specs.declared.event.Reply.TheVariants.{Tick as ToTick, Arrive as ToArrive, Step as ToStep, Restaggered}
 use Rattle.game_trait.specs.declared.event.Ticked.TheVariants.{Moved, Over}
 use Rattle.game_trait.specs.declared.event.Arrived.TheVariants.{Taken, Repeat, Late}
 use Rattle.game_trait.specs.declared.event.Stepped.TheVariants.{Ran, Idle}
 use Rattle.game_trait.specs.Run.{beats}
 use Rattle.game_trait.specs.Count.{times}
 use Rattle.game_trait.specs.Ordered.{tick_of}
-use Rattle.sync_model.specs.State.{MirrorState, last_of, last_clock}
+use Rattle.sync_model.specs.Lists.{last_of}
+use Rattle.sync_model.specs.State.{MirrorState, last_clock}
 use Rattle.sync_model.specs.Settle.{settle, settle_one, which_repaired, is_repaired}
 use Rattle.sync_model.specs.Change.{next, said, is_over, is_repeat, is_late, is_idle, with_late, with_tick}
-use Rattle.sync_model.proofs.Cases.{moved, away}
+use Rattle.sync_model.proofs.Cases.{moved, away, restaggered}
 use Rattle.sync_model.proofs.Proposals.{with_late-due}
 use Rattle.mirror_core.specs.Kept.{Parts, shown}
 
@@ -31,12 +32,12 @@ arrive_repeat s x again = (rw again refl, rw again refl)
 
 pub arrive_late :
     {W : Type 0} (s : MirrorState W) (x : Command) → is_repeat s x ≡ false → is_late s x ≡ true
-    → (next s (Arrive x) ≡ away s x) × (said s (Arrive x) ≡ ToArrive (Late (last_clock s)))
+    → (next s (Arrive x) ≡ away s x) × (said s (Arrive x) ≡ ToArrive (Late (last_clock s.runs)))
 unfolding next said
 arrive_late s x new late = (rw (new, late) refl, rw (new, late) refl)
 
 -- the last clock is the one run's
-pub last_clock-one : {W : Type 0} (m : Parts W) → last_clock (shown m) ≡ beats m.run
+pub last_clock-one : {W : Type 0} (m : Parts W) → last_clock (shown m).runs ≡ beats m.run
 unfolding last_of
 last_clock-one m = refl
 
@@ -68,3 +69,7 @@ pub step_ran :
     → (next (shown m) (Step 0) ≡ shown (with_one_tick m)) × (said (shown m) (Step 0) ≡ ToStep (Ran 0))
 unfolding next said settle settle_one which_repaired is_repaired times with_tick
 step_ran m more = (rw more refl, rw more refl)
+
+pub restagger_one : {W : Type 0} (s : MirrorState W) (p : ℕ) → (next s (Restagger p) ≡ restaggered s p) × (said s (Restagger p) ≡ Restaggered)
+unfolding next said
+restagger_one s p = (refl, refl)

@@ -1,5 +1,6 @@
 -- What a mirror of one copy holds, and what is always true of it.
-use Rattle.std.specs.Prelude.{◌≡◌, ℕ, ◌+◌, ◌-◌, ◌≤◌, ◌^◌, nat_le, List, [], ◌∷◌, length}
+use Rattle.std.specs.Prelude.{◌≡◌, ℕ, ◌+◌, ◌-◌, ◌≤◌, ◌^◌, nat_le, List, [], ◌∷◌, length, map}
+use Rattle.std.specs.List.{AllByRecursion}
 use Rattle.game_trait.specs.declared.command.Command.{Command}
 use Rattle.game_trait.specs.declared.command.Item.{Item}
 use Rattle.game_trait.specs.declared.event.Event.{Event}
@@ -8,25 +9,20 @@ use Rattle.game_trait.specs.Run.{beats, world_of}
 use Rattle.game_trait.specs.Keys.{in_key_order}
 use Rattle.game_trait.specs.Count.{times}
 use Rattle.sync_model.specs.declared.turned.Turned.{Turned}
-use Rattle.sync_model.specs.State.{MirrorState, longest_delay}
-use Rattle.sync_model.specs.Staggered.{IsStaggered, IsWellFormed}
-use Rattle.sync_model.specs.History.{opening_of, IsFromHistory, EachChanges, repairs}
-use Rattle.stagger_clock.specs.Schedule.{Schedule}
+use Rattle.sync_model.specs.Schedule.{Schedule}
+use Rattle.sync_model.specs.State.{MirrorState}
+use Rattle.sync_model.specs.Staggered.{greatest_delay}
+use Rattle.sync_model.specs.Consistent.{IsConsistent}
+use Rattle.sync_model.specs.History.{repairs}
 
--- the state of a mirror of one copy
-abbrev pub state_of : {W : Type 0} → W → Schedule → ℕ → List Command → List Turned → List Item → List Event → ℕ → MirrorState W
-state_of opening stagger clock accepted turned run history spare =
-    record {
-      opening = opening;
-      length = stagger.length;
-      delays = stagger.delays;
-      clock = clock;
-      accepted = accepted;
-      turned = turned;
-      runs = run ∷ [];
-      history = history;
-      spare = spare;
-    }
+-- the delays of each plan
+abbrev pub delays_of_each : List Schedule → List (List ℕ)
+delays_of_each plans = map (λ plan. plan.delays) plans
+
+-- the ticks of the first plan
+abbrev pub ticks_of_first : List Schedule → ℕ
+ticks_of_first [] = 0
+ticks_of_first (plan ∷ plans) = plan.length
 
 -- how much the lists of a mirror may hold
 pub record Room : Type 0 where
@@ -39,13 +35,17 @@ pub record Room : Type 0 where
 -- what a mirror of one copy holds: the parts of its state, and beside them
 pub record Parts (W : Type 0) : Type 0 where
   pub opening : W
-  pub stagger : Schedule
+  -- the match's length, its plans, and the number of the one in force
+  pub ticks : ℕ
+  pub plans : List Schedule
+  pub plan : ℕ
   pub clock : ℕ
   pub accepted : List Command
   pub turned : List Turned
   pub run : List Item
   pub history : List Event
   pub spare : ℕ
+  pub plan_spare : ℕ
   -- the copy's live world and its clock
   pub world : W
   pub run_clock : ℕ
@@ -55,14 +55,20 @@ pub record Parts (W : Type 0) : Type 0 where
 
 -- the state of a mirror that holds these parts
 abbrev pub shown : {W : Type 0} → Parts W → MirrorState W
-shown m = state_of m.opening m.stagger m.clock m.accepted m.turned m.run m.history m.spare
-
--- what is always true of a mirror's state
-pub record IsSound {W : Type 0} (s : MirrorState W) : Type 0 where
-  pub staggered : IsStaggered s
-  pub well_formed : IsWellFormed s
-  pub from_history : IsFromHistory s
-  pub each_changes : EachChanges (opening_of s) s.history
+shown m =
+    record {
+      opening = m.opening;
+      length = m.ticks;
+      plans = delays_of_each m.plans;
+      plan = m.plan;
+      clock = m.clock;
+      accepted = m.accepted;
+      turned = m.turned;
+      runs = m.run ∷ [];
+      history = m.history;
+      spare = m.spare;
+      plan_spare = m.plan_spare;
+    }
 
 -- there is room for all that may still come
 pub record HasRoomLeft {W : Type 0} (m : Parts W) : Type 0 where
@@ -70,16 +76,17 @@ pub record HasRoomLeft {W : Type 0} (m : Parts W) : Type 0 where
   pub to_place : length m.accepted + m.spare ≤ m.room.in_order
   pub to_turn_away : length m.turned + m.spare ≤ m.room.turned
   pub to_run :
-      length m.run + (m.stagger.length - beats m.run) + times (λ x. nat_le (beats m.run) x.time) m.accepted + m.spare
+      length m.run + (m.ticks - beats m.run) + times (λ x. nat_le (beats m.run) x.time) m.accepted + m.spare
       ≤ m.room.run
   pub short_runs : m.room.run ≤ 2 ^ 21
   pub to_note :
-      length m.history + (m.stagger.length + longest_delay (shown m) - m.clock) + (m.stagger.length - beats m.run) + m.spare
+      length m.history + (m.ticks + greatest_delay (delays_of_each m.plans) - m.clock) + (m.ticks - beats m.run) + m.spare + m.plan_spare
       ≤ m.room.history
 
 -- what is always true of a mirror that holds these parts
 pub record IsKept {W : Type 0} (rules : Rules W) (m : Parts W) : Type 0 where
-  pub sound : IsSound (shown m)
+  pub consistent : IsConsistent (shown m)
+  pub ticks_each : AllByRecursion (λ plan. plan.length ≡ m.ticks) m.plans
   pub world_of_run : m.world ≡ world_of rules m.opening m.run
   pub clock_of_run : m.run_clock ≡ beats m.run
   pub key_order : m.in_order ≡ in_key_order m.accepted

@@ -1,10 +1,11 @@
-//! One mirror of a match: it takes ticks, arrivals and steps, and is at every moment a state of `sync_model`.
+//! One mirror of a match: it takes ticks, arrivals, steps and changes of its plan, and is at every moment a state of
+//! `sync_model`.
 #![tactic(auto)]
 
-mod accepted;
 mod commands;
 mod lists;
 mod mirror;
+mod plans;
 
-pub use mirror::{MOST_ROOM, Mirror};
+pub use mirror::Mirror;
 pub use sync_model::Turned;

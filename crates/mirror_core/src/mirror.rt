@@ -1,37 +1,42 @@
 //! A mirror of a match.
 
 ghost use Rattle.std.specs.Prelude.{◌≡◌, ◌<◌, ◌≤◌, IfOk, [], length, slice_get, slice_index_or};
+ghost use Rattle.std.specs.List.{AllByRecursion};
 ghost use Rattle.game_trait.specs.Run.{world_of};
-ghost use Rattle.sync_model.specs.State.{opening_state, copy_clock as clock_of};
+ghost use Rattle.sync_model.specs.State.{opening_state, schedule_of, copy_clock as clock_of};
 ghost use Rattle.sync_model.specs.Change.{next, said, Fits};
-ghost use Rattle.sync_model.specs.Staggered.{IsStaggered, IsWellFormed};
-ghost use Rattle.sync_model.specs.History.{HasRoom, IsFromHistory, EachChanges, opening_of, repairs as repairs_of};
+ghost use Rattle.sync_model.specs.Consistent.{IsConsistent};
+ghost use Rattle.sync_model.specs.History.{HasRoom, repairs as repairs_of};
 ghost use Rattle.sync_model.specs.Turns.{is_drained};
+ghost use Rattle.mirror_core.specs.Kept.{delays_of_each, ticks_of_first};
 
-use crate::accepted::Accepted;
 use crate::commands::{place, run_tick};
 use crate::lists::Lists;
-use game_trait::{Arrived, Command, Event, Game, Item, Reply, Stepped, Tick, Ticked};
+use crate::plans::greatest;
+use game_trait::limits::{MOST_PLANS, MOST_ROOM};
+use game_trait::{Arrived, Command, CommandList, Event, Game, Item, Reply, Stepped, Tick, Ticked};
 use stagger_clock::Stagger;
 use std::alloc::Global;
 use std::marker::Model;
 use sync_model::Turned;
 use tss_io::NoMemory;
 
-/// How many arrivals a mirror may have room for.
-pub const MOST_ROOM: u32 = 1_048_576;
-
 /// A mirror of a match. Contracts see it as a state of the model, which says what each event changes and what is
 /// answered. Only `new` takes memory. A mirror has one copy of the world, which its run tells.
 #[derive(Drop)]
 pub struct Mirror<G: Game> {
     opening: G,
-    stagger: Stagger,
+    // the match's length
+    ticks: Tick,
+    plans: Vec<Stagger>,
+    // the number of the plan in force
+    plan: u8,
     clock: Tick,
-    accepted: Accepted,
+    accepted: CommandList,
     turned: Vec<Turned>,
     history: Vec<Event>,
     spare: u32,
+    plan_spare: u32,
     world: G,
     run: Vec<Item>,
     // the beats of the run
@@ -41,13 +46,25 @@ pub struct Mirror<G: Game> {
 }
 
 impl<G: Game> Model for Mirror<G> {
-    ghost use Rattle.std.specs.Prelude.{vec_capacity};
+    ghost use Rattle.std.specs.Prelude.{[], ◌∷◌, vec_capacity};
     ghost use Rattle.sync_model.specs.State.{MirrorState};
-    ghost use Rattle.mirror_core.specs.Kept.{state_of, Room, Parts, IsKept};
+    ghost use Rattle.mirror_core.specs.Kept.{delays_of_each, Room, Parts, IsKept};
 
     ghost Value = { MirrorState G };
 
-    ghost view = { λ m. state_of m.opening m.stagger m.clock m.accepted.items m.turned.items m.run.items m.history.items m.spare };
+    ghost view = { λ m. record {
+      opening = m.opening;
+      length = m.ticks;
+      plans = delays_of_each m.plans.items;
+      plan = m.plan;
+      clock = m.clock;
+      accepted = m.accepted.items;
+      turned = m.turned.items;
+      runs = m.run.items ∷ [];
+      history = m.history.items;
+      spare = m.spare;
+      plan_spare = m.plan_spare;
+    } };
 
     ghost invariant = { λ m.
         let room : Room = record {
@@ -59,13 +76,16 @@ impl<G: Game> Model for Mirror<G> {
         } in
         let parts : Parts G = record {
           opening = m.opening;
-          stagger = m.stagger;
+          ticks = m.ticks;
+          plans = m.plans.items;
+          plan = m.plan;
           clock = m.clock;
           accepted = m.accepted.items;
           turned = m.turned.items;
           run = m.run.items;
           history = m.history.items;
           spare = m.spare;
+          plan_spare = m.plan_spare;
           world = m.world;
           run_clock = m.run_clock;
           in_order = m.in_order.items;
@@ -75,36 +95,48 @@ impl<G: Game> Model for Mirror<G> {
 }
 
 impl<G: Game> Mirror<G> {
-    /// A mirror before any event, with room for so many arrivals that are taken or turned away, at most 1,048,576, and
-    /// with a stagger of one copy. It takes all the memory that the mirror ever needs, and keeps a twin of the opening.
-    /// Want of memory makes nothing.
+    /// A mirror before any event, with 1 to 8 plans of as many ticks each, of which the first is in force, and each of one
+    /// copy; with room for so many arrivals that are taken or turned away, and so many changes of the plan, each at most
+    /// 1,048,576. It takes all the memory that the mirror ever needs, and keeps a twin of the opening. Want of memory makes
+    /// nothing.
     pub fn new(
         alloc: Global,
         opening: &G,
-        stagger: Stagger,
+        plans: &[Stagger],
         room: u32,
+        restaggers: u32,
     ) -> Result<Mirror<G>, NoMemory>
+        requires some_plan { 0 < length plans.now }
+        requires few_plans { length plans.now ≤ MOST_PLANS }
+        requires equal_ticks { AllByRecursion (λ plan. plan.length ≡ ticks_of_first plans.now)
+            plans.now }
+        requires one_copy { AllByRecursion (λ plan. length plan.delays ≡ 1) plans.now }
         requires room { room ≤ MOST_ROOM }
-        requires one_copy { length stagger.delays ≡ 1 }
-        ensures { IfOk result (λ m. m ≡ opening_state opening.now stagger.length stagger.delays room) }
+        requires restaggers { restaggers ≤ MOST_ROOM }
+        ensures { IfOk result (λ m. m
+            ≡ opening_state opening.now (ticks_of_first plans.now) (delays_of_each plans.now) room restaggers) }
     {
-        let length = stagger.length() as usize;
-        let longest = stagger.longest() as usize;
+        let ticks = plans[0].length();
+        let length = ticks as usize;
         let arrivals = room as usize;
         let lists = Lists::new(
             alloc,
+            plans,
             arrivals,
             length + arrivals,
-            length + longest + length + arrivals,
+            length + greatest(plans) as usize + length + arrivals + restaggers as usize,
         )?;
         Ok(Mirror {
             opening: opening.twin(),
-            stagger,
+            ticks,
+            plans: lists.plans,
+            plan: 0,
             clock: 0,
             accepted: lists.accepted,
             turned: lists.turned,
             history: lists.history,
             spare: room,
+            plan_spare: restaggers,
             world: opening.twin(),
             run: lists.run,
             run_clock: 0,
@@ -112,18 +144,46 @@ impl<G: Game> Mirror<G> {
         })
     }
 
-    /// The clock goes on by one tick, answered Moved. Where it stands at its end, the match's length plus the longest
-    /// delay, nothing changes, and the answer is Over.
+    /// What always holds of a mirror: it is staggered, its plans are those of a match, and its state is the one that its
+    /// history leads to, of which each event changed the state in which it stood. It does nothing.
+    pub fn always(&self)
+        ensures { IsConsistent self.now }
+    {
+        let _ = &self.clock;
+    }
+
+    // The plan that is in force.
+    fn stagger(&self) -> Stagger
+        ensures schedule { result ≡ schedule_of self.now }
+        ensures copies { length result.delays ≡ length self.now.runs }
+    {
+        self.plans[self.plan as usize]
+    }
+
+    /// The clock goes on by one tick, answered Moved. Where it stands at its end or past it, the match's length plus the
+    /// longest delay in force, nothing changes, and the answer is Over.
     pub fn tick(&mut self) -> Ticked
         ensures state { self.new ≡ next self.old Event.Tick }
         ensures answer { said self.old Event.Tick ≡ Reply.Tick result }
     {
-        if self.stagger.at_end(self.clock) {
+        if self.stagger().at_end(self.clock) {
             return Ticked::Over;
         }
         self.clock += 1;
         self.history.push_reserved(Event::Tick);
         Ticked::Moved
+    }
+
+    /// Another plan, which is there, is in force from here on. It uses up room for one change of the plan.
+    pub fn restagger(&mut self, plan: u8)
+        requires there { plan < length self.old.plans }
+        requires room { 0 < self.old.plan_spare }
+        ensures state { self.new ≡ next self.old (Event.Restagger plan) }
+        ensures answer { said self.old (Event.Restagger plan) ≡ Reply.Restaggered }
+    {
+        self.plan = plan;
+        self.plan_spare -= 1;
+        self.history.push_reserved(Event::Restagger(plan));
     }
 
     /// A command that is due within the match arrives. Where one with the same mirror and number was accepted before,
@@ -135,7 +195,7 @@ impl<G: Game> Mirror<G> {
         ensures state { self.new ≡ next self.old (Event.Arrive x.now) }
         ensures answer { said self.old (Event.Arrive x.now) ≡ Reply.Arrive result }
     {
-        if self.accepted.has_name(x) {
+        if self.accepted.has(x.from, x.number) {
             return Arrived::Repeat;
         }
         self.spare -= 1;
@@ -149,7 +209,7 @@ impl<G: Game> Mirror<G> {
             });
             return Arrived::Late { bound };
         }
-        self.accepted.push(x);
+        self.accepted.push_reserved(x);
         place(&mut self.in_order, x);
         Arrived::Taken { repaired: 0 }
     }
@@ -161,7 +221,7 @@ impl<G: Game> Mirror<G> {
         ensures state { self.new ≡ next self.old (Event.Step copy) }
         ensures answer { said self.old (Event.Step copy) ≡ Reply.Step result }
     {
-        if self.run_clock >= self.stagger.limit(copy, self.clock, 0) {
+        if self.run_clock >= self.stagger().limit(copy, self.clock, 0) {
             return Stepped::Idle;
         }
         run_tick(
@@ -175,7 +235,7 @@ impl<G: Game> Mirror<G> {
         Stepped::Ran { repaired: 0 }
     }
 
-    /// Makes the event, whichever it is, as `tick`, `arrive` and `step` do.
+    /// Makes the event, whichever it is, as `tick`, `arrive`, `step` and `restagger` do.
     pub fn make(&mut self, e: &Event) -> Reply
         requires fits { Fits self.old e.now }
         requires room { HasRoom self.old e.now }
@@ -186,6 +246,10 @@ impl<G: Game> Mirror<G> {
             Event::Tick => Reply::Tick(self.tick()),
             Event::Arrive(x) => Reply::Arrive(self.arrive(x)),
             Event::Step(copy) => Reply::Step(self.step(*copy)),
+            Event::Restagger(plan) => {
+                self.restagger(*plan);
+                Reply::Restaggered
+            }
         }
     }
 
@@ -196,26 +260,31 @@ impl<G: Game> Mirror<G> {
         &self.opening
     }
 
-    /// The clock, in ticks. A mirror is always staggered.
+    /// The clock, in ticks.
     pub fn clock(&self) -> Tick
-        ensures clock { result ≡ self.now.clock }
-        ensures staggered { IsStaggered self.now }
+        ensures { result ≡ self.now.clock }
     {
         self.clock
     }
 
-    /// How many copies there are, 1 to 8. A mirror is always well formed.
-    pub fn copies(&self) -> u8
-        ensures copies { result ≡ length self.now.runs }
-        ensures well_formed { IsWellFormed self.now }
+    /// The number of the plan that is in force.
+    pub fn plan(&self) -> u8
+        ensures { result ≡ self.now.plan }
     {
-        self.stagger.copies()
+        self.plan
+    }
+
+    /// How many copies there are, 1 to 8.
+    pub fn copies(&self) -> u8
+        ensures { result ≡ length self.now.runs }
+    {
+        self.stagger().copies()
     }
 
     /// The copy's clock, in ticks. The copy is there.
     pub fn copy_clock(&self, copy: u8) -> Tick
         requires { copy < length self.now.runs }
-        ensures { result ≡ clock_of self.now copy }
+        ensures { result ≡ clock_of self.now.runs copy }
     {
         let _ = copy;
         self.run_clock
@@ -263,11 +332,9 @@ impl<G: Game> Mirror<G> {
         &self.turned
     }
 
-    /// The history: the events that changed the mirror. It leads from the opening to the mirror's state.
+    /// The history: the events that changed the mirror.
     pub fn events(&self) -> &[Event]
-        ensures events { result.now ≡ self.now.history }
-        ensures from_history { IsFromHistory self.now }
-        ensures each_changes { EachChanges (opening_of self.now) self.now.history }
+        ensures { result.now ≡ self.now.history }
     {
         &self.history
     }
@@ -288,10 +355,17 @@ impl<G: Game> Mirror<G> {
         self.spare
     }
 
+    /// How many more changes of the plan there is room for.
+    pub fn plan_spare(&self) -> u32
+        ensures { result ≡ self.now.plan_spare }
+    {
+        self.plan_spare
+    }
+
     /// Whether every copy has run the whole match.
     pub fn drained(&self) -> bool
         ensures { result ≡ is_drained self.now }
     {
-        self.run_clock == self.stagger.length()
+        self.run_clock == self.ticks
     }
 }

@@ -12,7 +12,7 @@ last_of-at x d [] = refl
 last_of-at x d (y ∷ ys) = last_of-at y d ys
 
 -- what holds of each element holds of the last
-pub last_of-all : {X : Type 0} (P : X → Type 0) (x : X) (xs : List X) → P x → AllByRecursion P xs → P (last_of x xs)
+last_of-all : {X : Type 0} (P : X → Type 0) (x : X) (xs : List X) → P x → AllByRecursion P xs → P (last_of x xs)
 unfolding last_of
 last_of-all P x [] here rest = here
 last_of-all P x (y ∷ ys) here rest = last_of-all P y ys rest.0 rest.1

@@ -66,6 +66,7 @@ impl Stagger {
     pub fn longest(&self) -> Tick
         ensures longest { result ≡ longest_delay self.now.delays }
         ensures short { result ≤ LONGEST_DELAY }
+        ensures schedule { IsSchedule self.now }
     {
         self.delay(self.copies - 1)
     }

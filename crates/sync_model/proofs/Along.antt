@@ -6,9 +6,8 @@ use Rattle.game_trait.specs.declared.event.Event.TheVariants.{Tick, Arrive, Step
 use Rattle.game_trait.proofs.KeyOrder.{all-weaker}
 use Rattle.sync_model.specs.State.{MirrorState}
 use Rattle.sync_model.specs.Change.{next, Fits, after}
-use Rattle.sync_model.specs.Schedule.{IsSchedule}
 use Rattle.sync_model.specs.Staggered.{IsStaggered}
-use Rattle.sync_model.specs.WellFormed.{ArePlans, IsWellFormed}
+use Rattle.sync_model.specs.WellFormed.{IsWellFormed}
 use Rattle.sync_model.specs.Turns.{steps_from, turn}
 use Rattle.sync_model.proofs.Staggered.{staggered-next}
 use Rattle.sync_model.proofs.Cases.{next-fixed, next-plan, restagger-cases}

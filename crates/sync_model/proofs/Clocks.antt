@@ -1,5 +1,5 @@
 -- How events move the clocks of the copies and of the mirror.
-use Rattle.std.proofs.Common.{◌≡◌, ℕ, zero, suc, ◌+◌, ◌≤◌, ◌<◌, true, false, cond, leb, List, [], ◌∷◌, ◌++◌, map, length, get_or, set, refl, ap, sym, ◌∙◌, subst, ⊎_elim, arith}
+use Rattle.std.proofs.Common.{◌≡◌, ℕ, zero, suc, ◌+◌, ◌≤◌, ◌<◌, true, false, cond, leb, List, [], ◌∷◌, map, length, get_or, set, refl, ap, sym, ◌∙◌, subst, ⊎_elim, arith}
 use Rattle.std.proofs.lemmas.Bool.{cases_eq, leb-true}
 use Rattle.std.proofs.lemmas.Bool.Decides.{nat_tests}
 use Rattle.std.proofs.Math.ListN.{get_or-map}
@@ -11,7 +11,7 @@ use Rattle.game_trait.specs.Run.{beats}
 use Rattle.game_trait.specs.Events.{is_step}
 use Rattle.sync_model.specs.Schedule.{clock_end}
 use Rattle.sync_model.specs.State.{MirrorState, copy_clock, schedule_of}
-use Rattle.sync_model.specs.Change.{next, is_idle, proposed_by_arrival, proposed_by_step}
+use Rattle.sync_model.specs.Change.{next, is_idle}
 use Rattle.sync_model.specs.Staggered.{IsStaggered}
 use Rattle.sync_model.proofs.Trailing.{beats-step, beats-arrival}
 use Rattle.sync_model.proofs.Staggered.{below_limit}

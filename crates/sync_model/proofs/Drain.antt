@@ -17,7 +17,7 @@ use Rattle.game_trait.proofs.Counts.{times-append}
 use Rattle.game_trait.proofs.KeyOrder.{all-weaker}
 use Rattle.std.specs.Prelude.{◌==◌}
 use Rattle.sync_model.specs.Lists.{last_of}
-use Rattle.sync_model.specs.Schedule.{DelaysRise, longest_delay, limit_at, clock_end}
+use Rattle.sync_model.specs.Schedule.{DelaysRise, limit_at, clock_end}
 use Rattle.sync_model.specs.State.{MirrorState, copy_clock, step_limit, delays_of, schedule_of}
 use Rattle.sync_model.specs.Change.{next, is_idle, after}
 use Rattle.sync_model.specs.Staggered.{IsAhead, IsChained, IsComplete, IsStaggered}

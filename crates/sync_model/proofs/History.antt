@@ -9,12 +9,11 @@ use Rattle.game_trait.specs.declared.event.Reply.{Reply}
 use Rattle.game_trait.specs.declared.event.Reply.TheVariants.{Arrive as ToArrive}
 use Rattle.game_trait.specs.declared.event.Arrived.TheVariants.{Late}
 use Rattle.game_trait.specs.Count.{times}
-use Rattle.game_trait.specs.Events.{is_arrival, is_restagger, IsOfKind, is_moved, moves}
-use Rattle.game_trait.proofs.Counts.{times-append}
-use Rattle.sync_model.specs.State.{MirrorState, opening_state, last_clock}
+use Rattle.game_trait.specs.Events.{IsOfKind, is_moved, moves}
+use Rattle.sync_model.specs.State.{MirrorState, last_clock}
 use Rattle.sync_model.specs.Change.{next, said, is_repeat, is_change, changes, after, answers}
-use Rattle.sync_model.specs.History.{changing, EachChanges, with_room, without_room, state_after, first_state, IsReached, opening_of, IsFromHistory, HasRoom, HasRoomAlong, repaired_in, repairs_in, repairs}
-use Rattle.sync_model.proofs.Cases.{next-cases, tick-cases, arrive-cases, step-cases, restagger-cases, next-fixed, after-fixed}
+use Rattle.sync_model.specs.History.{changing, EachChanges}
+use Rattle.sync_model.proofs.Cases.{tick-cases, arrive-cases, step-cases, restagger-cases}
 
 -- an answer is of its event's kind
 pub said-kind : {W : Type 0} (s : MirrorState W) (e : Event) → IsOfKind e (said s e)

@@ -1,5 +1,5 @@
 -- The changing ones of any events that name what is there are a log of the mirror.
-use Rattle.std.proofs.Common.{◌≡◌, ℕ, zero, suc, ◌<◌, true, false, cond, List, [], ◌∷◌, ◌++◌, length, take, refl, sym, subst, arith}
+use Rattle.std.proofs.Common.{ℕ, zero, suc, ◌<◌, true, false, cond, List, [], ◌∷◌, ◌++◌, take}
 use Rattle.std.specs.List.{AllByRecursion}
 use Rattle.std.proofs.lemmas.List.Elements.{All-from_recursion, All-contains}
 use Rattle.game_trait.specs.declared.command.Command.{Command}
@@ -9,7 +9,7 @@ use Rattle.game_trait.proofs.KeyOrder.{all-weaker}
 use Rattle.sync_model.specs.State.{MirrorState}
 use Rattle.sync_model.specs.Change.{next, after, changes, Fits}
 use Rattle.sync_model.specs.Staggered.{IsStaggered}
-use Rattle.sync_model.specs.History.{changing, EachChanges}
+use Rattle.sync_model.specs.History.{changing}
 use Rattle.sync_model.specs.Legal.{NamesWhatIsThere, IsLegal, IsLog}
 use Rattle.sync_model.proofs.Along.{staggered-after}
 use Rattle.sync_model.proofs.History.{after-changing, changing-each}

@@ -1,6 +1,5 @@
 -- Room decides nothing but itself; what a history says of the state, with its room and without it.
-use Rattle.std.proofs.Common.{◌≡◌, ℕ, zero, suc, ◌+◌, ◌-◌, ◌≤◌, ◌<◌, Bool, true, false, cond, ◌&&◌, List, [], ◌∷◌, ◌++◌, refl, ap, sym, ◌∙◌, subst, arith}
-use Rattle.game_trait.specs.declared.command.Command.{Command}
+use Rattle.std.proofs.Common.{◌≡◌, ℕ, zero, suc, ◌+◌, ◌-◌, Bool, true, false, cond, ◌&&◌, List, [], ◌∷◌, ◌++◌, refl, ap, sym, ◌∙◌, subst, arith}
 use Rattle.game_trait.specs.declared.event.Event.{Event}
 use Rattle.game_trait.specs.declared.event.Event.TheVariants.{Tick, Arrive, Step, Restagger}
 use Rattle.game_trait.specs.declared.event.Reply.{Reply}
@@ -12,7 +11,7 @@ use Rattle.game_trait.specs.declared.event.Reply.TheVariants.{Tick as ToTick, Ar
 use Rattle.game_trait.specs.declared.event.Arrived.TheVariants.{Taken, Repeat, Late}
 use Rattle.game_trait.specs.declared.event.Stepped.TheVariants.{Ran, Idle}
 use Rattle.sync_model.specs.Change.{next, said, is_over, is_repeat, is_late, is_idle, is_change, changes, after, answers}
-use Rattle.sync_model.specs.History.{EachChanges, with_room, without_room, state_after, first_state, IsReached, opening_of, IsFromHistory, HasRoom, HasRoomAlong, repaired_in, repairs_in, repairs}
+use Rattle.sync_model.specs.History.{EachChanges, with_room, without_room, first_state, IsReached, opening_of, IsFromHistory, HasRoom, HasRoomAlong, repaired_in, repairs_in, repairs}
 use Rattle.sync_model.proofs.Cases.{SameParts, moved, away, taken, ran, tick-cases, arrive-cases, step-cases, restagger-cases, next-fixed}
 use Rattle.sync_model.proofs.History.{history-next, unchanged-next, after-append, answers-append}
 

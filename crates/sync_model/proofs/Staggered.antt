@@ -1,5 +1,5 @@
 -- Every event that fits keeps a mirror staggered.
-use Rattle.std.proofs.Common.{◌≡◌, ℕ, zero, suc, ◌+◌, ◌-◌, ◌≤◌, ◌<◌, true, false, cond, List, [], ◌∷◌, ◌++◌, map, get_or, set, refl, ap, sym, ◌∙◌, subst, arith}
+use Rattle.std.proofs.Common.{◌≡◌, ℕ, zero, suc, ◌+◌, ◌-◌, ◌≤◌, ◌<◌, false, List, [], ◌∷◌, ◌++◌, map, get_or, set, sym, subst, arith}
 use Rattle.std.specs.List.{AllByRecursion, AllZip}
 use Rattle.std.proofs.lemmas.Bool.{ltb-false, leb-false}
 use Rattle.game_trait.specs.declared.command.Command.{Command}
@@ -15,7 +15,7 @@ use Rattle.sync_model.specs.Schedule.{longest_delay, limit_at}
 use Rattle.sync_model.specs.State.{MirrorState, opening_state, delays_of, last_clock, copy_clock, step_limit}
 use Rattle.sync_model.specs.Settle.{settle}
 use Rattle.sync_model.specs.Change.{next, is_over, is_repeat, is_late, is_idle, proposed_by_arrival, proposed_by_step, turned_away, Fits}
-use Rattle.sync_model.specs.Staggered.{greatest_delay, IsUnchangedPlan, IsInBounds, IsStaggered}
+use Rattle.sync_model.specs.Staggered.{greatest_delay, IsStaggered}
 use Rattle.sync_model.proofs.Lists.{all-put, all-push, all-to_map, all-from_map, none-front, none-last, zip-weaker, zip-to_map, zip-from_map, zip-set, names-push}
 use Rattle.sync_model.proofs.Trailing.{IsBehindAhead, trailing-step, beats-step, last-step_up, trailing-arrival, beats-arrival, last-arrival, trailing-opening}
 use Rattle.sync_model.proofs.Cases.{moved, away, taken, ran, restaggered, tick-cases, arrive-cases, step-cases, restagger-cases}

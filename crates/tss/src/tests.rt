@@ -2,11 +2,10 @@
 //! whole crate once more.
 
 mod arena;
-mod commands;
 mod counting_game;
-mod delays;
+mod game_trait_tests;
 mod match_texts;
-mod mirror;
-mod plain_mirror;
+mod mirror_core_tests;
 mod program;
+mod stagger_clock_tests;
 mod streams;

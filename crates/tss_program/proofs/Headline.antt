@@ -1,28 +1,28 @@
 -- A match that is played keeps the headline's promise.
-use Rattle.std.proofs.Common.{◌≡◌, ℕ, ◌≤◌, ◌<◌, List, [], ◌∷◌, ◌++◌, length, refl, ap, sym, ◌∙◌, subst, arith}
+use Rattle.std.proofs.Common.{◌≡◌, ℕ, ◌<◌, List, [], ◌∷◌, ◌++◌, length, refl, ap, sym, ◌∙◌, subst, arith}
 use Rattle.std.specs.List.{AllByRecursion}
 use Rattle.game_trait.specs.declared.event.Event.{Event}
 use Rattle.game_trait.specs.Count.{times}
 use Rattle.game_trait.specs.Run.{world_of}
 use Rattle.game_trait.specs.Ordered.{time_ordered}
-use Rattle.game_trait.proofs.Counts.{times-append}
 use Rattle.game_trait.proofs.KeyOrder.{all-weaker}
-use Rattle.sync_model.specs.State.{MirrorState}
+use Rattle.sync_model.specs.State.{MirrorState, delays_of}
 use Rattle.sync_model.specs.Change.{after}
-use Rattle.sync_model.specs.Staggered.{DelaysRise}
-use Rattle.sync_model.specs.History.{is_arrival}
+use Rattle.sync_model.specs.Schedule.{Schedule, DelaysRise}
 use Rattle.sync_model.specs.Turns.{turns_of, IsDrained}
 use Rattle.sync_model.proofs.Cases.{after-fixed}
-use Rattle.sync_model.proofs.History.{after-append}
-use Rattle.sync_model.proofs.Drain.{drain-ends, staggered-drain, drain-turns, drain-arrivals, drained-worlds}
+use Rattle.sync_model.proofs.History.{after-append, history-after}
+use Rattle.sync_model.proofs.Staggered.{staggered-opening}
+use Rattle.sync_model.proofs.Legal.{changing-log}
+use Rattle.sync_model.proofs.Drain.{drain-ends, staggered-drain, drain-turns, drain-fixed, drained-worlds}
 use Rattle.arena_rules.specs.World.{World, opening_world, arena_rules}
 use Rattle.match_file.specs.Data.{MatchData, IsMatch, Rises}
 use Rattle.tss_program.specs.Play.{is_arrive, opening_mirror, scripted, played}
-use Rattle.sync_model.specs.Legal.{NamesWhatIsThere}
+use Rattle.sync_model.specs.Legal.{NamesWhatIsThere, IsLog}
 use Rattle.tss_program.specs.Headline.{IsPlayed}
-use Rattle.tss_program.proofs.Log.{all-append, IsLog, made-IsLog}
-use Rattle.tss_program.proofs.ScriptEvents.{script_events, after_script-events, named-script, script-arrivals, named-turns, turns-no_arrival}
-use Rattle.tss_program.proofs.Ready.{ready-opening, scripted-ready, due-within}
+use Rattle.tss_program.proofs.Log.{all-append}
+use Rattle.tss_program.proofs.ScriptEvents.{script_events, after_script-events, named-script, named-turns}
+use Rattle.tss_program.proofs.Ready.{ready-opening, scripted-ready, scripted-schedule, due-within}
 
 -- ---- the delays
 
@@ -40,11 +40,10 @@ DelaysRise-from_next (d ∷ e ∷ ds) h =
 
 -- ---- the events that are made
 
--- playing is making events that name what is there, of which no more are arrivals than the script has
+-- playing is making events that name what is there
 pub record IsMade (m : MatchData) (es : List Event) : Type 0 where
   pub makes : played m ≡ after (opening_mirror m) es
   pub named : AllByRecursion (NamesWhatIsThere m.commands (opening_mirror m)) es
-  pub arrivals : times is_arrival es ≤ times is_arrive m.script
 
 -- the script's events, and then those of draining's turns
 pub played-made : (m : MatchData) → IsMatch m → (es : List Event) × IsMade m es
@@ -61,25 +60,26 @@ played-made m sound =
       record {
         makes = drained.2 ∙ ap (λ (s : MirrorState World). after s turns) made ∙ sym (after-append start script turns);
         named = all-append (NamesWhatIsThere m.commands start) script turns (named-script m start m.script copies sound.script) (named-turns m.commands start n drained.0 (omega arith));
-        arrivals = (let sum = times-append is_arrival script turns in let none = turns-no_arrival n drained.0 in let most = script-arrivals m m.script in omega arith);
       },
     )
 
 -- ---- the headline
 
 -- what the history of a mirror that was played says
-pub played-IsLog : (m : MatchData) → IsMatch m → IsLog m.commands (opening_mirror m) (played m)
+pub played-IsLog : (m : MatchData) → IsMatch m → IsLog m.commands (opening_mirror m) (played m) (played m).history
 unfolding opening_mirror
 played-IsLog m sound =
     let made = played-made m sound in
-    subst (IsLog m.commands (opening_mirror m)) (sym made.1.makes)
-    (made-IsLog m.commands (opening_world m.layout) m.length m.delays (times is_arrive m.script) made.0 (due-within m sound) made.1.named made.1.arrivals)
+    let start = opening_mirror m in
+    subst (λ (s : MirrorState World). IsLog m.commands start s s.history) (sym made.1.makes)
+    (subst (IsLog m.commands start (after start made.0)) (sym (history-after start made.0))
+    (changing-log m.commands start made.0 (due-within m sound) (staggered-opening (opening_world m.layout) m.length (m.delays ∷ []) (times is_arrive m.script) 0) made.1.named))
 
 -- the world in which the match opened is the match's
 pub played-opening : (m : MatchData) → (played m).opening ≡ opening_world m.layout
 unfolding opening_mirror
 played-opening m =
-    (drain-arrivals (scripted m)).opening
+    (drain-fixed (scripted m)).opening
     ∙ ap (λ (s : MirrorState World). s.opening) (after_script-events m m.script (opening_mirror m))
     ∙ (after-fixed (script_events m m.script) (opening_mirror m)).opening
 
@@ -87,9 +87,9 @@ pub played-IsPlayed : (m : MatchData) → IsMatch m → IsPlayed m (played m).hi
 played-IsPlayed m sound =
     let log = played-IsLog m sound in
     let ready = scripted-ready m sound in
-    let rise : DelaysRise (scripted m).delays = subst DelaysRise (sym ready.delays) (DelaysRise-from_next m.delays sound.rises) in
+    let rise : DelaysRise (delays_of (scripted m)) = subst DelaysRise (sym (ap (λ (s : Schedule). s.delays) (scripted-schedule m))) (DelaysRise-from_next m.delays sound.rises) in
     let drained : IsDrained (played m) = drain-ends (scripted m) rise ready.staggered in
-    let ticks : (played m).length ≡ m.length = (drain-arrivals (scripted m)).length ∙ ready.ticks in
+    let ticks : (played m).length ≡ m.length = (drain-fixed (scripted m)).length ∙ ready.ticks in
     record {
       all = refl;
       legal = log.legal;

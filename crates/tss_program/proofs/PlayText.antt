@@ -8,7 +8,7 @@ use Rattle.game_trait.specs.Run.{beats, world_of}
 use Rattle.arena_rules.specs.World.{World, arena_rules}
 use Rattle.match_file.specs.declared.script_line.ScriptLine.{ScriptLine}
 use Rattle.match_file.specs.Data.{MatchData, IsMatch}
-use Rattle.stagger_clock.specs.Schedule.{IsSchedule}
+use Rattle.sync_model.specs.Schedule.{IsSchedule}
 use Rattle.sync_model.specs.State.{MirrorState}
 use Rattle.sync_model.specs.History.{repairs}
 use Rattle.sync_model.specs.Turns.{drain_bound}

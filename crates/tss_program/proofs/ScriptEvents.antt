@@ -9,7 +9,7 @@ use Rattle.game_trait.specs.Count.{times}
 use Rattle.game_trait.proofs.Counts.{times-append}
 use Rattle.sync_model.specs.State.{MirrorState}
 use Rattle.sync_model.specs.Change.{after, answers}
-use Rattle.sync_model.specs.History.{is_arrival}
+use Rattle.game_trait.specs.Events.{is_arrival, is_restagger}
 use Rattle.sync_model.specs.Turns.{steps_from, turn_events, turns_of}
 use Rattle.sync_model.proofs.History.{after-append}
 use Rattle.match_file.specs.Names.{has_command}
@@ -102,7 +102,30 @@ unfolding turns_of times
 turns-no_arrival n zero = refl
 turns-no_arrival n (suc k) = omega (arith, times-append is_arrival (turn_events n) (turns_of n k), turn-no_arrival n, turns-no_arrival n k)
 
+-- no event of a turn changes the plan
+steps-no_restagger : (n c : ℕ) → AllByRecursion (λ e. is_restagger e ≡ false) (steps_from c n)
+unfolding steps_from
+steps-no_restagger zero c = tt
+steps-no_restagger (suc n) c = (refl, steps-no_restagger n (c + 1))
+
+pub turn-no_restagger : (n : ℕ) → AllByRecursion (λ e. is_restagger e ≡ false) (turn_events n)
+turn-no_restagger n = (refl, steps-no_restagger n 0)
+
 -- ---- the events of script lines
+
+-- nor does any of a line
+arrival-no_restagger : (found : Option Command) → AllByRecursion (λ e. is_restagger e ≡ false) (arrival_of found)
+arrival-no_restagger None = tt
+arrival-no_restagger (Some x) = (refl, tt)
+
+pub line-no_restagger : (m : MatchData) (l : ScriptLine) → AllByRecursion (λ e. is_restagger e ≡ false) (events_of m l)
+unfolding events_of
+line-no_restagger m (lines.Tick mirror) = (refl, tt)
+line-no_restagger m (lines.Turn mirror) = turn-no_restagger (length m.delays)
+line-no_restagger m (lines.Arrive mirror from number) = arrival-no_restagger (command_named from number m.commands)
+line-no_restagger m (lines.Step mirror copy) = (refl, tt)
+line-no_restagger m (lines.World mirror copy) = tt
+line-no_restagger m (lines.Run mirror copy) = tt
 
 -- the events of a line name what is there
 pub named-line :

@@ -25,7 +25,7 @@ is_arrive (lines.Run mirror copy) = false
 
 -- the mirror as the match begins, with room for each arrival of the script
 unfoldable pub opening_mirror : MatchData → MirrorState World
-opening_mirror m = opening_state (opening_world m.layout) m.length m.delays (times is_arrive m.script)
+opening_mirror m = opening_state (opening_world m.layout) m.length (m.delays ∷ []) (times is_arrive m.script) 0
 
 -- the mirror after the script
 abbrev pub scripted : MatchData → MirrorState World

@@ -4,7 +4,7 @@ use Rattle.game_trait.specs.declared.command.Command.{Command}
 use Rattle.game_trait.specs.declared.event.Event.{Event}
 use Rattle.game_trait.specs.declared.event.Event.TheVariants.{Tick, Arrive, Step}
 use Rattle.game_trait.specs.declared.event.Reply.{Reply}
-use Rattle.game_trait.specs.declared.event.Reply.TheVariants.{Tick as ToTick, Arrive as ToArrive, Step as ToStep}
+use Rattle.game_trait.specs.declared.event.Reply.TheVariants.{Tick as ToTick, Arrive as ToArrive, Step as ToStep, Restaggered}
 use Rattle.game_trait.specs.declared.event.Ticked.TheVariants.{Moved, Over}
 use Rattle.game_trait.specs.declared.event.Arrived.TheVariants.{Taken, Repeat, Late}
 use Rattle.game_trait.specs.declared.event.Stepped.TheVariants.{Ran, Idle}
@@ -57,6 +57,7 @@ tick_line mirror (ToTick Moved) = []
 tick_line mirror (ToTick Over) = number_line (codes "over") (mirror ∷ [])
 tick_line mirror (ToArrive arrived) = []
 tick_line mirror (ToStep stepped) = []
+tick_line mirror Restaggered = []
 
 -- what the answer to an arrival prints
 unfoldable pub arrival_line : ℕ → ℕ → ℕ → Reply → List ℕ
@@ -65,6 +66,7 @@ arrival_line mirror from number (ToArrive Repeat) = number_line (codes "repeat")
 arrival_line mirror from number (ToArrive (Late bound)) = number_line (codes "late") (mirror ∷ from ∷ number ∷ bound ∷ [])
 arrival_line mirror from number (ToTick ticked) = []
 arrival_line mirror from number (ToStep stepped) = []
+arrival_line mirror from number Restaggered = []
 
 -- what the answer to a step prints
 unfoldable pub step_line : ℕ → ℕ → Reply → List ℕ
@@ -72,6 +74,7 @@ step_line mirror copy (ToStep (Ran n)) = repair_line mirror n
 step_line mirror copy (ToStep Idle) = number_line (codes "idle") (mirror ∷ copy ∷ [])
 step_line mirror copy (ToTick ticked) = []
 step_line mirror copy (ToArrive arrived) = []
+step_line mirror copy Restaggered = []
 
 -- what the answers to a turn print: their repairs alone
 abbrev pub turn_lines : ℕ → List Reply → List ℕ

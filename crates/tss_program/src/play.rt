@@ -3,6 +3,7 @@
 ghost use Rattle.std.specs.Prelude.{◌≡◌, ◌<◌, ◌≤◌, if◌then◌else◌, ◌++◌, ◌∷◌, [], Ok, length, IfOk, OnOk, codes, decimal, slice_index_or};
 ghost use Rattle.game_trait.specs.Count.{times};
 ghost use Rattle.game_trait.specs.Run.{beats, world_of};
+ghost use Rattle.sync_model.specs.State.{schedule_of};
 ghost use Rattle.sync_model.specs.Turns.{drain_bound};
 ghost use Rattle.arena_rules.specs.World.{arena_rules};
 ghost use Rattle.match_file.specs.Data.{MatchData};
@@ -96,10 +97,9 @@ fn arrivals(script: &[ScriptLine]) -> u32
     arrivals
 }
 
-// How many turns are enough to drain a mirror of these delays and this length.
+// How many turns are enough to drain a mirror with this schedule in force.
 fn turns_to_drain<G: Game>(mirror: &Mirror<G>, stagger: &Stagger) -> u32
-    requires length { stagger.now.length ≡ mirror.now.length }
-    requires delays { stagger.now.delays ≡ mirror.now.delays }
+    requires { stagger.now ≡ schedule_of mirror.now }
     ensures { result ≡ drain_bound mirror.now }
 {
     let end = stagger.length() + stagger.longest();
@@ -121,7 +121,7 @@ fn new_mirror(alloc: Global, game: &Match) -> Result<Mirror<Arena>, NoMemory>
 {
     let opening = Arena::start(&game.setup);
     let room = arrivals(game.script.as_slice());
-    Mirror::new(alloc, &opening, schedule(game), room)
+    Mirror::new(alloc, &opening, &[schedule(game)], room, 0)
 }
 
 // Makes the match's script on its mirror and drains it, and puts what they print.

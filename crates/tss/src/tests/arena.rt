@@ -34,7 +34,12 @@ pub(super) fn two_players() -> Arena
 }
 
 // Whether this is the block of the arena, whose second player has no name.
-fn does_show(alloc: Global, arena: &Arena, roster: &Roster, block: &str) -> Result<bool, NoMemory> {
+pub(super) fn does_show(
+    alloc: Global,
+    arena: &Arena,
+    roster: &Roster,
+    block: &str,
+) -> Result<bool, NoMemory> {
     let mut out = Vec::new(alloc);
     arena.block(roster, &mut out)?;
     Ok(out.as_slice() == block.as_bytes())

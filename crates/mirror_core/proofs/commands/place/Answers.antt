@@ -3,7 +3,7 @@ use Rattle.std.specs.List.Sorted.{IsPartitionPoint}
 use Rattle.std.proofs.lemmas.List.Sorted.{IsPartitionPoint-from_clause}
 use Rattle.game_trait.specs.declared.command.Command.{Command}
 use Rattle.game_trait.specs.Keys.{before}
-use Rattle.mirror_core.proofs.Places.{rising-parted, placed-partition}
+use Rattle.game_trait.proofs.Places.{rising-parted, placed-partition}
 use Rattle.mirror_core.proofs.commands.place.Goals as goal
 
 pub returns-clause-placed : goal.returns-clause-placed

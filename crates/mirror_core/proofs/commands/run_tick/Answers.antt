@@ -7,7 +7,7 @@ use Rattle.game_trait.specs.declared.command.Item.TheVariants.{Cmd, Beat}
 use Rattle.game_trait.specs.Count.{times}
 use Rattle.game_trait.specs.Run.{world_of}
 use Rattle.game_trait.proofs.Runs.{world_of-command, world_of-beat}
-use Rattle.mirror_core.proofs.Due.{due_more, due_same, left_more}
+use Rattle.game_trait.proofs.Due.{due_more, due_same, left_more}
 use Rattle.mirror_core.proofs.commands.run_tick.Goals as goal
 use Rattle.mirror_core.proofs.commands.run_tick.Goals.{then-x-tick, else-x-tick}
 

@@ -1,20 +1,15 @@
 use Rattle.std.proofs.Common.{ℕ, ◌++◌, sym, ap, ◌∙◌}
 use Rattle.std.proofs.lemmas.Result.{on_ok_weaker}
-use Rattle.stagger_clock.specs.Schedule.{Schedule}
-use Rattle.sync_model.specs.State.{MirrorState}
+use Rattle.sync_model.specs.State.{MirrorState, schedule_of}
 use Rattle.sync_model.specs.Turns.{drain_within, drain_bound}
 use Rattle.tss_program.specs.Play.{scripted, drain_text}
-use Rattle.tss_program.proofs.Ready.{scripted-fixed}
+use Rattle.tss_program.proofs.Ready.{scripted-schedule}
 use Rattle.tss_program.proofs.PlayText.{events-parts}
 use Rattle.tss_program.proofs.play.play_script.Goals as goal
 
-pub turns_to_drain-turns-requires-clause-length : goal.turns_to_drain-turns-requires-clause-length
-turns_to_drain-turns-requires-clause-length c =
-    ap (λ (s : Schedule). s.length) c.schedule.ensures ∙ sym (ap (λ (s : MirrorState _). s.length) c.in_ok-make_script.ensures.state ∙ (scripted-fixed c.args.game.now).0)
-
-pub turns_to_drain-turns-requires-clause-delays : goal.turns_to_drain-turns-requires-clause-delays
-turns_to_drain-turns-requires-clause-delays c =
-    ap (λ (s : Schedule). s.delays) c.schedule.ensures ∙ sym (ap (λ (s : MirrorState _). s.delays) c.in_ok-make_script.ensures.state ∙ (scripted-fixed c.args.game.now).1)
+pub turns_to_drain-turns-requires : goal.turns_to_drain-turns-requires
+turns_to_drain-turns-requires c =
+    c.schedule.ensures ∙ sym (ap (λ (s : MirrorState _). schedule_of s) c.in_ok-make_script.ensures.state ∙ scripted-schedule c.args.game.now)
 
 pub returns-clause-state : goal.returns-clause-state
 returns-clause-state c =

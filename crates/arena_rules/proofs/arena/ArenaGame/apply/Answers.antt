@@ -15,3 +15,7 @@ put-requires-in-Right-clause-sound c = rw c.turned_to-in-Right.ensures (IsSound-
 pub returns-in-Shoot-clause-applied : goal.returns-in-Shoot-clause-applied
 unfolding applied
 returns-in-Shoot-clause-applied c = rw (← c.in-Some.ensures.player, c.in-Shoot.is) refl
+
+pub returns-in-Dash-clause-applied : goal.returns-in-Dash-clause-applied
+unfolding applied
+returns-in-Dash-clause-applied c = rw (← c.in-Some.ensures.player, c.in-Dash.is) refl

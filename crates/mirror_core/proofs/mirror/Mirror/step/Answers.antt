@@ -11,19 +11,19 @@ use Rattle.mirror_core.proofs.mirror.Mirror.step.Goals as goal
 pub returns-then-self-limit-clause-state : goal.returns-then-self-limit-clause-state
 returns-then-self-limit-clause-state g c =
     let there = rw (← c.self.view_is) at c.requires in
-    let idle = rw c.limit.ensures at c.if-self-limit.true in
+    let idle = rw (c.limit.ensures, c.stagger.ensures.schedule, ← c.self.view_is) at c.if-self-limit.true in
     rw (← c.self.view_is) (idle_state c.self.invariant c.args.copy there idle)
 
 pub returns-then-self-limit-clause-answer : goal.returns-then-self-limit-clause-answer
 returns-then-self-limit-clause-answer g c =
     let there = rw (← c.self.view_is) at c.requires in
-    let idle = rw c.limit.ensures at c.if-self-limit.true in
+    let idle = rw (c.limit.ensures, c.stagger.ensures.schedule, ← c.self.view_is) at c.if-self-limit.true in
     rw (← c.self.view_is) (idle_answer c.self.invariant c.args.copy there idle)
 
 pub run_tick-requires : goal.run_tick-requires
 run_tick-requires g c =
     let there = rw (← c.self.view_is) at c.requires in
-    let more = runs_on c.self.invariant c.args.copy there (rw c.limit.ensures at c.if-self-limit.false) in
+    let more = runs_on c.self.invariant c.args.copy there (rw (c.limit.ensures, c.stagger.ensures.schedule, ← c.self.view_is) at c.if-self-limit.false) in
     let fits = due_fits c.self.invariant more in
     let len = c.self.inside.run.ok.0 in
     let here : vec_len c.self.inside.run + times (λ x. eqb x.time c.self.inside.run_clock) c.self.inside.in_order.items < vec_capacity c.self.inside.run = omega arith in
@@ -32,7 +32,7 @@ run_tick-requires g c =
 pub push_reserved-requires : goal.push_reserved-requires
 push_reserved-requires g c =
     let there = rw (← c.self.view_is) at c.requires in
-    let more = runs_on c.self.invariant c.args.copy there (rw c.limit.ensures at c.if-self-limit.false) in
+    let more = runs_on c.self.invariant c.args.copy there (rw (c.limit.ensures, c.stagger.ensures.schedule, ← c.self.view_is) at c.if-self-limit.false) in
     let fits = note_fits c.self.invariant more in
     let len = c.self.inside.history.ok.0 in
     omega arith
@@ -40,7 +40,7 @@ push_reserved-requires g c =
 pub invariant_of-self : goal.invariant_of-self
 invariant_of-self g c =
     let there = rw (← c.self.view_is) at c.requires in
-    let more = runs_on c.self.invariant c.args.copy there (rw c.limit.ensures at c.if-self-limit.false) in
+    let more = runs_on c.self.invariant c.args.copy there (rw (c.limit.ensures, c.stagger.ensures.schedule, ← c.self.view_is) at c.if-self-limit.false) in
     let ticked : List Item = tick_of c.self.inside.accepted.items (beats c.self.inside.run.items) in
     let due : map Cmd (filter (λ x. eqb x.time c.self.inside.run_clock) c.deref.result.now) ++ Beat ∷ [] ≡ ticked =
     ap (λ (xs : List Command). map Cmd (filter (λ x. eqb x.time c.self.inside.run_clock) xs) ++ Beat ∷ []) c.deref.ensures.value ∙ due_now c.self.invariant
@@ -53,7 +53,7 @@ invariant_of-self g c =
 pub returns-clause-state : goal.returns-clause-state
 returns-clause-state g c =
     let there = rw (← c.self.view_is) at c.requires in
-    let more = runs_on c.self.invariant c.args.copy there (rw c.limit.ensures at c.if-self-limit.false) in
+    let more = runs_on c.self.invariant c.args.copy there (rw (c.limit.ensures, c.stagger.ensures.schedule, ← c.self.view_is) at c.if-self-limit.false) in
     let ticked : List Item = tick_of c.self.inside.accepted.items (beats c.self.inside.run.items) in
     let due : map Cmd (filter (λ x. eqb x.time c.self.inside.run_clock) c.deref.result.now) ++ Beat ∷ [] ≡ ticked =
     ap (λ (xs : List Command). map Cmd (filter (λ x. eqb x.time c.self.inside.run_clock) xs) ++ Beat ∷ []) c.deref.ensures.value ∙ due_now c.self.invariant
@@ -64,5 +64,5 @@ returns-clause-state g c =
 pub returns-clause-answer : goal.returns-clause-answer
 returns-clause-answer g c =
     let there = rw (← c.self.view_is) at c.requires in
-    let more = runs_on c.self.invariant c.args.copy there (rw c.limit.ensures at c.if-self-limit.false) in
+    let more = runs_on c.self.invariant c.args.copy there (rw (c.limit.ensures, c.stagger.ensures.schedule, ← c.self.view_is) at c.if-self-limit.false) in
     rw (← c.self.view_is) (ran_answer c.self.invariant c.args.copy there more)

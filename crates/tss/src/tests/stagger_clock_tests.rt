@@ -22,13 +22,16 @@ fn are_delays_shown(stagger: &Stagger) -> bool
         && stagger.delay(1) == 100
         && stagger.longest() == 300
         && stagger.length() == 900
-        && stagger.at_end(1_200)
-        && !stagger.at_end(900)
+}
+
+// A clock is at its end at 1,200 ticks, and past them.
+fn is_end_told(stagger: &Stagger) -> bool {
+    !stagger.at_end(1_199) && stagger.at_end(1_200) && stagger.at_end(1_201)
 }
 
 #[test]
-#[tactic(auto, unfolding(sync_model::specs::Staggered::DelaysRise))]
+#[tactic(auto, unfolding(sync_model::specs::Schedule::DelaysRise))]
 fn limits_and_ends(rt: HostRuntime) {
     let stagger = Stagger::new(&[0, 100, 300], 900);
-    assert!(rt; are_delays_shown(&stagger) && are_limits_kept(&stagger));
+    assert!(rt; are_delays_shown(&stagger) && are_limits_kept(&stagger) && is_end_told(&stagger));
 }
