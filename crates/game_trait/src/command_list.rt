@@ -27,7 +27,8 @@ impl Model for CommandList {
 
     ghost view = { λ a. record { items = a.commands.items; room = a.room } };
 
-    ghost invariant = { λ a. IsCommandList (get same_pair a.by_name) a.commands.items a.room (vec_capacity a.commands) (spare a.by_name) };
+    ghost invariant = { λ a.
+        IsCommandList (get same_pair a.by_name) a.commands.items a.room (vec_capacity a.commands) (spare a.by_name) };
 }
 
 impl CommandList {
@@ -56,8 +57,12 @@ impl CommandList {
     /// Appends the command where none has its mirror and number, and tells whether it did. On want of memory the list is
     /// unchanged.
     pub fn insert(&mut self, x: &Command) -> Result<bool, AllocError>
-        ensures added { IfOk result (λ added. added ≡ not (has_command self.old.items x.now.from x.now.number)) }
-        ensures items { OnOk result (self.new.items ≡ (if has_command self.old.items x.now.from x.now.number then self.old.items else self.old.items ++ x.now ∷ [])) }
+        ensures added { IfOk result (λ added. added
+            ≡ not (has_command self.old.items x.now.from x.now.number)) }
+        ensures items { OnOk result (self.new.items
+            ≡ (if has_command self.old.items x.now.from x.now.number
+            then self.old.items
+            else self.old.items ++ x.now ∷ [])) }
         ensures room { self.new.room ≡ self.old.room }
         ensures err { OnErr result (self.new ≡ self.old) }
     {

@@ -29,8 +29,11 @@ impl Lists {
         events: usize,
     ) -> Result<Lists, NoMemory>
         ensures plans { IfOk result (λ l. l.plans.items ≡ plans.now) }
-        ensures empty { IfOk result (λ l. (l.accepted ≡ record { items = []; room = arrivals }) × (l.in_order.items ≡ []) × (l.turned.items ≡ []) × (l.run.items ≡ []) × (l.history.items ≡ [])) }
-        ensures room { IfOk result (λ l. (vec_capacity l.in_order ≡ arrivals) × (vec_capacity l.turned ≡ arrivals) × (vec_capacity l.run ≡ items) × (vec_capacity l.history ≡ events)) }
+        ensures empty { IfOk result (λ l. (l.accepted ≡ record { items = []; room = arrivals })
+            × (l.in_order.items ≡ []) × (l.turned.items ≡ []) × (l.run.items ≡ []) × (l.history.items ≡ [])) }
+        ensures room { IfOk result (λ l. (vec_capacity l.in_order ≡ arrivals)
+            × (vec_capacity l.turned ≡ arrivals) × (vec_capacity l.run ≡ items)
+            × (vec_capacity l.history ≡ events)) }
     {
         Ok(Lists {
             plans: Vec::from_slice(alloc, plans)?,

@@ -108,11 +108,13 @@ impl<G: Game> Mirror<G> {
     ) -> Result<Mirror<G>, NoMemory>
         requires some_plan { 0 < length plans.now }
         requires few_plans { length plans.now ≤ MOST_PLANS }
-        requires equal_ticks { AllByRecursion (λ plan. plan.length ≡ ticks_of_first plans.now) plans.now }
+        requires equal_ticks { AllByRecursion (λ plan. plan.length ≡ ticks_of_first plans.now)
+            plans.now }
         requires one_copy { AllByRecursion (λ plan. length plan.delays ≡ 1) plans.now }
         requires room { room ≤ MOST_ROOM }
         requires restaggers { restaggers ≤ MOST_ROOM }
-        ensures { IfOk result (λ m. m ≡ opening_state opening.now (ticks_of_first plans.now) (delays_of_each plans.now) room restaggers) }
+        ensures { IfOk result (λ m. m
+            ≡ opening_state opening.now (ticks_of_first plans.now) (delays_of_each plans.now) room restaggers) }
     {
         let ticks = plans[0].length();
         let length = ticks as usize;

@@ -17,12 +17,13 @@ use Rattle.sync_model.specs.Change.{proposed_by_arrival}
 use Rattle.sync_model.specs.State.{copy_clock, last_clock}
 use Rattle.sync_model.specs.Repairs.{is_late_at}
 use Rattle.sync_model.specs.Staggered.{IsComplete, IsChained}
-use Rattle.sync_model.proofs.Proposals.{complete-late, equal_clocks, with_late-past, beats-command}
-use Rattle.sync_model.proofs.Arrivals.{falls-all, arrival_count}
+use Rattle.sync_model.proofs.Proposals.{complete-late, with_late-past, beats-command}
+use Rattle.sync_model.proofs.Drain.{equal_clocks}
+use Rattle.sync_model.proofs.Arrivals.{falls-all}
 use Rattle.sync_model.specs.Repairs.{rebuild}
 use Rattle.sync_model.specs.Repairs.{IsLastLate}
 use Rattle.sync_model.specs.Staggered.{IsTrailing}
-use Rattle.sync_model.proofs.Rebuilt.{arrival_late, arrival_early, arrival_late_count}
+use Rattle.sync_model.proofs.Rebuilt.{arrival_late, arrival_early}
 use Rattle.sync_model.proofs.Trailing.{trailing-arrival, beats-arrival}
 use Rattle.executed_list.specs.Segments.{OneList, Falls, StartsAtMost, end_of, runs_at}
 use Rattle.executed_list.proofs.Lists.{all-at, get-any}
@@ -95,11 +96,13 @@ above-last x (r ∷ rs) n chained count =
 -- a command is executed on the worlds from one on up to another, and on none behind
 pub record Applied {W : Type 0} (rules : Rules W) (x : Command) (f c : ℕ) (old now : List W) : Type 0 where
   pub each : (d : W) (i : ℕ) → f ≤ i → i < c → get_or now i d ≡ rules.apply (get_or old i d) x
+  pub order : f ≤ c
+  pub ahead : (d : W) (i : ℕ) → i < f → get_or now i d ≡ get_or old i d
   pub behind : drop c now ≡ drop c old
   pub len : length now ≡ length old
 
 pub applied-none : {W : Type 0} (rules : Rules W) (x : Command) (f : ℕ) (old : List W) → Applied rules x f f old old
-applied-none rules x f old = record { each = λ d i from below. absurd (omega arith); behind = refl; len = refl }
+applied-none rules x f old = record { each = λ d i from below. absurd (omega arith); order = omega arith; ahead = λ d i below. refl; behind = refl; len = refl }
 
 pub applied-more :
     {W : Type 0} (rules : Rules W) (x : Command) (f c : ℕ) (old now : List W) (v w : W) → Applied rules x f c old now → c < length old
@@ -115,6 +118,8 @@ applied-more {W} rules x f c old now v w h there at applied =
           let own : v ≡ get_or old c d = at ∙ get-any now c v d (omega arith) ∙ get-next now old c d h.behind in
           rw same (get_or-set_same now c w d (omega arith) ∙ applied ∙ ap (λ (u : W). rules.apply u x) own)))
           (cases_lt i c);
+      order = (let low = h.order in omega arith);
+      ahead = λ d i below. get_or-set_other now c i w d (λ e. (let low = h.order in omega arith)) ∙ h.ahead d i below;
       behind = drop-set-lt (c + 1) now c w (omega arith) ∙ sym (drop-drop 1 c now) ∙ ap (drop 1) h.behind ∙ drop-drop 1 c old;
       len = length-set now c w ∙ h.len;
     }
@@ -189,7 +194,7 @@ module _ {W : Type 0} {rules : Rules W} {opening : W} {ticks : ℕ} {all : List 
         ks_own = clock-at h falls first m inside ∙ sym (beats-command x (get_or runs m [])) ∙ ap beats made;
         ks_within = h.within;
         trailing = trailing-arrival h.trailing x due;
-        target_is = arrival_late all x runs m new h.trailing.chained h.trailing.complete late ∙ ap (λ (b : List Item). rebuild (all ++ x ∷ []) b (suc m) runs) made;
+        target_is = (arrival_late all x runs m new h.trailing.chained h.trailing.complete late).0 ∙ ap (λ (b : List Item). rebuild (all ++ x ∷ []) b (suc m) runs) made;
         target_beats = beats-arrival h.trailing x ∙ sym h.clocks_are;
         whole = subst (IsComplete (all ++ x ∷ [])) (with_late-past x (get_or runs m []) late.late ∙ made) (complete-late all x (get_or runs m []) (all-at (IsComplete all) runs m [] h.trailing.complete late.there));
         counts = omega arith;
@@ -256,7 +261,7 @@ module _ {W : Type 0} {rules : Rules W} {opening : W} {ticks : ℕ} {all : List 
       let grown = length-append all (x ∷ []) in
       let room = h.room in
       record {
-        trailing = subst (IsTrailing (all ++ x ∷ [])) (arrival_early all x (runs_at s.items s.ends) h.trailing.chained early) (trailing-arrival h.trailing x due);
+        trailing = subst (IsTrailing (all ++ x ∷ [])) (arrival_early all x (runs_at s.items s.ends) h.trailing.chained early).0 (trailing-arrival h.trailing x due);
         clocks_are = h.clocks_are;
         worlds_are = h.worlds_are;
         within = h.within;
@@ -269,13 +274,12 @@ module _ {W : Type 0} {rules : Rules W} {opening : W} {ticks : ℕ} {all : List 
   pub early-settled :
       (x : Command) → list_any (is_late_at x) (runs_at s.items s.ends) ≡ false
       → runs_at s.items s.ends ≡ settle (all ++ x ∷ []) (proposed_by_arrival x (runs_at s.items s.ends))
-  early-settled x early = sym (arrival_early all x (runs_at s.items s.ends) h.trailing.chained early)
+  early-settled x early = sym (arrival_early all x (runs_at s.items s.ends) h.trailing.chained early).0
 
   pub early-repaired :
-      (x : Command) → list_any (same_name x) all ≡ false → list_any (is_late_at x) (runs_at s.items s.ends) ≡ false
+      (x : Command) → list_any (is_late_at x) (runs_at s.items s.ends) ≡ false
       → 0 ≡ repaired (all ++ x ∷ []) (proposed_by_arrival x (runs_at s.items s.ends))
-  early-repaired x new early =
-      sym (arrival_count all x (runs_at s.items s.ends) new h.trailing.chained h.trailing.complete ∙ rw early refl)
+  early-repaired x early = sym (arrival_early all x (runs_at s.items s.ends) h.trailing.chained early).1
 
   -- the counts that are read
   pub count-late : (x : Command) (n : ℕ) → n ≡ times (λ k. ltb x.time k) clocks → times (λ run. ltb x.time (beats run)) (runs_at s.items s.ends) ≡ n
@@ -292,4 +296,4 @@ module _ {W : Type 0} {rules : Rules W} {opening : W} {ticks : ℕ} {all : List 
       let clock : t ≡ beats (get_or runs m []) = at ∙ get-any clocks m t 0 (omega arith) ∙ clock-at h falls first m inside in
       count ∙ ap (times (λ (k : ℕ). ltb t k)) h.clocks_are ∙ count-map (λ (k : ℕ). ltb t k) beats runs
       ∙ ap (λ (n : ℕ). times (λ (run : List Item). ltb n (beats run)) runs) clock
-      ∙ sym (arrival_late_count all x runs m new h.trailing.chained h.trailing.complete late)
+      ∙ sym (arrival_late all x runs m new h.trailing.chained h.trailing.complete late).1

@@ -3,7 +3,6 @@ use Rattle.std.proofs.Common.{◌≡◌, refl, ◌∙◌, sym, ap, subst, ℕ, s
 use Rattle.std.proofs.lemmas.List.{length-set, map-set, take-append-drop}
 use Rattle.std.proofs.Math.Seq.{take-append_seam, drop-append_seam}
 use Rattle.sync_model.proofs.Lists.{all-put}
-use Rattle.sync_model.proofs.Repairs.{step_count}
 use Rattle.std.proofs.lemmas.Bool.{false_from_ne_true}
 use Rattle.game_trait.specs.declared.command.Command.{Command}
 use Rattle.game_trait.specs.declared.command.Item.{Item}
@@ -24,7 +23,7 @@ use Rattle.executed_list.specs.Segments.{OneList, Falls, end_of, runs_at}
 use Rattle.executed_list.proofs.Lists.{length-taken}
 use Rattle.trailing_copy.specs.Stack.{IsStack}
 use Rattle.trailing_copy.proofs.Remade.{run-many, run-at, end-inside}
-use Rattle.trailing_copy.proofs.Steps.{clock-read, new-run, behind-ahead, front-repaired}
+use Rattle.trailing_copy.proofs.Steps.{clock-read, new-run, behind-ahead}
 
 -- two tests that follow from each other are one
 both-ways : (a b : Bool) → (a ≡ true → b ≡ true) → (b ≡ true → a ≡ true) → a ≡ b
@@ -123,12 +122,10 @@ module _ {W : Type 0} {rules : Rules W} {opening : W} {ticks : ℕ} {all : List 
   passed-runs =
       map-set (λ (e : ℕ). take e s.items) s.ends (suc c) (end_of s.ends (suc c) + length (tick_of all t))
       ∙ ap (set (runs_at s.items s.ends) (suc c)) taken-is
-      ∙ sym (step_front all (runs_at s.items s.ends) c h.trailing.chained front)
+      ∙ sym (step_front all (runs_at s.items s.ends) c h.trailing.chained front).0
 
   pub passed-repaired : 0 ≡ repaired all (set (runs_at s.items s.ends) (suc c) (with_tick all (get_or (runs_at s.items s.ends) (suc c) [])))
-  passed-repaired =
-      sym (step_count all (runs_at s.items s.ends) (suc c) h.trailing.chained h.trailing.complete (behind-ahead (runs_at s.items s.ends) c behind) there
-      ∙ front-repaired all (runs_at s.items s.ends) c front)
+  passed-repaired = sym (step_front all (runs_at s.items s.ends) c h.trailing.chained front).1
 
   pub passed-kept :
       (w : W) → w ≡ world_of rules opening (with_tick all (get_or (runs_at s.items s.ends) (suc c) []))

@@ -1,5 +1,5 @@
 -- A step as a change at one copy.
-use Rattle.std.proofs.Common.{◌≡◌, refl, ◌∙◌, sym, ap, subst, ℕ, zero, suc, ◌+◌, ◌-◌, ◌≤◌, ◌<◌, true, false, List, [], ◌∷◌, ◌++◌, length, take, get_or, set, arith}
+use Rattle.std.proofs.Common.{◌≡◌, refl, ◌∙◌, sym, ap, subst, ℕ, zero, suc, ◌+◌, ◌-◌, ◌≤◌, ◌<◌, false, List, [], ◌∷◌, ◌++◌, length, take, get_or, set, arith}
 use Rattle.game_trait.specs.declared.command.Command.{Command}
 use Rattle.game_trait.specs.declared.command.Item.{Item}
 use Rattle.game_trait.specs.Game.{Rules}
@@ -14,7 +14,6 @@ use Rattle.sync_model.proofs.Proposals.{complete-tick, beats-with_tick}
 use Rattle.sync_model.proofs.Trailing.{IsBehindAhead}
 use Rattle.sync_model.specs.Repairs.{rebuild}
 use Rattle.sync_model.proofs.Rebuilt.{step_apart, step_first}
-use Rattle.sync_model.proofs.Repairs.{step_count}
 use Rattle.sync_model.proofs.Rebuilt.{rebuilt_level}
 use Rattle.sync_model.proofs.Trailing.{trailing-step, beats-step}
 use Rattle.executed_list.specs.Segments.{OneList, Falls, end_of, runs_at}
@@ -22,7 +21,6 @@ use Rattle.executed_list.proofs.Lists.{all-at, get-any, falls-set, falls-push}
 use Rattle.trailing_copy.specs.Stack.{CopyState, IsStack}
 use Rattle.std.proofs.lemmas.List.{length-set, get_or-set_same, get_or-set_other}
 use Rattle.sync_model.proofs.Lists.{all-put}
-use Rattle.sync_model.specs.Repairs.{repaired_by_step}
 use Rattle.trailing_copy.proofs.Remade.{Change, Put, put-one, run-many, clock-many, world-many, clock-at, run-at, world-at, clocks-fall}
 
 pub behind-ahead : (runs : List (List Item)) (c : ℕ) → beats (get_or runs (suc c) []) < beats (get_or runs c []) → IsBehindAhead runs (suc c)
@@ -41,19 +39,6 @@ lead-rebuilt all (r ∷ rs) b some low = ap (λ (l : List Item). l ∷ rs) (sym 
 ticked : (all : List Command) (run : List Item) → with_tick all run ≡ run ++ tick_of all (beats run)
 unfolding with_tick
 ticked all run = refl
-
--- how many a step repairs
-none-repaired : (all : List Command) (runs : List (List Item)) → repaired_by_step all runs zero ≡ zero
-unfolding repaired_by_step
-none-repaired all runs = refl
-
-all-repaired : (all : List Command) (runs : List (List Item)) (c : ℕ) → begins_with (get_or runs c []) (with_tick all (get_or runs (suc c) [])) ≡ false → repaired_by_step all runs (suc c) ≡ suc c
-unfolding repaired_by_step
-all-repaired all runs c apart = rw apart refl
-
-pub front-repaired : (all : List Command) (runs : List (List Item)) (c : ℕ) → begins_with (get_or runs c []) (with_tick all (get_or runs (suc c) [])) ≡ true → repaired_by_step all runs (suc c) ≡ zero
-unfolding repaired_by_step
-front-repaired all runs c front = rw front refl
 
 module _ {W : Type 0} {rules : Rules W} {opening : W} {ticks : ℕ} {all : List Command} {spare : ℕ} {s : OneList} {worlds : List W} {clocks : List ℕ}
     (h : IsStack rules opening ticks all spare s worlds clocks) (falls : Falls s.ends) (first : end_of s.ends 0 ≡ length s.items) where
@@ -98,7 +83,7 @@ module _ {W : Type 0} {rules : Rules W} {opening : W} {ticks : ℕ} {all : List 
         ks_own = get_or-set_same clocks zero (t + 1) 0 (omega arith) ∙ ap (λ (k : ℕ). k + 1) clock ∙ sym beats_made ∙ ap beats made;
         ks_within = all-put (λ k. k ≤ ticks) clocks zero (t + 1) h.within (omega arith);
         trailing = trailing-step h.trailing zero room;
-        target_is = step_first all runs h.trailing.chained ∙ lead-rebuilt all runs (with_tick all (get_or runs zero [])) there (omega arith) ∙ ap (λ (b : List Item). rebuild all b (suc zero) runs) made;
+        target_is = (step_first all runs h.trailing.chained).0 ∙ lead-rebuilt all runs (with_tick all (get_or runs zero [])) there (omega arith) ∙ ap (λ (b : List Item). rebuild all b (suc zero) runs) made;
         target_beats = beats-step h.trailing zero room ∙ ap (λ (l : List ℕ). set l zero (beats (get_or runs zero []) + 1)) (sym h.clocks_are) ∙ ap (λ (k : ℕ). set clocks zero (k + 1)) (sym clock);
         whole = subst (IsComplete all) made (complete-tick all (get_or runs zero []) (all-at (IsComplete all) runs zero [] h.trailing.complete there));
         counts = refl;
@@ -130,7 +115,7 @@ module _ {W : Type 0} {rules : Rules W} {opening : W} {ticks : ℕ} {all : List 
         ks_own = get_or-set_same clocks (suc c) (t + 1) 0 (omega arith) ∙ ap (λ (k : ℕ). k + 1) clock ∙ sym beats_made ∙ ap beats made;
         ks_within = all-put (λ k. k ≤ ticks) clocks (suc c) (t + 1) h.within (omega arith);
         trailing = trailing-step h.trailing (suc c) room;
-        target_is = step_apart all runs c h.trailing.chained h.trailing.complete room there apart_at ∙ ap (λ (b : List Item). rebuild all b (suc (suc c)) runs) made;
+        target_is = (step_apart all runs c h.trailing.chained h.trailing.complete room there apart_at).0 ∙ ap (λ (b : List Item). rebuild all b (suc (suc c)) runs) made;
         target_beats = beats-step h.trailing (suc c) room ∙ ap (λ (l : List ℕ). set l (suc c) (beats (get_or runs (suc c) []) + 1)) (sym h.clocks_are) ∙ ap (λ (k : ℕ). set clocks (suc c) (k + 1)) (sym clock);
         whole = subst (IsComplete all) made (complete-tick all (get_or runs (suc c) []) (all-at (IsComplete all) runs (suc c) [] h.trailing.complete there));
         counts = refl;
@@ -166,15 +151,14 @@ module _ {W : Type 0} {rules : Rules W} {opening : W} {ticks : ℕ} {all : List 
       → (0 < c → beats (get_or (runs_at s.items s.ends) c []) < beats (get_or (runs_at s.items s.ends) (c - 1) []))
       → (0 < c → begins_with (get_or (runs_at s.items s.ends) (c - 1) []) (with_tick all (get_or (runs_at s.items s.ends) c [])) ≡ false)
       → c ≡ repaired all (set (runs_at s.items s.ends) c (with_tick all (get_or (runs_at s.items s.ends) c [])))
-  apart-repaired zero there behind apart = sym (step_count all (runs_at s.items s.ends) zero h.trailing.chained h.trailing.complete (none-ahead (runs_at s.items s.ends)) there ∙ none-repaired all (runs_at s.items s.ends))
+  apart-repaired zero there behind apart = sym (step_first all (runs_at s.items s.ends) h.trailing.chained).1
   apart-repaired (suc c) there behind_if apart_if =
       let behind = behind_if (omega arith) in
       let apart = apart_if (omega arith) in
       let e : suc c - 1 ≡ c = omega arith in
       let behind_at : beats (get_or (runs_at s.items s.ends) (suc c) []) < beats (get_or (runs_at s.items s.ends) c []) = rw e at behind in
       let apart_at : begins_with (get_or (runs_at s.items s.ends) c []) (with_tick all (get_or (runs_at s.items s.ends) (suc c) [])) ≡ false = rw e at apart in
-      sym (step_count all (runs_at s.items s.ends) (suc c) h.trailing.chained h.trailing.complete (behind-ahead (runs_at s.items s.ends) c behind_at) there
-      ∙ all-repaired all (runs_at s.items s.ends) c apart_at)
+      sym (step_apart all (runs_at s.items s.ends) c h.trailing.chained h.trailing.complete (behind-ahead (runs_at s.items s.ends) c behind_at) there apart_at).1
 
 -- states are one where their runs are
 pub same-state :

@@ -33,6 +33,7 @@ pub fn apply_to_each<G: Game>(worlds: &mut Vec<G>, first: u8, last: u8, x: &Comm
     requires few { last < MOST_COPIES }
     ensures each { (d : G) (i : ℕ) → first ≤ i → i ≤ last
         → slice_index_or worlds.new.items i d ≡ G.rules.apply (slice_index_or worlds.old.items i d) x.now }
+    ensures ahead { (d : G) (i : ℕ) → i < first → slice_index_or worlds.new.items i d ≡ slice_index_or worlds.old.items i d }
     ensures behind { drop (last + 1) worlds.new.items ≡ drop (last + 1) worlds.old.items }
     ensures len { vec_len worlds.new ≡ vec_len worlds.old }
 {

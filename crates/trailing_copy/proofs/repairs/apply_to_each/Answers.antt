@@ -14,3 +14,6 @@ loop-c-preserved g c =
 
 pub returns-clause-each : goal.returns-clause-each
 returns-clause-each g c = λ d i from upto. c.loop-c.invariant.each d i from (let done = c.loop-c-test.false in omega arith)
+
+pub returns-clause-ahead : goal.returns-clause-ahead
+returns-clause-ahead g c = c.loop-c.invariant.ahead

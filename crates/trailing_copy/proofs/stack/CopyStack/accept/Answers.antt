@@ -11,7 +11,7 @@ arrive_early-requires-clause-early g c =
 pub returns-then-late-eq0-clause-repaired : goal.returns-then-late-eq0-clause-repaired
 returns-then-late-eq0-clause-repaired g c =
     rw (← c.self.view_is)
-    (early-repaired c.self.invariant c.len.ensures.falls c.len.ensures.first c.args.x.now (rw (← c.self.view_is) at c.requires.new_name)
+    (early-repaired c.self.invariant c.len.ensures.falls c.len.ensures.first c.args.x.now
     (none-above c.args.x.now _ (count-late c.self.invariant c.len.ensures.falls c.len.ensures.first c.args.x.now c.count_above-late.result (rw c.deref.ensures.value at c.count_above-late.ensures.count) ∙ c.if-late-eq0.true)))
 
 one-less : (n : ℕ) → (n ≡ 0 → ⊥) → n ≡ suc (n - 1)
