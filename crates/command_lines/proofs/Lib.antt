@@ -1,1 +1,1 @@
-mod CommandLaws
+pub mod CommandLaws

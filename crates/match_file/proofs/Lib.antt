@@ -1,14 +1,14 @@
-pub mod BodyLaws
-pub mod CountLaws
-pub mod ExactKinds
-pub mod FaultLaws
-pub mod LiftLaws
-pub mod MatchIsRead
-pub mod OpeningLaws
-pub mod PrintLaws
-pub mod ReadIsMatch
-pub mod ReadLaws
-pub mod RosterLaws
-pub mod TextLaws
+mod BodyLaws
+mod CountLaws
+mod ExactKinds
+mod FaultLaws
+mod LiftLaws
+mod MatchIsRead
+mod OpeningLaws
+mod PrintLaws
+mod ReadIsMatch
+mod ReadLaws
+mod RosterLaws
+mod TextLaws
 pub mod TextLength
-pub mod WallLaws
+mod WallLaws

@@ -6,7 +6,7 @@ use Rattle.sync_model.specs.State.{MirrorState}
 use Rattle.sync_model.specs.Change.{next, after}
 use Rattle.sync_model.specs.Consistent.{IsConsistent}
 use Rattle.sync_model.proofs.Cases.{next-plan}
-use Rattle.sync_model.proofs.History.{history-after, after-changing}
+use Rattle.sync_model.proofs.History.{history_grows, changing_events_suffice}
 use Rattle.turn_lock.specs.declared.history.Entry.{Entry}
 use Rattle.turn_lock.specs.declared.view.Member.{Member}
 use Rattle.turn_lock.specs.Histories.{value, IsSound}
@@ -34,8 +34,8 @@ module _ {W : Type 0} where
       let is : mirror ≡ after opening (events_of whole.log) = whole.object_is ∙ value_is_after opening whole.log in
       record {
         whole = whole;
-        history = ap (λ (s : MirrorState W). s.history) is ∙ history-after opening (events_of whole.log);
-        state = is ∙ sym (after-changing (events_of whole.log) opening);
+        history = ap (λ (s : MirrorState W). s.history) is ∙ history_grows opening (events_of whole.log);
+        state = is ∙ sym (changing_events_suffice (events_of whole.log) opening);
         same_plan = ap (λ (s : MirrorState W). s.plan) whole.object_is ∙ same_plan opening whole.log whole.sound;
         consistent = consistent;
       }

@@ -6,7 +6,7 @@ pub mod Staggered
 pub mod Cases
 mod Clocks
 pub mod Along
-mod Drain
+pub mod Drain
 mod Played
 pub mod History
 pub mod Room

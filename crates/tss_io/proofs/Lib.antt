@@ -1,16 +1,16 @@
-pub mod DecimalLaws
+mod DecimalLaws
 pub mod EachLaws
 pub mod FormLaws
 pub mod KindLaws
 pub mod LineLaws
-pub mod LineSteps
-pub mod OverLaws
+mod LineSteps
+mod OverLaws
 pub mod Printing
-pub mod ReadFaults
+mod ReadFaults
 pub mod Results
 pub mod RunLaws
 pub mod RunToLaws
 pub mod Spaced
 pub mod Streams
-pub mod WalkLaws
-pub mod WordLists
+mod WalkLaws
+mod WordLists

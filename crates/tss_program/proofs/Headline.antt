@@ -19,10 +19,10 @@ use Rattle.sync_model.specs.History.{changing}
 use Rattle.sync_model.specs.Turns.{turns_of, IsDrained, drain}
 use Rattle.sync_model.specs.Legal.{NamesWhatIsThere, IsLegal}
 use Rattle.sync_model.proofs.Cases.{after-fixed}
-use Rattle.sync_model.proofs.Along.{staggered-after}
-use Rattle.sync_model.proofs.History.{after-append, history-after, late-exactly}
-use Rattle.sync_model.proofs.Legal.{named-fits, changing-log}
-use Rattle.sync_model.proofs.Drain.{drain-ends, drain-turns, drained-worlds}
+use Rattle.sync_model.proofs.Along.{staggered_along}
+use Rattle.sync_model.proofs.History.{after-append, history_grows, late_exactly}
+use Rattle.sync_model.proofs.Legal.{named-fits, changing_events_are_a_log}
+use Rattle.sync_model.proofs.Drain.{draining_ends, draining_is_turns, drained_worlds}
 use Rattle.match_file.specs.Data.{MatchData, IsMatch, IsScriptLine}
 use Rattle.match_file.specs.declared.script_line.ScriptLine.{ScriptLine}
 use Rattle.tss_program.specs.Hall.{mirror_of, changed_at, after_line, opening_mirror, opening_mirrors, after_script, scripted, played, logs_from}
@@ -44,21 +44,21 @@ made-IsPlayed {W} rules m opening i es sound named drained =
     let end = after start es in
     let due = subst (λ (n : ℕ). AllByRecursion (λ x. x.time < n) m.commands) (sym (opening-length m opening i)) (due-within m sound) in
     let begun = opening-staggered m opening i in
-    let log = changing-log m.commands start es due begun named in
-    let history : changing start es ≡ end.history = sym (history-after start es ∙ ap (λ (l : List Event). l ++ changing start es) (opening-history m opening i)) in
+    let log = changing_events_are_a_log m.commands start es due begun named in
+    let history : changing start es ≡ end.history = sym (history_grows start es ∙ ap (λ (l : List Event). l ++ changing start es) (opening-history m opening i)) in
     let fit = all-weaker (NamesWhatIsThere m.commands start) (Fits start) es (λ e n. named-fits m.commands start due e n) named in
     let fixed = after-fixed es start in
     record {
       all = refl;
       legal = subst (λ (l : List Event). IsLegal m.commands start l) history log.legal;
       staggered = subst (λ (l : List Event). (n : ℕ) → IsStaggered (after start (take n l))) history log.staggered;
-      late = λ n x bound. late-exactly (after start (take n end.history)) x bound;
+      late = λ n x bound. late_exactly (after start (take n end.history)) x bound;
       leads = ap (λ (l : List Event). after start l) (sym history) ∙ log.leads;
       drained = drained;
       worlds = subst
           (λ (w : W). AllByRecursion (λ run. world_of rules w run ≡ time_ordered rules w end.accepted m.length) end.runs) fixed.opening
           (subst (λ (n : ℕ). AllByRecursion (λ run. world_of rules end.opening run ≡ time_ordered rules end.opening end.accepted n) end.runs)
-          (fixed.length ∙ opening-length m opening i) (drained-worlds rules end (staggered-after es start fit begun) drained));
+          (fixed.length ∙ opening-length m opening i) (drained_worlds rules end (staggered_along es start fit begun) drained));
     }
 
 -- whatever plan is in force, its delays rise
@@ -76,7 +76,7 @@ pub way-IsPlayed :
     → IsPlayed rules m (opening_mirror opening m i) (drain s) (drain s).history
 way-IsPlayed {W} rules m opening i s sound way =
     let start = opening_mirror opening m i in
-    let turned = drain-turns s in
+    let turned = draining_is_turns s in
     let n = length s.runs in
     let turns = turns_of n turned.0 in
     let made : drain s ≡ after start (way.es ++ turns) = turned.2 ∙ ap (λ (t : MirrorState W). after t turns) way.reached ∙ sym (after-append start way.es turns) in
@@ -85,9 +85,9 @@ way-IsPlayed {W} rules m opening i s sound way =
     let begun = opening-staggered m opening i in
     let due = subst (λ (k : ℕ). AllByRecursion (λ x. x.time < k) m.commands) (sym (opening-length m opening i)) (due-within m sound) in
     let fit = all-weaker (NamesWhatIsThere m.commands start) (Fits start) way.es (λ e h. named-fits m.commands start due e h) way.named in
-    let staggered : IsStaggered s = subst IsStaggered (sym way.reached) (staggered-after way.es start fit begun) in
+    let staggered : IsStaggered s = subst IsStaggered (sym way.reached) (staggered_along way.es start fit begun) in
     let rise : DelaysRise (delays_of s) = plan-rises m.delays s.plans s.plan (DelaysRise-from_next m.delays sound.rises) (way-plans m opening i [] s way) in
-    let drained : IsDrained (drain s) = drain-ends s rise staggered in
+    let drained : IsDrained (drain s) = draining_ends s rise staggered in
     subst (λ (t : MirrorState W). IsPlayed rules m start t t.history) (sym made)
     (made-IsPlayed rules m opening i (way.es ++ turns) sound named (subst IsDrained made drained))
 

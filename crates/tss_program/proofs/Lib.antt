@@ -1,8 +1,8 @@
-pub mod Named
-pub mod Ready
-pub mod Steps
-pub mod Events
-pub mod OnWay
-pub mod Whole
-pub mod Ends
-pub mod Headline
+mod Named
+mod Ready
+mod Steps
+mod Events
+mod OnWay
+mod Whole
+mod Ends
+mod Headline

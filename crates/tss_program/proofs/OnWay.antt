@@ -17,7 +17,7 @@ use Rattle.game_trait.specs.Events.{is_arrival, is_restagger}
 use Rattle.sync_model.specs.History.{HasRoomAlong}
 use Rattle.sync_model.specs.Legal.{NamesWhatIsThere}
 use Rattle.sync_model.specs.Staggered.{IsStaggered}
-use Rattle.sync_model.proofs.Staggered.{staggered-opening}
+use Rattle.sync_model.proofs.Staggered.{opening_staggered}
 use Rattle.sync_model.proofs.Cases.{after-fixed}
 use Rattle.sync_model.proofs.History.{after-append}
 use Rattle.match_file.specs.Data.{MatchData, IsCommand, IsMatch, IsScriptLine}
@@ -63,7 +63,7 @@ opening-plans m opening i = refl
 
 pub opening-staggered : {W : Type 0} (m : MatchData) (opening : W) (i : ℕ) → IsStaggered (opening_mirror opening m i)
 unfolding opening_mirror
-opening-staggered m opening i = staggered-opening opening m.length (m.delays ∷ []) (times (arrives_at i) m.script) 0
+opening-staggered m opening i = opening_staggered opening m.length (m.delays ∷ []) (times (arrives_at i) m.script) 0
 
 opening-spare : {W : Type 0} (m : MatchData) (opening : W) (i : ℕ) → (opening_mirror opening m i).spare ≡ times (arrives_at i) m.script
 unfolding opening_mirror
