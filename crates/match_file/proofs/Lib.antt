@@ -9,6 +9,6 @@ mod PrintLaws
 mod ReadIsMatch
 mod ReadLaws
 mod RosterLaws
-mod TextLaws
-pub mod TextLength
+pub mod TextLaws
+mod TextLength
 mod WallLaws

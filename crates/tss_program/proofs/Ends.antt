@@ -1,5 +1,5 @@
 -- What was read, and how a run may end.
-use Rattle.std.proofs.Common.{◌≡◌, false, lit≤, ℕ, ◌+◌, ◌<◌, ◌≤◌, ◌⊎◌, List, [], ◌++◌, Option, Some, None, Result, Ok, Err, length, take, drop, inl, inr, sym, ap, subst, refl, ◌∙◌, arith}
+use Rattle.std.proofs.Common.{◌≡◌, true, false, lit≤, Bool, ℕ, ◌+◌, ◌<◌, ◌≤◌, ◌⊎◌, List, [], ◌++◌, Option, Some, None, Result, Ok, Err, length, take, drop, inl, inr, sym, ap, subst, refl, ◌∙◌, arith}
 use Rattle.std.specs.Prelude.{IfSome, IfErr, option_map, nat_eq}
 use Rattle.std.proofs.lemmas.Bool.Decides.{nat_tests}
 use Rattle.std.specs.Result.{IsErrAnd}
@@ -7,27 +7,31 @@ use Rattle.std.proofs.lemmas.List.{append-nil, drop_all, length-append, length-t
 use Rattle.std.proofs.Math.Seq.{drop-append_seam}
 use Rattle.tss_io.specs.Streams.{Gains, Yields}
 use Rattle.tss_io.proofs.Streams.{Gains-none, Yields-none}
-use Rattle.match_file.specs.declared.fault.Refused.{Refused}
-use Rattle.match_file.specs.Data.{MatchData, IsPlain}
+use Rattle.tss_io.specs.declared.cause.Cause.TheVariants.{Long}
+use Rattle.tss_io.specs.declared.fault.Refused.{Refused}
+use Rattle.tss_io.specs.declared.fault.TextFault.{TextFault}
+use Rattle.tss_io.specs.declared.fault.TextFault.TheVariants as text_faults
+use Rattle.tss_io.specs.Reading.{Fails, refused_at}
+use Rattle.std.proofs.lemmas.Bool.{lt-ltb}
+use Rattle.match_file.specs.Data.{MatchData, IsMatch}
 use Rattle.match_file.specs.Text.{match_text}
-use Rattle.match_file.proofs.TextLength.{length-match_text}
 use Rattle.tss_io.specs.Streams.{Rose}
 use Rattle.arena_rules.specs.World.{opening_world, arena_rules}
 use Rattle.run_recorder.specs.declared.log.MirrorLog.{MirrorLog}
 use Rattle.match_file.specs.Reading.{read_text}
-use Rattle.match_file.proofs.MatchLaws.{read_text-match_text, match_text-read_text}
+use Rattle.match_file.proofs.TextLaws.{whole_read, whole_found, refused_first}
 use Rattle.tss_program.specs.declared.subcommand.Subcommand.{Subcommand}
-use Rattle.tss_program.specs.declared.subcommand.Subcommand.TheVariants.{Order, Play}
+use Rattle.tss_program.specs.declared.subcommand.Subcommand.TheVariants.{Order, Play, Lift}
 use Rattle.tss_program.specs.declared.status.Status.{Status}
-use Rattle.tss_program.specs.declared.status.Status.TheVariants.{Complete, WrongWords, Refusal}
+use Rattle.tss_program.specs.declared.status.Status.TheVariants.{WrongWords, Refusal}
 use Rattle.tss_program.specs.Subcommands.{subcommand_of}
-use Rattle.tss_program.specs.Due.{Due, IsDue, usage, match, refusal, due_of_match, usage_due, refusal_due, usage_text, refused_text, code, text_limit, IsNoMatch, refusal_of}
+use Rattle.tss_program.specs.Due.{Due, IsDue, usage, match, refusal, is_playable, play_due, due_of_match, usage_due, refusal_due, usage_text, refused_text, code, text_limit, IsRefused}
 use Rattle.tss_program.proofs.Headline.{played-AllPlayed}
 use Rattle.tss_io.specs.declared.faults.ReadFault.{ReadFault}
 use Rattle.tss_io.specs.declared.faults.ReadFault.TheVariants as reads
 use Rattle.tss_program.specs.declared.stop.Stop.{Stop}
 use Rattle.tss_program.specs.declared.stop.Stop.TheVariants as stops
-use Rattle.tss_program.specs.Stops.{stop_of_read}
+use Rattle.tss_program.specs.Stops.{stop_of_read, stop_of_text}
 use Rattle.tss_program.specs.Run.{Streams, EndsWith, EndsAsDue, IsPut, Keeps, KeepsAMatch, IsRun, IsInput, behind_limit, RefusesText, WhyStopped, IfRefused}
 
 -- ---- what was read
@@ -60,15 +64,37 @@ pub behind_limit-over : (old new : Option (List ℕ)) (p : List ℕ) → Yields 
 unfolding behind_limit
 behind_limit-over old new p yields long = read-over text_limit old new p yields long
 
--- a text over the limit is that of no match
-pub over-IsNoMatch : (text : List ℕ) → text_limit < length text → IsNoMatch text
-over-IsNoMatch text over m plain is =
-    (let short : length text ≤ text_limit = subst (λ (l : List ℕ). length l ≤ text_limit) (sym is) (length-match_text m plain) in omega arith)
+-- the whole of an input was read
+pub input-whole : (old new : Option (List ℕ)) (p : List ℕ) → Yields old p new → IfSome new (λ rest. rest ≡ []) → IsInput old p
+input-whole (Some a) (Some b) p yields end = (let whole : a ≡ p ++ b = yields in let empty : b ≡ [] = end in whole ∙ ap (λ (l : List ℕ). p ++ l) empty ∙ append-nil p)
+input-whole (Some a) None p yields end = absurd yields
+input-whole None (Some b) p yields end = tt
+input-whole None None p yields end = tt
 
--- a text that is over the limit is refused
-pub over-refused : (left : Option (List ℕ)) (front : List ℕ) (refused : Refused) → IfSome left (λ bytes. text_limit < length bytes) → text_limit < length front → refused ≡ refusal_of front → RefusesText left refused
-over-refused (Some bytes) front refused over long is = record { input = bytes; told = refl; no_match = over-IsNoMatch bytes over; cause = is }
-over-refused None front refused over long is = record { input = front; told = tt; no_match = over-IsNoMatch front long; cause = is }
+-- ---- texts that are refused
+
+same_refusal : (text : List ℕ) (a b : Refused) → read_text text ≡ Err a → read_text text ≡ Err b → a ≡ b
+same_refusal text a b is its = cc
+
+no_refusal : (text : List ℕ) (m : MatchData) (refused : Refused) → read_text text ≡ Ok m → read_text text ≡ Err refused → ⊥
+no_refusal text m refused is its = absurd cc
+
+-- a text that reading refuses is that of no match
+pub read-refused : (text : List ℕ) (refused : Refused) → read_text text ≡ Err refused → IsRefused text refused
+read-refused text refused is = record {
+  no_match = λ m sound same. no_refusal text m refused (ap read_text same ∙ whole_read m sound) is;
+  first = refused_first text (Err (text_faults.Refused refused)) is;
+  read = is;
+}
+
+-- one that is over the limit is refused as a whole
+over-read : (text : List ℕ) → text_limit < length text → read_text text ≡ Err (refused_at 0 Long)
+unfolding read_text
+over-read text over = rw (lt-ltb text_limit (length text) over) refl
+
+pub over-refused : (left : Option (List ℕ)) (front : List ℕ) → IfSome left (λ bytes. text_limit < length bytes) → text_limit < length front → RefusesText left (refused_at 0 Long)
+over-refused (Some bytes) front over long = record { input = bytes; told = refl; is = read-refused bytes _ (over-read bytes over) }
+over-refused None front over long = record { input = front; told = tt; is = read-refused front _ (over-read front long) }
 
 -- ---- why there is no match
 
@@ -85,7 +111,11 @@ pub why-read :
 why-read left now R r reads.NoMemory is over front rose = tt
 why-read left now R r reads.Failed is over front rose = rose is
 why-read left now R r reads.TooLong is over front rose =
-    (let read = front is in over-refused left read.0 _ (over is) (let long = read.1 in omega arith) refl)
+    (let read = front is in over-refused left read.0 (over is) (let long = read.1 in omega arith))
+
+pub why-text : (left : Option (List ℕ)) (R : Type 0) (text : List ℕ) (fault : TextFault) → IsInput left text → Fails {Y = MatchData} fault (read_text text) → WhyStopped left R (stop_of_text fault)
+why-text left R text text_faults.NoMemory told is = tt
+why-text left R text (text_faults.Refused refused) told is = record { input = text; told = told; is = read-refused text refused is }
 
 pub refused-read :
     {T : Type 0} (left now : Option (List ℕ)) (r : Result T ReadFault) (fault : ReadFault) → r ≡ Err fault
@@ -125,9 +155,9 @@ abbrev same_result : MatchData → Result MatchData Refused
 same_result m = Ok m
 
 -- a match has one text
-pub match_text-injective : (m n : MatchData) → IsPlain m → IsPlain n → match_text m ≡ match_text n → m ≡ n
-match_text-injective m n plain other same =
-    (let read : same_result m ≡ same_result n = sym (read_text-match_text m plain) ∙ ap read_text same ∙ read_text-match_text n other in cc)
+pub match_text-injective : (m n : MatchData) → IsMatch m → IsMatch n → match_text m ≡ match_text n → m ≡ n
+match_text-injective m n sound other same =
+    (let read : same_result m ≡ same_result n = sym (whole_read m sound) ∙ ap read_text same ∙ whole_read n other in cc)
 
 no_subcommand : {P : Type 0} (words : List (List ℕ)) (subcommand : Subcommand) → subcommand_of words ≡ None → subcommand_of words ≡ Some subcommand → P
 no_subcommand words subcommand none some = absurd (let never = sym none ∙ some in cc)
@@ -135,30 +165,45 @@ no_subcommand words subcommand none some = absurd (let never = sym none ∙ some
 -- what is due for the text of a match is what the match decides
 due-of_match :
     (words : List (List ℕ)) (input : List ℕ) (due : Due) (subcommand : Subcommand) (m : MatchData) → IsDue words input due
-    → subcommand_of words ≡ Some subcommand → IsPlain m → input ≡ match_text m → due ≡ due_of_match subcommand m
-due-of_match words input due subcommand m (usage none is) asked plain text = no_subcommand words subcommand none asked
-due-of_match words input due subcommand m (match other n said also its is) asked plain text =
-    (let same : n ≡ m = match_text-injective n m also plain (sym its ∙ text) in
+    → subcommand_of words ≡ Some subcommand → IsMatch m → input ≡ match_text m → due ≡ due_of_match subcommand m
+due-of_match words input due subcommand m (usage none is) asked sound text = no_subcommand words subcommand none asked
+due-of_match words input due subcommand m (match other n said also its is) asked sound text =
+    (let same : n ≡ m = match_text-injective n m also sound (sym its ∙ text) in
     let one : other ≡ subcommand = cc in
     is ∙ ap (λ (k : Subcommand). due_of_match k n) one ∙ ap (due_of_match subcommand) same)
-due-of_match words input due subcommand m (refusal other said none is) asked plain text = absurd (none m plain text)
+due-of_match words input due subcommand m (refusal other refused said none is) asked sound text = absurd (none.no_match m sound text)
 
 -- playing a match keeps the logs of its mirrors
-keeps-played : (m : MatchData) → IsPlain m → Keeps m (due_of_match Play m).kept
-keeps-played m plain = played-AllPlayed arena_rules m (opening_world m.layout) plain.sound
+keeps-played : (m : MatchData) → IsMatch m → Keeps m (play_due true m).kept
+keeps-played m sound = played-AllPlayed arena_rules m (opening_world m.layout) sound
 
-match-kept : (left : Option (List ℕ)) (input : List ℕ) (m : MatchData) → IsInput left input → IsPlain m → input ≡ match_text m → KeepsAMatch left (due_of_match Play m).kept
-match-kept left input m told plain text = record { m = m; plain = plain; text = subst (IsInput left) text told; keeps = keeps-played m plain }
+match-kept : (left : Option (List ℕ)) (input : List ℕ) (m : MatchData) → IsInput left input → IsMatch m → input ≡ match_text m → KeepsAMatch left (play_due true m).kept
+match-kept left input m told sound text = record { m = m; sound = sound; text = subst (IsInput left) text told; keeps = keeps-played m sound }
+
+-- of a match that can be played, or can't yet
+play-logs : (left : Option (List ℕ)) (input : List ℕ) (b : Bool) (m : MatchData) → IsInput left input → IsMatch m → input ≡ match_text m
+    → ((play_due b m).kept ≡ []) ⊎ KeepsAMatch left (play_due b m).kept
+play-logs left input true m told sound text = inr (match-kept left input m told sound text)
+play-logs left input false m told sound text = inl refl
+
+play-status : (P : ℕ → Type 0) (b : Bool) (m : MatchData) → P 0 → P 5 → P (code (play_due b m).status)
+play-status P true m whole refused = whole
+play-status P false m whole refused = refused
+
+play-nothing : (b : Bool) (m : MatchData) → (code (play_due b m).status ≡ 0 → ⊥) → (play_due b m).kept ≡ []
+play-nothing true m later = absurd (later refl)
+play-nothing false m later = refl
 
 -- the logs that are due are none, or those of a match
 due-logs :
     (words : List (List ℕ)) (left : Option (List ℕ)) (input : List ℕ) (due : Due) → IsInput left input → IsDue words input due
     → (due.kept ≡ []) ⊎ KeepsAMatch left due.kept
 due-logs words left input due told (usage none is) = inl (ap (λ (d : Due). d.kept) is)
-due-logs words left input due told (match Order m said plain text is) = inl (ap (λ (d : Due). d.kept) is)
-due-logs words left input due told (match Play m said plain text is) =
-    inr (subst (KeepsAMatch left) (sym (ap (λ (d : Due). d.kept) is)) (match-kept left input m told plain text))
-due-logs words left input due told (refusal other said none is) = inl (ap (λ (d : Due). d.kept) is)
+due-logs words left input due told (match Order m said sound text is) = inl (ap (λ (d : Due). d.kept) is)
+due-logs words left input due told (match Lift m said sound text is) = inl (ap (λ (d : Due). d.kept) is)
+due-logs words left input due told (match Play m said sound text is) =
+    subst (λ (l : List MirrorLog). (l ≡ []) ⊎ KeepsAMatch left l) (sym (ap (λ (d : Due). d.kept) is)) (play-logs left input (is_playable m) m told sound text)
+due-logs words left input due told (refusal other refused said none is) = inl (ap (λ (d : Due). d.kept) is)
 
 -- a status is that of what is due, or of a failure
 by-status :
@@ -178,9 +223,10 @@ due-status :
     → (subcommand_of words ≡ None → P 2) → ((subcommand : Subcommand) → subcommand_of words ≡ Some subcommand → P 0)
     → ((subcommand : Subcommand) → subcommand_of words ≡ Some subcommand → P 5) → P (code due.status)
 due-status P words input due (usage none is) a b c = subst (λ (d : Due). P (code d.status)) (sym is) (a none)
-due-status P words input due (match Order m said plain text is) a b c = subst (λ (d : Due). P (code d.status)) (sym is) (b Order said)
-due-status P words input due (match Play m said plain text is) a b c = subst (λ (d : Due). P (code d.status)) (sym is) (b Play said)
-due-status P words input due (refusal other said none is) a b c = subst (λ (d : Due). P (code d.status)) (sym is) (c other said)
+due-status P words input due (match Order m said sound text is) a b c = subst (λ (d : Due). P (code d.status)) (sym is) (b Order said)
+due-status P words input due (match Lift m said sound text is) a b c = subst (λ (d : Due). P (code d.status)) (sym is) (b Lift said)
+due-status P words input due (match Play m said sound text is) a b c = subst (λ (d : Due). P (code d.status)) (sym is) (play-status P (is_playable m) m (b Play said) (c Play said))
+due-status P words input due (refusal other refused said none is) a b c = subst (λ (d : Due). P (code d.status)) (sym is) (c other said)
 
 -- ---- what follows from ending as is due
 
@@ -199,29 +245,36 @@ due-no n words input due is zero two five status of at =
 
 due-nothing : (words : List (List ℕ)) (input : List ℕ) (due : Due) → IsDue words input due → (code due.status ≡ 0 → ⊥) → due.kept ≡ []
 due-nothing words input due (usage none is) later = ap (λ (d : Due). d.kept) is
-due-nothing words input due (match Order m said plain text is) later = ap (λ (d : Due). d.kept) is
-due-nothing words input due (match Play m said plain text is) later = absurd (later (ap (λ (d : Due). code d.status) is))
-due-nothing words input due (refusal other said none is) later = ap (λ (d : Due). d.kept) is
+due-nothing words input due (match Order m said sound text is) later = ap (λ (d : Due). d.kept) is
+due-nothing words input due (match Lift m said sound text is) later = ap (λ (d : Due). d.kept) is
+due-nothing words input due (match Play m said sound text is) later = ap (λ (d : Due). d.kept) is ∙ play-nothing (is_playable m) m (λ zero. later (ap (λ (d : Due). code d.status) is ∙ zero))
+due-nothing words input due (refusal other refused said none is) later = ap (λ (d : Due). d.kept) is
 
-order-nothing : (words : List (List ℕ)) (input : List ℕ) (due : Due) → IsDue words input due → subcommand_of words ≡ Some Order → due.kept ≡ []
-order-nothing words input due (usage none is) asked = ap (λ (d : Due). d.kept) is
-order-nothing words input due (match Order m said plain text is) asked = ap (λ (d : Due). d.kept) is
-order-nothing words input due (match Play m said plain text is) asked = absurd (two (sym said ∙ asked))
-  where
-    two : Some Play ≡ Some Order → ⊥
-    two e = absurd cc
-order-nothing words input due (refusal other said none is) asked = ap (λ (d : Due). d.kept) is
+other-nothing : (words : List (List ℕ)) (input : List ℕ) (due : Due) → IsDue words input due → (subcommand_of words ≡ Some Play → ⊥) → due.kept ≡ []
+other-nothing words input due (usage none is) other = ap (λ (d : Due). d.kept) is
+other-nothing words input due (match Order m said sound text is) other = ap (λ (d : Due). d.kept) is
+other-nothing words input due (match Lift m said sound text is) other = ap (λ (d : Due). d.kept) is
+other-nothing words input due (match Play m said sound text is) other = absurd (other said)
+other-nothing words input due (refusal s refused said none is) other = ap (λ (d : Due). d.kept) is
 
 whole-play : (words : List (List ℕ)) (left : Option (List ℕ)) (input : List ℕ) (due : Due) → IsInput left input → IsDue words input due
     → subcommand_of words ≡ Some Play → code due.status ≡ 0 → KeepsAMatch left due.kept
 whole-play words left input due told (usage none is) asked zero = no_subcommand words Play none asked
-whole-play words left input due told (match Order m said plain text is) asked zero = absurd (two (sym said ∙ asked))
+whole-play words left input due told (match Order m said sound text is) asked zero = absurd (two (sym said ∙ asked))
   where
     two : Some Order ≡ Some Play → ⊥
     two e = absurd cc
-whole-play words left input due told (match Play m said plain text is) asked zero =
-    subst (KeepsAMatch left) (sym (ap (λ (d : Due). d.kept) is)) (match-kept left input m told plain text)
-whole-play words left input due told (refusal other said none is) asked zero =
+whole-play words left input due told (match Lift m said sound text is) asked zero = absurd (two (sym said ∙ asked))
+  where
+    two : Some Lift ≡ Some Play → ⊥
+    two e = absurd cc
+whole-play words left input due told (match Play m said sound text is) asked zero =
+    subst (KeepsAMatch left) (sym (ap (λ (d : Due). d.kept) is)) (whole (is_playable m) (sym (ap (λ (d : Due). code d.status) is) ∙ zero))
+  where
+    whole : (b : Bool) → code (play_due b m).status ≡ 0 → KeepsAMatch left (play_due b m).kept
+    whole true done = match-kept left input m told sound text
+    whole false done = absurd (not 5 0 5 refl refl done)
+whole-play words left input due told (refusal other refused said none is) asked zero =
     absurd (not 5 0 (code due.status) refl (ap (λ (d : Due). code d.status) is) zero)
 
 pub ends-IsRun :
@@ -236,10 +289,13 @@ ends-IsRun words old new status kept e wrong read_steady write_steady whole fron
     let is = e.is_due in
     record {
       ends = e;
-      of_match = told-of old.left e.input _ e.told (λ subcommand m asked plain text.
-          subst (λ (d : Due). EndsWith d old new status kept) (due-of_match words e.input due subcommand m is asked plain text) e.ends);
-      played = told-of old.left e.input _ e.told (λ m asked plain text when.
-          subst (Keeps m) (sym (kept-at due old new status kept e.ends when ∙ ap (λ (d : Due). d.kept) (due-of_match words e.input due Play m is asked plain text))) (keeps-played m plain));
+      of_match = told-of old.left e.input _ e.told (λ subcommand m asked sound text.
+          subst (λ (d : Due). EndsWith d old new status kept) (due-of_match words e.input due subcommand m is asked sound text) e.ends);
+      played = told-of old.left e.input _ e.told (λ m asked sound can text when.
+          subst (Keeps m)
+          (sym (kept-at due old new status kept e.ends when ∙ ap (λ (d : Due). d.kept) (due-of_match words e.input due Play m is asked sound text)
+          ∙ ap (λ (b : Bool). (play_due b m).kept) can))
+          (keeps-played m sound));
       played_whole = λ asked zero. by-status (KeepsAMatch old.left kept) due old new status kept e.ends
           (λ h. absurd (not 1 0 status refl h.0 zero)) (λ h. absurd (not 3 0 status refl h.0 zero)) (λ h. absurd (not 4 0 status refl h.0 zero))
           (λ h. subst (KeepsAMatch old.left) (sym h.1) (whole-play words old.left e.input due e.told is asked (sym h.0 ∙ zero)));
@@ -265,8 +321,8 @@ ends-IsRun words old new status kept e wrong read_steady write_steady whole fron
       nothing_kept = λ when. by-status (kept ≡ []) due old new status kept e.ends
           (λ h. h.1) (λ h. h.2) (λ h. absurd (no-four status h.0 when))
           (λ h. h.1 ∙ due-nothing words e.input due is (λ zero. no-zero status (h.0 ∙ zero) when));
-      order_keeps_nothing = λ asked. by-status (kept ≡ []) due old new status kept e.ends
-          (λ h. h.1) (λ h. h.2) (λ h. h.2 ∙ order-nothing words e.input due is asked) (λ h. h.1 ∙ order-nothing words e.input due is asked);
+      only_play_keeps = λ other. by-status (kept ≡ []) due old new status kept e.ends
+          (λ h. h.1) (λ h. h.2) (λ h. h.2 ∙ other-nothing words e.input due is other) (λ h. h.1 ∙ other-nothing words e.input due is other);
       silent = λ when. by-status (Gains old.taken [] new.taken) due old new status kept e.ends
           (λ h. h.2) (λ h. h.3) (λ h. absurd (no-stop status (not 4 1 status refl h.0) (not 4 3 status refl h.0) when))
           (λ h. absurd (no-stop status (due-no 1 words e.input due is refl refl refl status h.0) (due-no 3 words e.input due is refl refl refl status h.0) when));
@@ -307,12 +363,8 @@ some-due words input = asked (subcommand_of words) refl
   where
     read : (subcommand : Subcommand) → subcommand_of words ≡ Some subcommand → (r : Result MatchData Refused) → read_text input ≡ r → (due : Due) × IsDue words input due
     read subcommand said (Ok m) is =
-        (let found = match_text-read_text input m is in (due_of_match subcommand m, match subcommand m said found.0 found.1 refl))
-    read subcommand said (Err e) is =
-        (refusal_due (refusal_of input), refusal subcommand said (λ m plain text. never m (sym (read_text-match_text m plain) ∙ ap read_text (sym text) ∙ is)) refl)
-      where
-        never : (m : MatchData) → same_result m ≡ Err e → ⊥
-        never m h = absurd cc
+        (let found = whole_found input m is in (due_of_match subcommand m, match subcommand m said found.0 found.1 refl))
+    read subcommand said (Err e) is = (refusal_due e, refusal subcommand e said (read-refused input e is) refl)
 
     asked : (o : Option Subcommand) → subcommand_of words ≡ o → (due : Due) × IsDue words input due
     asked None none = (usage_due, usage none refl)
@@ -339,29 +391,24 @@ run-usage words old new status kept none put same calls faults =
     no-five_or_zero n status zero five is (inr e) = not n 5 status five is e
 
 pub run-answered :
-    (words : List (List ℕ)) (old new : Streams) (status : ℕ) (kept : List MirrorLog) (subcommand : Subcommand) (m : MatchData) (text : List ℕ) (logs : List MirrorLog)
-    → subcommand_of words ≡ Some subcommand → IsPlain m → IsInput old.left (match_text m)
-    → text ≡ (due_of_match subcommand m).text → logs ≡ (due_of_match subcommand m).kept
-    → IsPut Complete text logs (new.write_faults ≡ old.write_faults) (Rose old.write_faults new.write_faults) old.taken new.taken status kept
+    (words : List (List ℕ)) (old new : Streams) (status : ℕ) (kept : List MirrorLog) (subcommand : Subcommand) (m : MatchData) (answer : Status) (text : List ℕ) (logs : List MirrorLog)
+    → subcommand_of words ≡ Some subcommand → IsMatch m → IsInput old.left (match_text m)
+    → answer ≡ (due_of_match subcommand m).status → text ≡ (due_of_match subcommand m).text → logs ≡ (due_of_match subcommand m).kept
+    → IsPut answer text logs (new.write_faults ≡ old.write_faults) (Rose old.write_faults new.write_faults) old.taken new.taken status kept
     → new.read_faults ≡ old.read_faults → new.left ≡ behind_limit old.left
     → (front : List ℕ) × (length front ≤ text_limit + 1) × Yields old.left front new.left
     → new.reads ≤ old.reads + (text_limit + 1) → IsRun words old new status kept
-run-answered words old new status kept subcommand m text logs said plain told is are put steady left front reads =
+run-answered words old new status kept subcommand m answer text logs said sound told done is are put steady left front reads =
     let due = due_of_match subcommand m in
-    let done : (s : Subcommand) → Complete ≡ (due_of_match s m).status = complete m in
-    let same = subst (λ (l : List ℕ). IsPut Complete l logs (new.write_faults ≡ old.write_faults) (Rose old.write_faults new.write_faults) old.taken new.taken status kept) is put in
-    let all = subst (λ (l : List MirrorLog). IsPut Complete due.text l (new.write_faults ≡ old.write_faults) (Rose old.write_faults new.write_faults) old.taken new.taken status kept) are same in
-    let whole = subst (λ (s : Status). IsPut s due.text due.kept (new.write_faults ≡ old.write_faults) (Rose old.write_faults new.write_faults) old.taken new.taken status kept) (done subcommand) all in
+    let same = subst (λ (l : List ℕ). IsPut answer l logs (new.write_faults ≡ old.write_faults) (Rose old.write_faults new.write_faults) old.taken new.taken status kept) is put in
+    let all = subst (λ (l : List MirrorLog). IsPut answer due.text l (new.write_faults ≡ old.write_faults) (Rose old.write_faults new.write_faults) old.taken new.taken status kept) are same in
+    let whole = subst (λ (s : Status). IsPut s due.text due.kept (new.write_faults ≡ old.write_faults) (Rose old.write_faults new.write_faults) old.taken new.taken status kept) done all in
     ends-IsRun words old new status kept
-    (record { input = match_text m; told = told; due = due; is_due = match subcommand m said plain refl refl; ends = put-ends due old new status kept whole })
+    (record { input = match_text m; told = told; due = due; is_due = match subcommand m said sound refl refl; ends = put-ends due old new status kept whole })
     (λ none. no_subcommand words subcommand none said)
     (inr steady)
-    (put-status Complete text logs kept _ _ old.taken new.taken status put (λ e same. inr same) (λ e. inl e))
+    (put-status answer text logs kept _ _ old.taken new.taken status put (λ e same. inr same) (λ e. inl e))
     (λ when. left) front reads
-  where
-    complete : (m : MatchData) (s : Subcommand) → Complete ≡ (due_of_match s m).status
-    complete m Order = refl
-    complete m Play = refl
 
 pub run-refused :
     (words : List (List ℕ)) (old new : Streams) (status : ℕ) (kept : List MirrorLog) (subcommand : Subcommand) (refused : Refused)
@@ -371,10 +418,9 @@ pub run-refused :
     → (front : List ℕ) × (length front ≤ text_limit + 1) × Yields old.left front new.left
     → new.reads ≤ old.reads + (text_limit + 1) → IsRun words old new status kept
 run-refused words old new status kept subcommand refused said refuses put steady left front reads =
-    let due = refusal_due (refusal_of refuses.input) in
-    let whole = subst (λ (r : Refused). IsPut Refusal (refused_text r) [] (new.write_faults ≡ old.write_faults) (Rose old.write_faults new.write_faults) old.taken new.taken status kept) refuses.cause put in
+    let due = refusal_due refused in
     ends-IsRun words old new status kept
-    (record { input = refuses.input; told = refuses.told; due = due; is_due = refusal subcommand said refuses.no_match refl; ends = put-ends due old new status kept whole })
+    (record { input = refuses.input; told = refuses.told; due = due; is_due = refusal subcommand refused said refuses.is refl; ends = put-ends due old new status kept put })
     (λ none. no_subcommand words subcommand none said)
     (inr steady)
     (put-status Refusal (refused_text refused) [] kept _ _ old.taken new.taken status put (λ e same. inr same) (λ e. inl e))
@@ -440,12 +486,12 @@ refused-at stop refused P is p = subst (λ (s : Stop). IfRefused s P) is p
 
 pub one-due : (words : List (List ℕ)) (input : List ℕ) (a b : Due) → IsDue words input a → IsDue words input b → a ≡ b
 one-due words input a b (usage none is) (usage also its) = is ∙ sym its
-one-due words input a b (usage none is) (match s m said plain text its) = no_subcommand words s none said
-one-due words input a b (usage none is) (refusal s said lacks its) = no_subcommand words s none said
-one-due words input a b (match s m said plain text is) other = is ∙ sym (due-of_match words input b s m other said plain text)
-one-due words input a b (refusal s said lacks is) (usage none its) = no_subcommand words s none said
-one-due words input a b (refusal s said lacks is) (match t m also plain text its) = absurd (lacks m plain text)
-one-due words input a b (refusal s said lacks is) (refusal t also none its) = is ∙ sym its
+one-due words input a b (usage none is) (match s m said sound text its) = no_subcommand words s none said
+one-due words input a b (usage none is) (refusal s r said lacks its) = no_subcommand words s none said
+one-due words input a b (match s m said sound text is) other = is ∙ sym (due-of_match words input b s m other said sound text)
+one-due words input a b (refusal s r said lacks is) (usage none its) = no_subcommand words s none said
+one-due words input a b (refusal s r said lacks is) (match t m also sound text its) = absurd (lacks.no_match m sound text)
+one-due words input a b (refusal s r said lacks is) (refusal t q also none its) = is ∙ ap (λ (k : Refused). refusal_due k) (same_refusal input r q lacks.read none.read) ∙ sym its
 
 gained-less : (bytes text : List ℕ) (old new : Option (List ℕ)) (n : ℕ) → old ≡ Some bytes → new ≡ Some (bytes ++ text) → n < length text → Gains old (take n text) new → ⊥
 gained-less bytes text old new n first then less gains =

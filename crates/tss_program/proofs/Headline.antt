@@ -27,7 +27,6 @@ use Rattle.match_file.specs.Data.{MatchData, IsMatch, IsScriptLine}
 use Rattle.match_file.specs.declared.script_line.ScriptLine.{ScriptLine}
 use Rattle.tss_program.specs.Hall.{mirror_of, changed_at, after_line, opening_mirror, opening_mirrors, after_script, scripted, played, logs_from}
 use Rattle.tss_program.specs.Headline.{IsPlayed, AllPlayed}
-use Rattle.tss_program.proofs.Ready.{DelaysRise-from_next}
 use Rattle.tss_program.proofs.Steps.{named-turns}
 use Rattle.tss_program.proofs.Events.{all-append, changed_at-set}
 use Rattle.tss_program.proofs.OnWay.{OnWay, AllOnWay, all-line, all-opening, line-mirror, due-within, way-copies, way-plans, opening-staggered, opening-history, opening-length, opening-copies}
@@ -86,7 +85,7 @@ way-IsPlayed {W} rules m opening i s sound way =
     let due = subst (λ (k : ℕ). AllByRecursion (λ x. x.time < k) m.commands) (sym (opening-length m opening i)) (due-within m sound) in
     let fit = all-weaker (NamesWhatIsThere m.commands start) (Fits start) way.es (λ e h. named-fits m.commands start due e h) way.named in
     let staggered : IsStaggered s = subst IsStaggered (sym way.reached) (staggered_along way.es start fit begun) in
-    let rise : DelaysRise (delays_of s) = plan-rises m.delays s.plans s.plan (DelaysRise-from_next m.delays sound.rises) (way-plans m opening i [] s way) in
+    let rise : DelaysRise (delays_of s) = plan-rises m.delays s.plans s.plan sound.delays.delays_rise (way-plans m opening i [] s way) in
     let drained : IsDrained (drain s) = draining_ends s rise staggered in
     subst (λ (t : MirrorState W). IsPlayed rules m start t t.history) (sym made)
     (made-IsPlayed rules m opening i (way.es ++ turns) sound named (subst IsDrained made drained))

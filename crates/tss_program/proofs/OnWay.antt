@@ -8,6 +8,7 @@ use Rattle.std.proofs.lemmas.Bool.{cases_eq}
 use Rattle.game_trait.specs.declared.command.Command.{Command}
 use Rattle.game_trait.specs.declared.event.Event.{Event}
 use Rattle.game_trait.specs.declared.event.Reply.{Reply}
+use Rattle.game_trait.specs.CommandList.{command_named}
 use Rattle.game_trait.specs.Count.{times}
 use Rattle.game_trait.proofs.Counts.{times-append}
 use Rattle.game_trait.proofs.KeyOrder.{all-weaker}
@@ -23,7 +24,7 @@ use Rattle.sync_model.proofs.History.{after-append}
 use Rattle.match_file.specs.Data.{MatchData, IsCommand, IsMatch, IsScriptLine}
 use Rattle.match_file.specs.declared.script_line.ScriptLine.{ScriptLine}
 use Rattle.match_file.specs.declared.script_line.ScriptLine.TheVariants as lines
-use Rattle.tss_program.specs.Hall.{mirror_of, events_of, arrival_of, command_named, after_line, replies_to, changed_at, told_at, arrives_at, opening_mirror, opening_from, opening_mirrors, after_script}
+use Rattle.tss_program.specs.Hall.{mirror_of, events_of, arrival_of, after_line, replies_to, changed_at, told_at, arrives_at, opening_mirror, opening_from, opening_mirrors, after_script}
 use Rattle.tss_program.specs.Report.{line_text, script_text}
 use Rattle.sync_model.proofs.Legal.{named-fits}
 use Rattle.tss_program.proofs.Named.{command_named-Contains}
@@ -113,10 +114,11 @@ unfolding events_of
 named-line m s (lines.Tick mirror) copies is all here = (tt, tt)
 named-line m s (lines.Turn mirror) copies is all here = named-turn m.commands s copies (omega arith)
 named-line m s (lines.Arrive mirror from number) copies is all here =
-    named-arrival m.commands s (command_named from number m.commands) (λ x e. command_named-Contains from number m.commands x e)
+    named-arrival m.commands s (command_named m.commands from number) (λ x e. command_named-Contains m.commands from number x e)
 named-line m s (lines.Step mirror copy) copies is all here = ((let there = here.1 in omega arith), tt)
 named-line m s (lines.World mirror copy) copies is all here = tt
 named-line m s (lines.Run mirror copy) copies is all here = tt
+named-line m s (lines.Restagger mirror plan) copies is all here = tt
 
 -- at most one of them is an arrival, where the line is one at its mirror
 pub line-arrivals : (commands : List Command) (l : ScriptLine) (copies : ℕ) → times is_arrival (events_of commands copies l) ≤ cond (arrives_at (mirror_of l) l) 1 0
@@ -124,13 +126,14 @@ unfolding events_of times
 line-arrivals commands (lines.Tick mirror) copies = omega arith
 line-arrivals commands (lines.Turn mirror) copies = omega (arith, turn-no_arrival copies)
 line-arrivals commands (lines.Arrive mirror from number) copies =
-    (let same : (mirror == mirror) ≡ true = same-number mirror in let most = arrival-most (command_named from number commands) in rw same most)
+    (let same : (mirror == mirror) ≡ true = same-number mirror in let most = arrival-most (command_named commands from number) in rw same most)
   where
     same-number : (n : ℕ) → (n == n) ≡ true
     same-number n = grind arith
 line-arrivals commands (lines.Step mirror copy) copies = omega arith
 line-arrivals commands (lines.World mirror copy) copies = omega arith
 line-arrivals commands (lines.Run mirror copy) copies = omega arith
+line-arrivals commands (lines.Restagger mirror plan) copies = omega arith
 
 -- none of them changes the plan
 arrival-same_plan : (found : Option Command) → times is_restagger (arrival_of found) ≡ 0
@@ -142,10 +145,11 @@ line-same_plan : (commands : List Command) (l : ScriptLine) (copies : ℕ) → t
 unfolding events_of times
 line-same_plan commands (lines.Tick mirror) copies = refl
 line-same_plan commands (lines.Turn mirror) copies = turn-no_restagger copies
-line-same_plan commands (lines.Arrive mirror from number) copies = arrival-same_plan (command_named from number commands)
+line-same_plan commands (lines.Arrive mirror from number) copies = arrival-same_plan (command_named commands from number)
 line-same_plan commands (lines.Step mirror copy) copies = refl
 line-same_plan commands (lines.World mirror copy) copies = refl
 line-same_plan commands (lines.Run mirror copy) copies = refl
+line-same_plan commands (lines.Restagger mirror plan) copies = refl
 
 -- ---- the next line
 
@@ -262,6 +266,7 @@ line-mirror m (lines.Arrive mirror from number) here = here.0
 line-mirror m (lines.Step mirror copy) here = here.0
 line-mirror m (lines.World mirror copy) here = here.0
 line-mirror m (lines.Run mirror copy) here = here.0
+line-mirror m (lines.Restagger mirror plan) here = here.0
 
 pub made-next :
     {W : Type 0} (m : MatchData) (script : List ScriptLine) (i : ℕ) (end mirrors : List (MirrorState W)) (total out : List ℕ) (d : ScriptLine)

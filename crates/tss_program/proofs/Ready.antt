@@ -1,36 +1,23 @@
 -- A match's mirrors as it begins.
-use Rattle.std.proofs.Common.{◌≡◌, ℕ, zero, suc, ◌+◌, ◌-◌, ◌<◌, ◌≤◌, List, [], ◌∷◌, ◌++◌, append_assoc, arith}
-use Rattle.std.specs.List.{AllByRecursion}
+use Rattle.std.proofs.Common.{◌≡◌, length, true, Bool, ◌&&◌, ℕ, zero, suc, ◌+◌, ◌-◌, ◌<◌, ◌≤◌, List, [], ◌∷◌, ◌++◌, append_assoc, arith}
+use Rattle.std.specs.Prelude.{◌==◌}
+use Rattle.std.specs.List.{list_all}
+use Rattle.std.proofs.lemmas.Bool.Decides.{nat_tests}
 use Rattle.std.proofs.lemmas.List.{append-nil}
+use Rattle.tss_program.specs.Due.{is_playable, is_played}
 use Rattle.game_trait.specs.Count.{times}
-use Rattle.game_trait.proofs.KeyOrder.{all-weaker}
-use Rattle.sync_model.specs.Schedule.{Schedule, DelaysRise, IsSchedule}
+use Rattle.sync_model.specs.Schedule.{Schedule}
 use Rattle.sync_model.specs.State.{MirrorState, opening_state}
-use Rattle.match_file.specs.Data.{MatchData, IsMatch, Rises}
+use Rattle.match_file.specs.Data.{MatchData}
 use Rattle.tss_program.specs.Hall.{arrives_at, opening_mirror, opening_from}
 
-all-below : (d e : ℕ) (ds : List ℕ) → d < e → AllByRecursion (λ longer. e < longer) ds → AllByRecursion (λ longer. d < longer) ds
-all-below d e ds below h = all-weaker (λ longer. e < longer) (λ longer. d < longer) ds (λ n k. omega arith) h
-
--- where each number is below the next, each is below all behind it
-pub DelaysRise-from_next : (ds : List ℕ) → Rises ds → DelaysRise ds
-unfolding Rises DelaysRise
-DelaysRise-from_next [] h = tt
-DelaysRise-from_next (d ∷ []) h = (tt, tt)
-DelaysRise-from_next (d ∷ e ∷ ds) h =
-    let behind = DelaysRise-from_next (e ∷ ds) h.1 in
-    ((h.0, all-below d e ds h.0 behind.0), behind)
-
--- the delays and the length of a match are those of a mirror
-pub schedule-of : (m : MatchData) → IsMatch m → IsSchedule (record { delays = m.delays; length = m.length })
-schedule-of m sound = record {
-  some_copy = omega (arith, sound.delays.0);
-  few_copies = sound.delays.1;
-  delays_rise = DelaysRise-from_next m.delays sound.rises;
-  short_delays = sound.delay;
-  some_tick = omega (arith, sound.ticks.0);
-  few_ticks = sound.ticks.1;
-}
+-- a match that can be played has one copy
+pub playable-single : (m : MatchData) → is_playable m ≡ true → length m.delays ≡ 1
+unfolding is_playable
+playable-single m e = one (length m.delays) (length m.plans == 0) (list_all is_played m.script) e
+  where
+    one : (n : ℕ) (b c : Bool) → ((n == 1) && b && c) ≡ true → n ≡ 1
+    one n b c e = grind (arith, nat_tests)
 
 -- one mirror more
 pub opened-more :

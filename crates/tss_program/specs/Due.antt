@@ -1,17 +1,24 @@
 -- What is due for words and an input, and how a run may end.
-use Rattle.std.specs.Prelude.{◌≡◌, ◌≢◌, ℕ, ◌<◌, ◌⊎◌, ◌==◌, List, [], ◌∷◌, ◌++◌, Option, Some, None, length, take, codes, decimal, if◌then◌else◌}
+use Rattle.std.specs.Prelude.{◌≡◌, ◌≢◌, ℕ, ◌<◌, ◌⊎◌, ◌==◌, ◌&&◌, Bool, true, false, List, [], ◌∷◌, ◌++◌, Option, Some, None, length, take, codes, if◌then◌else◌, Err}
+use Rattle.std.specs.List.{list_all}
 use Rattle.tss_io.specs.Streams.{Gains}
 use Rattle.tss_io.specs.Lines.{as_line, spaced}
+use Rattle.tss_io.specs.Causes.{refused_words}
+use Rattle.tss_io.specs.Reading.{refused_at}
+use Rattle.tss_io.specs.declared.cause.Cause.TheVariants.{Shape}
+use Rattle.tss_io.specs.declared.fault.Refused.{Refused}
+use Rattle.tss_io.specs.declared.fault.TextFault.TheVariants as text_faults
+use Rattle.game_trait.specs.declared.limits.TheConstants.{LONGEST_MATCH_TEXT}
 use Rattle.arena_rules.specs.World.{World, opening_world, arena_rules}
 use Rattle.arena_rules.specs.Block.{block_of}
-use Rattle.match_file.specs.declared.fault.Refused.{Refused}
-use Rattle.match_file.specs.declared.cause.Cause.TheVariants.{Shape}
-use Rattle.match_file.specs.Causes.{cause_number, cause_word}
-use Rattle.match_file.specs.Data.{MatchData, IsPlain}
+use Rattle.match_file.specs.Data.{MatchData, IsMatch, lifted}
+use Rattle.match_file.specs.Reading.{read_text, IsFirst}
 use Rattle.match_file.specs.Text.{match_text}
+use Rattle.match_file.specs.declared.script_line.ScriptLine.{ScriptLine}
+use Rattle.match_file.specs.declared.script_line.ScriptLine.TheVariants as lines
 use Rattle.run_recorder.specs.declared.log.MirrorLog.{MirrorLog}
 use Rattle.tss_program.specs.declared.subcommand.Subcommand.{Subcommand}
-use Rattle.tss_program.specs.declared.subcommand.Subcommand.TheVariants.{Order, Play}
+use Rattle.tss_program.specs.declared.subcommand.Subcommand.TheVariants.{Order, Play, Lift}
 use Rattle.tss_program.specs.declared.status.Status.{Status}
 use Rattle.tss_program.specs.declared.status.Status.TheVariants.{Complete, NoMemory, WrongWords, ReadFault, WriteFault, Refusal}
 use Rattle.tss_program.specs.Subcommands.{subcommand_of}
@@ -43,22 +50,20 @@ failure_at status =
 
 -- how many bytes a match text has at most
 abbrev pub text_limit : ℕ
-text_limit = 8388608
+text_limit = LONGEST_MATCH_TEXT
 
 -- ---- what is due
 
 -- for words that ask for nothing that is built: the usage line
 unfoldable pub usage_text : List ℕ
-usage_text = codes "usage: tss order|play|race|audit|score|soak N" ++ 10 ∷ []
+usage_text = codes "usage: tss order|play|race|audit|score|lift|soak N" ++ 10 ∷ []
 
 abbrev pub usage_due : Due
 usage_due = record { status = WrongWords; text = usage_text; kept = [] }
 
 -- for a text that is refused: its line and cause
 unfoldable pub refused_text : Refused → List ℕ
-refused_text r = as_line (spaced (
-    codes "refused" ∷ codes "line" ∷ decimal r.line
-    ∷ codes "cause" ∷ decimal (cause_number r.cause) ∷ cause_word r.cause ∷ []))
+refused_text r = as_line (spaced (refused_words r))
 
 abbrev pub refusal_due : Refused → Due
 refusal_due r = record { status = Refusal; text = refused_text r; kept = [] }
@@ -67,25 +72,48 @@ refusal_due r = record { status = Refusal; text = refused_text r; kept = [] }
 abbrev pub arena_shown : MatchData → Showing World
 arena_shown m = record { rules = arena_rules; lines = block_of; names = m.names }
 
+-- a script line that is played: a tick, a turn, an arrival or a step
+abbrev pub is_played : ScriptLine → Bool
+is_played (lines.Tick mirror) = true
+is_played (lines.Turn mirror) = true
+is_played (lines.Arrive mirror from number) = true
+is_played (lines.Step mirror copy) = true
+is_played (lines.World mirror copy) = false
+is_played (lines.Run mirror copy) = false
+is_played (lines.Restagger mirror plan) = false
+
+-- a match that can be played yet: of one copy and one plan, and with such lines alone
+unfoldable pub is_playable : MatchData → Bool
+is_playable m = (length m.delays == 1) && (length m.plans == 0) && list_all is_played m.script
+
+-- what playing answers, where the match can be played yet, and where not
+abbrev pub play_due : Bool → MatchData → Due
+play_due true m = record {
+  status = Complete;
+  text = play_text (arena_shown m) (opening_world m.layout) m;
+  kept = logs_from 0 (played (opening_world m.layout) m);
+}
+play_due false m = refusal_due (refused_at 0 Shape)
+
 abbrev pub due_of_match : Subcommand → MatchData → Due
 due_of_match Order m = record {
   status = Complete;
   text = order_text (arena_shown m) (opening_world m.layout) m;
   kept = [];
 }
-due_of_match Play m = record {
-  status = Complete;
-  text = play_text (arena_shown m) (opening_world m.layout) m;
-  kept = logs_from 0 (played (opening_world m.layout) m);
-}
+due_of_match Play m = play_due (is_playable m) m
+due_of_match Lift m = record { status = Complete; text = match_text (lifted m); kept = [] }
 
 -- a text is that of no match
 abbrev pub IsNoMatch : List ℕ → Type 0
-IsNoMatch text = (m : MatchData) → IsPlain m → text ≢ match_text m
+IsNoMatch text = (m : MatchData) → IsMatch m → text ≢ match_text m
 
--- how a text that is that of no match is refused: now as a whole, for its shape
-abbrev pub refusal_of : List ℕ → Refused
-refusal_of text = record { line = 0; cause = Shape }
+-- how a text that is that of no match is refused: by its first faulty line and that line's first failing check, or as a whole
+-- for its length, as reading it gives
+pub record IsRefused (text : List ℕ) (refused : Refused) : Type 0 where
+  pub no_match : IsNoMatch text
+  pub first : IsFirst text (text_faults.Refused refused)
+  pub read : read_text text ≡ Err refused
 
 -- what is due for a command line and an input
 pub data IsDue (words : List (List ℕ)) (input : List ℕ) (due : Due) : Type 0 where
@@ -93,10 +121,10 @@ pub data IsDue (words : List (List ℕ)) (input : List ℕ) (due : Due) : Type 0
   usage : subcommand_of words ≡ None → due ≡ usage_due → IsDue words input due
   -- they ask for a subcommand, and the input is the one text of a match
   match : (subcommand : Subcommand) (m : MatchData) → subcommand_of words ≡ Some subcommand
-      → IsPlain m → input ≡ match_text m → due ≡ due_of_match subcommand m → IsDue words input due
+      → IsMatch m → input ≡ match_text m → due ≡ due_of_match subcommand m → IsDue words input due
   -- they ask for one, and the input is the text of no match
-  refusal : (subcommand : Subcommand) → subcommand_of words ≡ Some subcommand
-      → IsNoMatch input → due ≡ refusal_due (refusal_of input) → IsDue words input due
+  refusal : (subcommand : Subcommand) (refused : Refused) → subcommand_of words ≡ Some subcommand
+      → IsRefused input refused → due ≡ refusal_due refused → IsDue words input due
 
 -- ---- how a run ends
 

@@ -1,9 +1,10 @@
 -- What happens to the mirrors of a match: along its script, and while they are drained. Nothing is printed here.
-use Rattle.std.specs.Prelude.{ℕ, zero, suc, ◌+◌, Bool, false, ◌==◌, ◌&&◌, List, [], ◌∷◌, Option, Some, None, find, map, length}
+use Rattle.std.specs.Prelude.{ℕ, zero, suc, ◌+◌, Bool, false, ◌==◌, List, [], ◌∷◌, Option, Some, None, map, length}
 use Rattle.game_trait.specs.declared.command.Command.{Command}
 use Rattle.game_trait.specs.declared.event.Event.{Event}
 use Rattle.game_trait.specs.declared.event.Event.TheVariants.{Tick, Arrive, Step}
 use Rattle.game_trait.specs.declared.event.Reply.{Reply}
+use Rattle.game_trait.specs.CommandList.{command_named}
 use Rattle.game_trait.specs.Count.{times}
 use Rattle.sync_model.specs.State.{MirrorState, opening_state}
 use Rattle.sync_model.specs.Change.{after, answers}
@@ -12,10 +13,6 @@ use Rattle.match_file.specs.Data.{MatchData}
 use Rattle.match_file.specs.declared.script_line.ScriptLine.{ScriptLine}
 use Rattle.match_file.specs.declared.script_line.ScriptLine.TheVariants as lines
 use Rattle.run_recorder.specs.declared.log.MirrorLog.{MirrorLog}
-
--- the match's command of this mirror and number, if there is one
-unfoldable pub command_named : ℕ → ℕ → List Command → Option Command
-command_named from number commands = find (λ x. (x.from == from) && (x.number == number)) commands
 
 -- the arrival of a command, if there is one
 abbrev pub arrival_of : Option Command → List Event
@@ -30,15 +27,17 @@ mirror_of (lines.Arrive mirror from number) = mirror
 mirror_of (lines.Step mirror copy) = mirror
 mirror_of (lines.World mirror copy) = mirror
 mirror_of (lines.Run mirror copy) = mirror
+mirror_of (lines.Restagger mirror plan) = mirror
 
--- the events that a script line makes at a mirror of so many copies
+-- the events that a script line makes at a mirror of so many copies; no match is played yet whose script changes a plan
 unfoldable pub events_of : List Command → ℕ → ScriptLine → List Event
 events_of commands copies (lines.Tick mirror) = Tick ∷ []
 events_of commands copies (lines.Turn mirror) = turn_events copies
-events_of commands copies (lines.Arrive mirror from number) = arrival_of (command_named from number commands)
+events_of commands copies (lines.Arrive mirror from number) = arrival_of (command_named commands from number)
 events_of commands copies (lines.Step mirror copy) = Step copy ∷ []
 events_of commands copies (lines.World mirror copy) = []
 events_of commands copies (lines.Run mirror copy) = []
+events_of commands copies (lines.Restagger mirror plan) = []
 
 -- the mirror after a script line that names it, and what it answers
 abbrev pub after_line : {W : Type 0} → List Command → ScriptLine → MirrorState W → MirrorState W
@@ -72,6 +71,7 @@ arrives_at number (lines.Turn mirror) = false
 arrives_at number (lines.Step mirror copy) = false
 arrives_at number (lines.World mirror copy) = false
 arrives_at number (lines.Run mirror copy) = false
+arrives_at number (lines.Restagger mirror plan) = false
 
 -- a mirror as the match begins, with room for each of its arrivals
 unfoldable pub opening_mirror : {W : Type 0} → W → MatchData → ℕ → MirrorState W

@@ -1,5 +1,4 @@
 pub mod Subcommands
-pub mod Names
 pub mod Hall
 pub mod Report
 pub mod Headline

@@ -53,6 +53,7 @@ reply_text (lines.Arrive mirror from number) reply = arrival_text mirror from nu
 reply_text (lines.Step mirror copy) reply = step_text mirror copy reply
 reply_text (lines.World mirror copy) reply = []
 reply_text (lines.Run mirror copy) reply = []
+reply_text (lines.Restagger mirror plan) reply = []
 
 -- what a script line prints by its answers
 abbrev pub line_text : ScriptLine → List Reply → List ℕ

@@ -1,21 +1,21 @@
 -- What a run of the program promises, of its words, its streams, its status and the logs that it keeps.
-use Rattle.std.specs.Prelude.{◌≡◌, ◌⊎◌, ◌+◌, ◌≤◌, ◌<◌, ℕ, List, [], Option, Some, None, IfSome, length, take, drop, option_map}
+use Rattle.std.specs.Prelude.{◌≡◌, ◌⊎◌, ◌+◌, ◌≤◌, ◌<◌, ℕ, true, List, [], Option, Some, None, IfSome, length, take, drop, option_map}
 use Rattle.tss_io.specs.Streams.{Rose, Yields, Gains}
 use Rattle.arena_rules.specs.World.{opening_world, arena_rules}
-use Rattle.match_file.specs.Data.{MatchData, IsPlain}
+use Rattle.match_file.specs.Data.{MatchData, IsMatch}
 use Rattle.match_file.specs.Text.{match_text}
 use Rattle.run_recorder.specs.declared.log.MirrorLog.{MirrorLog}
 use Rattle.tss_program.specs.declared.subcommand.Subcommand.{Subcommand}
-use Rattle.tss_program.specs.declared.subcommand.Subcommand.TheVariants.{Order, Play}
+use Rattle.tss_program.specs.declared.subcommand.Subcommand.TheVariants.{Play}
 use Rattle.tss_program.specs.Subcommands.{subcommand_of}
 use Rattle.tss_program.specs.Hall.{played}
 use Rattle.tss_program.specs.Headline.{AllPlayed}
-use Rattle.match_file.specs.declared.fault.Refused.{Refused}
+use Rattle.tss_io.specs.declared.fault.Refused.{Refused}
 use Rattle.tss_program.specs.declared.status.Status.{Status}
 use Rattle.tss_program.specs.declared.status.Status.TheVariants.{WriteFault}
 use Rattle.tss_program.specs.declared.stop.Stop.{Stop}
 use Rattle.tss_program.specs.declared.stop.Stop.TheVariants as stops
-use Rattle.tss_program.specs.Due.{Due, IsDue, IsNoMatch, due_of_match, refusal_of, code, text_limit, Ends}
+use Rattle.tss_program.specs.Due.{Due, IsDue, IsRefused, due_of_match, is_playable, code, text_limit, Ends}
 
 -- what is seen of a source and a sink: the bytes that are left and those that were taken, where they tell them, how many
 -- calls failed, and how many calls were made to the source
@@ -53,8 +53,7 @@ pub record EndsAsDue (words : List (List ℕ)) (old new : Streams) (status : ℕ
 pub record RefusesText (left : Option (List ℕ)) (refused : Refused) : Type 0 where
   pub input : List ℕ
   pub told : IsInput left input
-  pub no_match : IsNoMatch input
-  pub cause : refused ≡ refusal_of input
+  pub is : IsRefused input refused
 
 -- why there is no answer: memory ran out, a read failed, or the text was refused
 abbrev pub WhyStopped : Option (List ℕ) → Type 0 → Stop → Type 0
@@ -86,7 +85,7 @@ Keeps m kept =
 -- the logs are those of some match, whose text is the one that the source tells where it tells one
 pub record KeepsAMatch (left : Option (List ℕ)) (kept : List MirrorLog) : Type 0 where
   pub m : MatchData
-  pub plain : IsPlain m
+  pub sound : IsMatch m
   pub text : IsInput left (match_text m)
   pub keeps : Keeps m kept
 
@@ -96,11 +95,13 @@ pub record IsRun (words : List (List ℕ)) (old new : Streams) (status : ℕ) (k
   pub ends : EndsAsDue words old new status kept
   -- the text of a match is answered as that match
   pub of_match : IfSome old.left (λ input. (subcommand : Subcommand) (m : MatchData)
-      → subcommand_of words ≡ Some subcommand → IsPlain m → input ≡ match_text m
+      → subcommand_of words ≡ Some subcommand → IsMatch m → input ≡ match_text m
       → EndsWith (due_of_match subcommand m) old new status kept)
-  -- what playing promises: of a match that the source tells, and of any logs that are kept, whatever the source
+  -- what playing promises: of a match that can be played and that the source tells, and of any logs that are kept, whatever
+  -- the source
   pub played : IfSome old.left (λ input. (m : MatchData)
-      → subcommand_of words ≡ Some Play → IsPlain m → input ≡ match_text m → (status ≡ 0) ⊎ (status ≡ 4) → Keeps m kept)
+      → subcommand_of words ≡ Some Play → IsMatch m → is_playable m ≡ true → input ≡ match_text m
+      → (status ≡ 0) ⊎ (status ≡ 4) → Keeps m kept)
   pub played_whole : subcommand_of words ≡ Some Play → status ≡ 0 → KeepsAMatch old.left kept
   pub logs : (kept ≡ []) ⊎ KeepsAMatch old.left kept
   -- which statuses there are
@@ -113,7 +114,7 @@ pub record IsRun (words : List (List ℕ)) (old new : Streams) (status : ℕ) (k
   pub write_steady : (status ≡ 4) ⊎ (new.write_faults ≡ old.write_faults)
   -- what is kept and written at most
   pub nothing_kept : (status ≡ 1) ⊎ (status ≡ 2) ⊎ (status ≡ 3) ⊎ (status ≡ 5) → kept ≡ []
-  pub order_keeps_nothing : subcommand_of words ≡ Some Order → kept ≡ []
+  pub only_play_keeps : (subcommand_of words ≡ Some Play → ⊥) → kept ≡ []
   pub silent : (status ≡ 1) ⊎ (status ≡ 3) → Gains old.taken [] new.taken
   -- what was read: at status 0 and 5 the input up to its end, or to one byte past the limit; never more than that
   pub whole : (status ≡ 0) ⊎ (status ≡ 5) → new.left ≡ behind_limit old.left

@@ -1,9 +1,10 @@
 -- Why a run has no answer.
 use Rattle.tss_io.specs.declared.faults.ReadFault.{ReadFault}
 use Rattle.tss_io.specs.declared.faults.ReadFault.TheVariants as reads
-use Rattle.match_file.specs.declared.fault.TextFault.{TextFault}
-use Rattle.match_file.specs.declared.fault.TextFault.TheVariants as texts
-use Rattle.match_file.specs.declared.cause.Cause.TheVariants.{Shape}
+use Rattle.tss_io.specs.declared.fault.TextFault.{TextFault}
+use Rattle.tss_io.specs.declared.fault.TextFault.TheVariants as texts
+use Rattle.tss_io.specs.declared.cause.Cause.TheVariants.{Long}
+use Rattle.tss_io.specs.Reading.{refused_at}
 use Rattle.tss_program.specs.declared.stop.Stop.{Stop}
 use Rattle.tss_program.specs.declared.stop.Stop.TheVariants.{NoMemory, ReadFault as NotRead, Refused}
 
@@ -11,7 +12,7 @@ use Rattle.tss_program.specs.declared.stop.Stop.TheVariants.{NoMemory, ReadFault
 abbrev pub stop_of_read : ReadFault → Stop
 stop_of_read reads.NoMemory = NoMemory
 stop_of_read reads.Failed = NotRead
-stop_of_read reads.TooLong = Refused (record { line = 0; cause = Shape })
+stop_of_read reads.TooLong = Refused (refused_at 0 Long)
 
 -- by a fault of a text
 abbrev pub stop_of_text : TextFault → Stop

@@ -8,13 +8,11 @@ ghost use Rattle.sync_model.specs.Change.{Fits, after, answers};
 ghost use Rattle.sync_model.specs.History.{HasRoomAlong};
 ghost use Rattle.sync_model.specs.Turns.{turn, turn_events};
 ghost use Rattle.match_file.specs.Data.{IsScriptLine};
-ghost use Rattle.tss_program.specs.Names.{IsIndex};
 ghost use Rattle.tss_program.specs.Hall.{mirror_of, events_of, after_line, replies_to, arrives_at, opening_mirrors, logs_from};
 
-use crate::names::CommandNames;
 use arrayvec::ArrayVec;
 use game_trait::{Event, Game, MirrorId, Reply};
-use match_file::{Match, ScriptLine};
+use match_file::{Match, ScriptLine, find_command};
 use mirror_core::Mirror;
 use run_recorder::MirrorLog;
 use stagger_clock::Stagger;
@@ -37,7 +35,8 @@ pub fn mirror_of(line: &ScriptLine) -> MirrorId
         | ScriptLine::Arrive { mirror, .. }
         | ScriptLine::Step { mirror, .. }
         | ScriptLine::World { mirror, .. }
-        | ScriptLine::Run { mirror, .. } => mirror,
+        | ScriptLine::Run { mirror, .. }
+        | ScriptLine::Restagger { mirror, .. } => mirror,
     }
 }
 
@@ -111,22 +110,21 @@ fn alone(event: Event) -> Events
 
 // The events that a script line makes at a mirror of so many copies.
 #[tactic(auto, unfolding(crate::specs::Hall::events_of))]
-fn events_of(m: &Match, names: &CommandNames, copies: u8, line: &ScriptLine) -> Events
+fn events_of(m: &Match, copies: u8, line: &ScriptLine) -> Events
     requires copies { copies ≤ 8 }
     requires line { IsScriptLine m.now line.now }
-    requires names { IsIndex names.now m.now.commands }
     ensures { result.items ≡ events_of m.now.commands copies line.now }
 {
-    let _ = &m.length;
     match *line {
         ScriptLine::Tick { .. } => alone(Event::Tick),
         ScriptLine::Turn { .. } => turn_events(copies),
-        ScriptLine::Arrive { from, number, .. } => match names.find(from, number) {
+        ScriptLine::Arrive { from, number, .. } => match find_command(m, from, number) {
             Some(x) => alone(Event::Arrive(x)),
             None => unreachable!(),
         },
         ScriptLine::Step { copy, .. } => alone(Event::Step(copy)),
-        ScriptLine::World { .. } | ScriptLine::Run { .. } => ArrayVec::new(),
+        ScriptLine::World { .. } | ScriptLine::Run { .. } | ScriptLine::Restagger { .. } =>
+            ArrayVec::new(),
     }
 }
 
@@ -147,21 +145,15 @@ fn make_events<G: Game>(mirror: &mut Mirror<G>, events: &[Event]) -> Replies
 }
 
 /// Makes the events of a script line at the mirror that it names, and hands back the answers.
-pub fn make<G: Game>(
-    mirror: &mut Mirror<G>,
-    m: &Match,
-    names: &CommandNames,
-    line: &ScriptLine,
-) -> Replies
+pub fn make<G: Game>(mirror: &mut Mirror<G>, m: &Match, line: &ScriptLine) -> Replies
     requires line { IsScriptLine m.now line.now }
-    requires names { IsIndex names.now m.now.commands }
     requires fits { AllByRecursion (Fits mirror.old) (events_of m.now.commands (length mirror.old.runs) line.now) }
     requires room { HasRoomAlong mirror.old (events_of m.now.commands (length mirror.old.runs) line.now) }
     ensures state { mirror.new ≡ after_line m.now.commands line.now mirror.old }
     ensures replies { result.items ≡ replies_to m.now.commands line.now mirror.old }
 {
     mirror.always();
-    let events = events_of(m, names, mirror.copies(), line);
+    let events = events_of(m, mirror.copies(), line);
     make_events(mirror, events.as_slice())
 }
 

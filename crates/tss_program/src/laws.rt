@@ -10,7 +10,7 @@ ghost use Rattle.game_trait.specs.declared.event.Arrived.TheVariants.{Late};
 ghost use Rattle.sync_model.specs.State.{MirrorState, last_clock};
 ghost use Rattle.sync_model.specs.Change.{said, after, is_repeat};
 ghost use Rattle.sync_model.specs.Staggered.{IsStaggered};
-ghost use Rattle.match_file.specs.Data.{MatchData, IsPlain};
+ghost use Rattle.match_file.specs.Data.{MatchData, IsMatch};
 ghost use Rattle.match_file.specs.Text.{match_text};
 ghost use Rattle.run_recorder.specs.declared.log.MirrorLog.{MirrorLog};
 ghost use Rattle.tss_program.specs.declared.subcommand.Subcommand.{Subcommand};
@@ -29,7 +29,7 @@ pub fn one_is_due()
 
 /// A match has one text, and a text is that of one match.
 pub fn one_match_each_text()
-    ensures { (m n : MatchData) → IsPlain m → IsPlain n → match_text m ≡ match_text n → m ≡ n }
+    ensures { (m n : MatchData) → IsMatch m → IsMatch n → match_text m ≡ match_text n → m ≡ n }
 {}
 
 /// Status 4 comes with a proper front of the due text only: where the whole of it was taken, the status is another.

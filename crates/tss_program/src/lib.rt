@@ -4,7 +4,6 @@
 mod done;
 mod hall;
 pub mod laws;
-mod names;
 mod play;
 mod refusal;
 mod report;

@@ -126,8 +126,8 @@ fn push_reply(out: &mut Vec<u8>, line: &ScriptLine, reply: Reply) -> Result<(), 
             number,
         } => push_arrived(out, mirror, from, number, reply),
         ScriptLine::Step { mirror, copy } => push_stepped(out, mirror, copy, reply),
-        // No world and no run is in the plain form.
-        ScriptLine::World { .. } | ScriptLine::Run { .. } => Ok(()),
+        // No match is played yet whose script shows a copy or changes a plan.
+        ScriptLine::World { .. } | ScriptLine::Run { .. } | ScriptLine::Restagger { .. } => Ok(()),
     }
 }
 

@@ -5,19 +5,20 @@ ghost use Rattle.std.specs.String.{string_bytes};
 ghost use Rattle.std.specs.IoError.{error_kind};
 ghost use Rattle.std.specs.declared.io.ErrorKind.TheVariants.{OutOfMemory};
 ghost use Rattle.tss_io.specs.Streams.{Rose, Yields, Gains};
-ghost use Rattle.match_file.specs.Data.{MatchData, IsPlain};
+ghost use Rattle.match_file.specs.Data.{MatchData, IsMatch};
 ghost use Rattle.match_file.specs.Text.{match_text};
 ghost use Rattle.tss_program.specs.Subcommands.{subcommand_of};
-ghost use Rattle.tss_program.specs.Due.{due_of_match, code, IsNoMatch, refusal_of, text_limit};
+ghost use Rattle.tss_program.specs.Due.{due_of_match, code, text_limit};
 ghost use Rattle.tss_program.specs.Run.{Streams, IsInput, behind_limit, WhyStopped, IfRefused, IsRun, IsPut};
 
 use crate::done::Done;
-use crate::play::{Answer, order, play};
+use crate::play::{Answer, is_playable, lift_match, not_yet, order, play};
 use crate::refusal::refused_line;
 use crate::status::Status;
 use crate::stop::Stop;
 use crate::subcommand::Subcommand;
 use arena_rules::Arena;
+use game_trait::limits::LONGEST_MATCH_TEXT;
 use match_file::{Match, read_match};
 use run_recorder::MirrorLog;
 use std::alloc::Global;
@@ -25,15 +26,12 @@ use std::io;
 use std::io::ErrorKind;
 use tss_io::{Failed, NoMemory, Seq, Sink, Source, put_all, read_all};
 
-// How many bytes a match text has at most.
-const TEXT_LIMIT: usize = 8_388_608;
-
 // The line that is written where the words ask for nothing that is built.
-const USAGE: &str = "usage: tss order|play|race|audit|score|soak N\n";
+const USAGE: &str = "usage: tss order|play|race|audit|score|lift|soak N\n";
 
 // Reads the input to its end, or to one byte past the limit, and its match.
 fn read_input<S: Source>(alloc: Global, source: &mut S) -> Result<Match, Stop>
-    ensures found { IfOk result (λ m. IsPlain m × IsInput (S.left source.old) (match_text m)) }
+    ensures found { IfOk result (λ m. IsMatch m × IsInput (S.left source.old) (match_text m)) }
     ensures why { IfErr result (λ stop. WhyStopped (S.left source.old) (Rose (S.faults source.old) (S.faults source.new)) stop) }
     ensures whole { OnOk result (S.left source.new ≡ behind_limit (S.left source.old)) }
     ensures refused { IfErr result (λ stop. IfRefused stop (S.left source.new ≡ behind_limit (S.left source.old))) }
@@ -41,19 +39,20 @@ fn read_input<S: Source>(alloc: Global, source: &mut S) -> Result<Match, Stop>
     ensures front { (front : List ℕ) × (length front ≤ text_limit + 1) × Yields (S.left source.old) front (S.left source.new) }
     ensures reads { S.calls source.new ≤ S.calls source.old + (text_limit + 1) }
 {
-    let text = read_all(alloc, source, TEXT_LIMIT)?;
+    let text = read_all(alloc, source, LONGEST_MATCH_TEXT)?;
     Ok(read_match(alloc, text.as_slice())?)
 }
 
 // Answers a match.
-fn answer(alloc: Global, subcommand: Subcommand, m: &Match) -> Result<Answer, NoMemory>
-    requires { length m.now.delays ≡ 1 }
-    ensures { IfOk result (λ a. (a.text ≡ (due_of_match subcommand m.now).text) × (a.kept ≡ (due_of_match subcommand m.now).kept)) }
+fn answer(alloc: Global, subcommand: Subcommand, m: Match) -> Result<Answer, NoMemory>
+    ensures { let due = due_of_match subcommand m in IfOk result (λ a. (a.status ≡ due.status) × (a.text ≡ due.text) × (a.kept ≡ due.kept)) }
 {
     let opening = Arena::start(&m.setup);
     match subcommand {
-        Subcommand::Order => order(alloc, &opening, m),
-        Subcommand::Play => play(alloc, &opening, m),
+        Subcommand::Order => order(alloc, &opening, &m),
+        Subcommand::Play if is_playable(&m) => play(alloc, &opening, &m),
+        Subcommand::Play => not_yet(alloc),
+        Subcommand::Lift => lift_match(alloc, m),
     }
 }
 
@@ -84,8 +83,8 @@ pub fn run_plain<S: Source, K: Sink>(
         return put(sink, Status::WrongWords, USAGE.as_bytes(), Seq::new(alloc));
     };
     match read_input(alloc, source) {
-        Ok(m) => match answer(alloc, subcommand, &m) {
-            Ok(Answer { text, kept }) => put(sink, Status::Complete, text.as_slice(), kept),
+        Ok(m) => match answer(alloc, subcommand, m) {
+            Ok(Answer { status, text, kept }) => put(sink, status, text.as_slice(), kept),
             Err(NoMemory) => Done::of(Status::NoMemory, Seq::new(alloc)),
         },
         Err(Stop::Refused(refused)) => put(

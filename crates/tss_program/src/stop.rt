@@ -35,7 +35,7 @@ impl From<ReadFault> for Stop {
             ReadFault::Failed => Stop::ReadFault,
             ReadFault::TooLong => Stop::Refused(Refused {
                 line: 0,
-                cause: Cause::Shape,
+                cause: Cause::Long,
             }),
         }
     }

@@ -14,6 +14,8 @@ pub enum Subcommand {
     Order,
     /// Play a match along its script, drain its mirrors, and show their copies.
     Play,
+    /// Print the text of a match with version 2.
+    Lift,
 }
 
 impl Subcommand {
@@ -25,6 +27,7 @@ impl Subcommand {
         match word {
             "order" => Some(Subcommand::Order),
             "play" => Some(Subcommand::Play),
+            "lift" => Some(Subcommand::Lift),
             _ => None,
         }
     }
@@ -49,6 +52,7 @@ impl Display for Subcommand {
         f.write_str(match self {
             Subcommand::Order => "order",
             Subcommand::Play => "play",
+            Subcommand::Lift => "lift",
         })
     }
 }

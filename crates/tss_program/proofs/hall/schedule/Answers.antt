@@ -1,5 +1,4 @@
-use Rattle.tss_program.proofs.Ready.{schedule-of}
 use Rattle.tss_program.proofs.hall.schedule.Goals as goal
 
 pub new-requires : goal.new-requires
-new-requires c = rw c.as_slice.ensures.value (schedule-of _ c.m.invariant)
+new-requires c = rw c.as_slice.ensures c.m.invariant.delays

@@ -12,12 +12,12 @@ returns-in_default-clause-run g c =
 
 pub returns-in-Ok-answer-clause-run : goal.returns-in-Ok-answer-clause-run
 returns-in-Ok-answer-clause-run g c =
-    run-answered _ _ _ _ _ c.in-Some.subcommand c.in-Ok.m c.as_slice.result.now c.in-Ok-answer.field-0.kept (sym c.of.ensures ∙ c.in-Some.is)
-    c.in-Ok.ensures.found.0 c.in-Ok.ensures.found.1 (c.as_slice.ensures ∙ c.in-Ok-answer.ensures.0) c.in-Ok-answer.ensures.1 c.put-in-Ok-answer.ensures
+    run-answered _ _ _ _ _ c.in-Some.subcommand c.in-Ok.m c.in-Ok-answer.field-0.status c.as_slice.result.now c.in-Ok-answer.field-0.kept (sym c.of.ensures ∙ c.in-Some.is)
+    c.in-Ok.ensures.found.0 c.in-Ok.ensures.found.1 c.in-Ok-answer.ensures.0 (c.as_slice.ensures ∙ c.in-Ok-answer.ensures.1) c.in-Ok-answer.ensures.2 c.put-in-Ok-answer.ensures
     (steady-ok c.read_input.result c.in-Ok.m _ c.in-Ok.is c.read_input.ensures.steady) c.in-Ok.ensures.whole c.read_input.ensures.front c.read_input.ensures.reads
 
-pub returns-in-Ok-clause-run : goal.returns-in-Ok-clause-run
-returns-in-Ok-clause-run g c =
+pub returns-in-Err-clause-run : goal.returns-in-Err-clause-run
+returns-in-Err-clause-run g c =
     run-stopped _ _ _ _ _ c.in-Some.subcommand (sym c.of.ensures ∙ c.in-Some.is) (inl c.of-in-Err.ensures.status) (c.of-in-Err.ensures.kept ∙ c.new-in-Err.ensures) refl refl
     (inr (steady-ok c.read_input.result c.in-Ok.m _ c.in-Ok.is c.read_input.ensures.steady)) c.read_input.ensures.front c.read_input.ensures.reads
 
@@ -37,8 +37,8 @@ returns-in-Err-ReadFault-clause-run g c =
     (c.of-in-Err-ReadFault.ensures.kept ∙ c.new-in-Err-ReadFault.ensures) refl refl
     (inl c.of-in-Err-ReadFault.ensures.status) c.read_input.ensures.front c.read_input.ensures.reads
 
-pub returns-clause-run : goal.returns-clause-run
-returns-clause-run g c =
+pub returns-in-Err-NoMemory-clause-run : goal.returns-in-Err-NoMemory-clause-run
+returns-in-Err-NoMemory-clause-run g c =
     run-stopped _ _ _ _ _ c.in-Some.subcommand (sym c.of.ensures ∙ c.in-Some.is)
     (inl c.of-in-Err-NoMemory.ensures.status)
     (c.of-in-Err-NoMemory.ensures.kept ∙ c.new-in-Err-NoMemory.ensures) refl refl
