@@ -347,4 +347,5 @@ def main():
     print("%d texts, seed %d, no difference: %s" % (count, seed, " ".join("%s %d" % c for c in sorted(causes.items()))))
 
 
-main()
+if __name__ == "__main__":
+    main()

@@ -7,17 +7,20 @@ use std::io::ErrorKind;
 use tss_io::{MemSink, MemSource, NoMemory};
 use tss_program::{Done, run_arguments, run_plain};
 
-const USAGE: &str = "usage: tss order|play|race|audit|score|soak N\n";
+const USAGE: &str = "usage: tss order|play|race|audit|score|lift|soak N\n";
 
-const SHAPE: &str = "refused line 0 cause 2 shape\n";
+const NOT_YET: &str = "refused line 0 cause 2 shape\n";
 
 const OPENING: &str =
     "tss match 1\nlength 1\ngrid 3 1\nmirrors 1\ndelays 0\npace 0\nplayer ann 0 0 e\nend\n";
 
 const OPENING_WORLD: &str = "order 1\nlive ann 0 0 e 3 5 0\ndone\n";
 
-const TWO_MIRRORS: &str =
-    "tss match 1\nlength 1\ngrid 3 1\nmirrors 2\ndelays 0\npace 0\nplayer ann 0 0 e\nend\n";
+const TWO_COPIES: &str =
+    "tss match 1\nlength 1\ngrid 3 1\nmirrors 2\ndelays 0 2\npace 0\nplayer ann 0 0 e\nend\n";
+
+const TWO_COPIES_LIFTED: &str =
+    "tss match 2\nlength 1\ngrid 3 1\nmirrors 2\ndelays 0 2\npace 0\nplayer ann 0 0 e\nend\n";
 
 // Two commands of one tick in the wrong order of lines: the turn has the smaller key, so the move is blocked.
 const TURN_BEFORE_MOVE: &str =
@@ -178,7 +181,7 @@ const REFUSED: Case = Case {
     name: "an empty text",
     input: "",
     status: 5,
-    written: SHAPE,
+    written: "refused line 1 cause 8 end\n",
     ..ORDERED
 };
 
@@ -191,7 +194,7 @@ const PLAYED: Case = Case {
     ..ORDERED
 };
 
-const CASES: [Case; 17] = [
+const CASES: [Case; 19] = [
     ORDERED,
     USED_WRONG,
     Case {
@@ -242,21 +245,36 @@ const CASES: [Case; 17] = [
     },
     REFUSED,
     Case {
-        name: "two mirrors aren't read yet",
-        input: TWO_MIRRORS,
-        ..REFUSED
-    },
-    Case {
         name: "an arrival of no command",
         words: &["play"],
         input: UNKNOWN_COMMAND,
+        written: "refused line 10 cause 5 name\n",
         ..REFUSED
+    },
+    Case {
+        name: "several copies aren't played yet",
+        words: &["play"],
+        input: TWO_COPIES,
+        written: NOT_YET,
+        ..REFUSED
+    },
+    Case {
+        name: "several copies, ordered",
+        input: TWO_COPIES,
+        ..ORDERED
+    },
+    Case {
+        name: "several copies, lifted",
+        words: &["lift"],
+        input: TWO_COPIES,
+        written: TWO_COPIES_LIFTED,
+        ..ORDERED
     },
     Case {
         name: "the refusal isn't written",
         failing_put: Some(2),
         status: 4,
-        written: "refused line 0 c",
+        written: "refused line 1 c",
         ..REFUSED
     },
     PLAYED,
