@@ -6,3 +6,4 @@ mod OnWay
 mod Whole
 mod Ends
 mod Headline
+mod Lifting

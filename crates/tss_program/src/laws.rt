@@ -10,13 +10,15 @@ ghost use Rattle.game_trait.specs.declared.event.Arrived.TheVariants.{Late};
 ghost use Rattle.sync_model.specs.State.{MirrorState, last_clock};
 ghost use Rattle.sync_model.specs.Change.{said, after, is_repeat};
 ghost use Rattle.sync_model.specs.Staggered.{IsStaggered};
-ghost use Rattle.match_file.specs.Data.{MatchData, IsMatch};
+ghost use Rattle.match_file.specs.Data.{MatchData, IsMatch, lifted};
 ghost use Rattle.match_file.specs.Text.{match_text};
 ghost use Rattle.run_recorder.specs.declared.log.MirrorLog.{MirrorLog};
 ghost use Rattle.tss_program.specs.declared.subcommand.Subcommand.{Subcommand};
 ghost use Rattle.tss_program.specs.Subcommands.{subcommand_of};
+ghost use Rattle.tss_program.specs.Hall.{scripted, played};
+ghost use Rattle.tss_program.specs.Report.{Showing, order_text, play_text};
 ghost use Rattle.tss_program.specs.Headline.{IsPlayed};
-ghost use Rattle.tss_program.specs.Due.{Due, IsDue};
+ghost use Rattle.tss_program.specs.Due.{Due, IsDue, is_playable};
 ghost use Rattle.tss_program.specs.Run.{Streams, EndsWith};
 
 use game_trait::Game;
@@ -52,4 +54,14 @@ pub fn late_exactly_in_a_log<G: Game>()
         → IsPlayed G.rules m start end log → log ≡ front ++ Arrive x ∷ rest
         → (said (after start front) (Arrive x) ≡ ToArrive (Late (last_clock (after start front).runs)))
         ↔ ((is_repeat (after start front) x ≡ false) × (x.time < last_clock (after start front).runs)) }
+{}
+
+/// Lifting a match keeps its time-ordered execution, what its script and draining do to its mirrors, what playing prints, and
+/// whether it can be played.
+pub fn lifting_keeps<G: Game>()
+    ensures order { (show : Showing G) (opening : G) (m : MatchData) → order_text show opening (lifted m) ≡ order_text show opening m }
+    ensures script { (opening : G) (m : MatchData) → scripted opening (lifted m) ≡ scripted opening m }
+    ensures played { (opening : G) (m : MatchData) → played opening (lifted m) ≡ played opening m }
+    ensures text { (show : Showing G) (opening : G) (m : MatchData) → play_text show opening (lifted m) ≡ play_text show opening m }
+    ensures playable { (m : MatchData) → is_playable (lifted m) ≡ is_playable m }
 {}
