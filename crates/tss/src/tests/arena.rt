@@ -97,7 +97,12 @@ fn only_ann(alloc: Global) -> Result<Roster, NoMemory> {
 }
 
 /// Whether this is the block of the arena.
-pub fn does_show(alloc: Global, arena: &Arena, roster: &Roster, block: &str) -> Result<bool, NoMemory> {
+pub fn does_show(
+    alloc: Global,
+    arena: &Arena,
+    roster: &Roster,
+    block: &str,
+) -> Result<bool, NoMemory> {
     let mut out = Vec::new(alloc);
     arena.block(roster, &mut out)?;
     Ok(out.as_slice() == block.as_bytes())

@@ -401,6 +401,7 @@ fn a_sink_may_fail_anywhere(rt: HostRuntime) {
     for whole in &[ORDERED, PLAYED] {
         let puts = whole.written.len().div_ceil(8);
         for call in 0..puts {
+            assert!(rt; whole.written.is_char_boundary(call * 8));
             let (front, _) = whole.written.split_at(call * 8);
             let case = Case {
                 name: "a put fails",
