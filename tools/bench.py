@@ -1,14 +1,15 @@
 #!/usr/bin/env python3
 """Times the built program on the largest plain match, and shows how time grows with the commands.
 
-    python3 tools/bench.py PROGRAM [--word order|play] [--text plain|script|late|arena] [--runs N]
+    python3 tools/bench.py PROGRAM [--word order|play] [--text plain|script|late|arena|large] [--runs N]
 
 PROGRAM is the built program `tss`. The match has 8,192 ticks and 2,048 to 16,384 commands of one mirror, in a mixed
 order of lines. A plain text has no script. In a `script` text there is one turn a tick, and each command arrives at a lag
 of 0 to 40 ticks behind its time, so that some are in time and some are late. In a `late` text all commands arrive after
 the last turn, so each is found, turned away and printed, and none is executed: that measures reading, finding and
 printing apart. `order` on a `script` text measures reading and executing without a mirror. An `arena` text has 4,096 ticks,
-eight players who shoot a third of the time, walls and pickups, so it measures the arena's rules. Without --text it is plain
+eight players who shoot a third of the time, walls and pickups, so it measures the arena's rules. A `large` text has 300 walls,
+16 script lines for each command, all arrivals at one mirror, and up to 262,144 of them. Without --text it is plain
 for `order` and script for `play`. Each match is run N times (default 15); the least wall time, the start of the process
 included, and the greatest peak memory are printed, and by how much each doubling multiplies the time.
 """
@@ -70,6 +71,18 @@ def arena_text(count):
     return "".join(line + "\n" for line in lines).encode()
 
 
+def large_text(count):
+    draws = Draws(7)
+    lines = ["tss match 1", f"length {LENGTH}", "grid 64 64", "mirrors 1", "delays 20", "pace 0"]
+    lines += [f"wall {x} {y}" for y in range(5) for x in range(60)]
+    lines.append("player ann 32 32 e")
+    lines += [f"cmd {draws.below(LENGTH)} 0 {number} 0 {ACTS[draws.below(3)]}" for number in range(count)]
+    lines.append("script")
+    lines += [f"arrive 0 0 {draws.below(count)}" for _ in range(16 * count)]
+    lines.append("end")
+    return "".join(line + "\n" for line in lines).encode()
+
+
 def run_once(program, word, text):
     """The wall time in seconds and the peak memory in KiB of one run."""
     read_end, write_end = os.pipe()
@@ -104,7 +117,7 @@ def main():
     parser = argparse.ArgumentParser()
     parser.add_argument("program")
     parser.add_argument("--word", choices=("order", "play"), default="order")
-    parser.add_argument("--text", choices=("plain", "script", "late", "arena"))
+    parser.add_argument("--text", choices=("plain", "script", "late", "arena", "large"))
     parser.add_argument("--runs", type=int, default=15)
     given = parser.parse_args()
     kind = given.text or ("script" if given.word == "play" else "plain")
@@ -112,7 +125,7 @@ def main():
     print(f"processor: {processor()}, {os.cpu_count()} cores")
     before = None
     for count in COUNTS:
-        text = arena_text(count) if kind == "arena" else match_text(count, kind)
+        text = {"arena": arena_text, "large": large_text}.get(kind, lambda n: match_text(n, kind))(count)
         runs = [run_once(program, given.word, text) for _ in range(given.runs)]
         least = min(seconds for seconds, _ in runs)
         peak = max(memory for _, memory in runs)

@@ -1,5 +1,6 @@
 #!/usr/bin/env python3
-"""Damages match texts at random and compares the reader's answers with a slow reader that is written after the page of the format.
+"""Damages match texts at random, and takes each count at its limit and one past it, and compares the reader's answers with a slow
+reader that is written after the page of the format.
 
 Usage: broken_texts.py PROGRAM SEED COUNT [WORD ..]
 
@@ -221,18 +222,20 @@ def first_fault(text):
     """The line and the cause of the first fault, or None."""
     if len(text) > 8388608:
         return 0, LONG
-    reader, rest, at = Reader(), text, 0
+    reader, start, at = Reader(), 0, 0
     while True:
         at += 1
         if reader.stage == "ended":
-            return (at, END) if rest else None
-        if not rest:
+            return (at, END) if start < len(text) else None
+        if start == len(text):
             return at, END
-        raw, newline, rest = rest.partition(b"\n")
+        stop = text.find(b"\n", start)
+        raw = text[start:] if stop < 0 else text[start:stop]
         if len(raw) > 120:
             return at, LONG
-        if not newline:
+        if stop < 0:
             return at, END
+        start = stop + 1
         try:
             reader.line(at, raw)
         except Fault as fault:
@@ -319,6 +322,32 @@ def damaged(r, lines):
     return text
 
 
+def limit_texts():
+    """Texts with each count at its limit, and with one past it."""
+
+    def text(version, front=(), mirrors=1, delays=(0,), players=1, commands=0, script=()):
+        lines = ["tss match %d" % version, "length 8192", "grid 64 64", "mirrors %d" % mirrors, "delays " + " ".join(map(str, delays)), "pace 0"]
+        lines += front
+        lines += ["player p%d %d %d e" % (i, i, 63) for i in range(players)]
+        lines += ["cmd %d 0 %d 0 go" % (i % 8192, i) for i in range(commands)]
+        lines += (["script"] if script else []) + list(script) + ["end"]
+        return "".join(line + "\n" for line in lines).encode()
+
+    for past in (0, 1):
+        for version in (1, 2):
+            yield text(version, commands=16384 * version + past)
+            yield text(version, players=16 * version + past)
+            yield text(version, mirrors=8 + past)
+            yield text(version, delays=range(8 + past))
+            yield text(version, front=["plan %d" % i for i in range(7 + past)])
+            yield text(version, front=["pickup %d 0 gold" % i for i in range(32 + past)])
+            yield text(version, script=["tick 0"] * (262144 + past))
+            yield text(version, script=["world 0 0", "run 0 0"] * 512 + ["run 0 0"] * past)
+            yield text(version, front=["wall %d %d" % (x, y) for y in range(63) for x in range(64)] + ["wall 63 62"] * past)
+        yield b"x" * (120 + past) + b"\n"
+        yield b"x" * (8388608 + past)
+
+
 def told(fault):
     return "ok" if fault is None else "refused line %d cause %d %s" % (fault[0], fault[1], CAUSES[fault[1]])
 
@@ -327,6 +356,7 @@ def main():
     program, seed, count, words = sys.argv[1], int(sys.argv[2]), int(sys.argv[3]), sys.argv[4:] or ["lift"]
     r = random.Random(seed)
     texts = [damaged(r, good_text(r)) if r.random() < 0.95 else "".join(x + "\n" for x in good_text(r)).encode() for _ in range(count)]
+    texts += limit_texts()
     wanted = [told(first_fault(t)) for t in texts]
     if words[0] == "--batch":
         sent = b"".join(b"%d\n" % len(t) + t for t in texts)
@@ -342,9 +372,9 @@ def main():
         if want != got:
             sys.stdout.write("wanted %s, got %s, for:\n%s\n" % (want, got, t.decode("latin-1")))
             sys.exit(1)
-    if len(answers) != count:
-        sys.exit("answered %d of %d texts" % (len(answers), count))
-    print("%d texts, seed %d, no difference: %s" % (count, seed, " ".join("%s %d" % c for c in sorted(causes.items()))))
+    if len(answers) != len(texts):
+        sys.exit("answered %d of %d texts" % (len(answers), len(texts)))
+    print("%d texts, seed %d, no difference: %s" % (len(texts), seed, " ".join("%s %d" % c for c in sorted(causes.items()))))
 
 
 if __name__ == "__main__":
