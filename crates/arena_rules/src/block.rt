@@ -9,7 +9,7 @@ use crate::roster::Roster;
 use crate::shot::Shot;
 use tss_io::NoMemory;
 
-// Appends the players' lines. On `NoMemory` some may have been appended.
+/// Appends the players' lines. On `NoMemory` some may have been appended.
 pub fn push_players(players: &[Player], roster: &Roster, out: &mut Vec<u8>) -> Result<(), NoMemory>
     requires { length players.now ≤ 32 }
     ensures ok { OnOk result (out.new.items ≡ out.old.items ++ player_lines roster.now 0 players.now) }
@@ -21,7 +21,7 @@ pub fn push_players(players: &[Player], roster: &Roster, out: &mut Vec<u8>) -> R
     Ok(())
 }
 
-// Appends the shots' lines. On `NoMemory` some may have been appended.
+/// Appends the shots' lines. On `NoMemory` some may have been appended.
 pub fn push_shots(shots: &[Shot], roster: &Roster, out: &mut Vec<u8>) -> Result<(), NoMemory>
     ensures ok { OnOk result (out.new.items ≡ out.old.items ++ flat_map (shot_line roster.now) shots.now) }
     ensures front { take (length out.old.items) out.new.items ≡ out.old.items }
@@ -32,7 +32,7 @@ pub fn push_shots(shots: &[Shot], roster: &Roster, out: &mut Vec<u8>) -> Result<
     Ok(())
 }
 
-// Appends the pickups' lines. On `NoMemory` some may have been appended.
+/// Appends the pickups' lines. On `NoMemory` some may have been appended.
 pub fn push_pickups(pickups: &[Pickup], out: &mut Vec<u8>) -> Result<(), NoMemory>
     ensures ok { OnOk result (out.new.items ≡ out.old.items ++ flat_map item_line pickups.now) }
     ensures front { take (length out.old.items) out.new.items ≡ out.old.items }

@@ -57,7 +57,7 @@ impl Kind {
 }
 
 impl Pickup {
-    // Appends the pickup's line: its cell, its kind and its wait. On `NoMemory` `out` is unchanged.
+    /// Appends the pickup's line: its cell, its kind and its wait. On `NoMemory` `out` is unchanged.
     #[tactic(auto, unfolding(crate::specs::Block::item_line))]
     pub fn push_line(&self, out: &mut Vec<u8>) -> Result<(), NoMemory>
         ensures ok { OnOk result (out.new.items ≡ out.old.items ++ item_line self.now) }
@@ -73,20 +73,21 @@ impl Pickup {
         push_line(out, &words)
     }
 
-    // A pickup as the match begins.
+    /// A pickup as the match begins.
     pub fn ready(place: PickupSpot) -> Pickup
         ensures { result ≡ opening_pickup place }
     {
         Pickup { place, wait: 0 }
     }
 
+    /// Whether a pickup lies ready in the cell of this spot: it stands there, and its wait is 0 beats.
     pub fn lies_ready(&self, spot: Spot) -> bool
         ensures { result ≡ lies_ready (spot_cell spot) self.now }
     {
         spot.x == self.place.x && spot.y == self.place.y && self.wait == 0
     }
 
-    // The pickup after someone came to the cell of this spot.
+    /// The pickup after someone came to the cell of this spot.
     pub fn emptied(self, spot: Spot) -> Pickup
         ensures { result ≡ emptied (spot_cell spot) self }
     {
@@ -97,7 +98,7 @@ impl Pickup {
         }
     }
 
-    // The pickup after a beat.
+    /// The pickup after a beat.
     pub fn waited(self) -> Pickup
         ensures { result ≡ waited self }
     {
@@ -108,7 +109,7 @@ impl Pickup {
     }
 }
 
-// The kind of the pickup that lies ready in the cell of this spot.
+/// The kind of the pickup that lies ready in the cell of this spot.
 pub fn ready_kind(pickups: &[Pickup], spot: Spot) -> Option<Kind>
     ensures { result ≡ ready_kind pickups.now (spot_cell spot) }
 {
@@ -118,7 +119,7 @@ pub fn ready_kind(pickups: &[Pickup], spot: Spot) -> Option<Kind>
         .map(|p| p.place.kind)
 }
 
-// Takes what lies ready in the cell of this spot.
+/// Takes what lies ready in the cell of this spot.
 pub fn take(pickups: &mut [Pickup], spot: Spot)
     ensures { pickups.new ≡ taken pickups.old (spot_cell spot) }
 {
@@ -127,7 +128,7 @@ pub fn take(pickups: &mut [Pickup], spot: Spot)
     }
 }
 
-// The third part of a beat.
+/// The third part of a beat.
 pub fn wait(pickups: &mut [Pickup])
     ensures { pickups.new ≡ map waited pickups.old }
 {
@@ -136,7 +137,7 @@ pub fn wait(pickups: &mut [Pickup])
     }
 }
 
-// The pickups as the match begins.
+/// The pickups as the match begins.
 pub fn all_ready(places: &[PickupSpot]) -> ArrayVec<Pickup, MOST_PICKUPS>
     requires { length places.now ≤ 32 }
     ensures { result.items ≡ map opening_pickup places.now }

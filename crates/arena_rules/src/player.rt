@@ -28,6 +28,7 @@ pub struct Body {
 }
 
 impl Body {
+    /// A body in its home cell, with the home's facing, 3 points of health and 5 of ammunition.
     pub fn at_home(home: Spot) -> Body
         ensures { result ≡ body_at_home home }
     {
@@ -38,6 +39,7 @@ impl Body {
         }
     }
 
+    /// The body turned to this facing, in the same cell.
     pub fn turned_to(self, face: Face) -> Body
         ensures { result ≡ turned_to self face }
     {
@@ -73,7 +75,7 @@ pub struct Player {
 }
 
 impl Player {
-    // A player as the match begins.
+    /// A player as the match begins.
     pub fn at_home(home: Spot) -> Player
         ensures { result ≡ opening_player home }
     {
@@ -84,6 +86,7 @@ impl Player {
         }
     }
 
+    /// The player in this body, with home and score as before.
     pub fn with_body(self, body: Body) -> Player
         ensures { result ≡ alive self body }
     {
@@ -93,7 +96,7 @@ impl Player {
         }
     }
 
-    // The player and the body, where the player is live.
+    /// The player and the body, where the player is live.
     pub fn live(&self) -> Option<(Player, Body)>
         ensures { result ≡ live_of (Some self.now) }
     {
@@ -103,12 +106,14 @@ impl Player {
         }
     }
 
+    /// Whether the player is live, and not waiting to return.
     pub fn is_live(&self) -> bool
         ensures { result ≡ is_live self.now }
     {
         matches!(self.state, State::Live(_))
     }
 
+    /// Whether the player is live and stands in the cell of this spot.
     pub fn stands_in(&self, spot: Spot) -> bool
         ensures { result ≡ stands_in (spot_cell spot) self.now }
     {
@@ -118,8 +123,8 @@ impl Player {
         }
     }
 
-    // Appends the player's line: a live one's name, cell, facing, health, ammunition and score, a dead one's name, wait and score.
-    // On `NoMemory` `out` is unchanged.
+    /// Appends the player's line: a live one's name, cell, facing, health, ammunition and score, a dead one's name, wait and score.
+    /// On `NoMemory` `out` is unchanged.
     #[tactic(auto, unfolding(crate::specs::Block::player_line))]
     pub fn push_line(&self, name: &[u8], out: &mut Vec<u8>) -> Result<(), NoMemory>
         ensures ok { OnOk result (out.new.items ≡ out.old.items ++ player_line name.now self.now) }
@@ -152,7 +157,7 @@ impl Player {
         }
     }
 
-    // The player of this body, after taking a pickup of this kind, if there is one.
+    /// The player of this body, after taking a pickup of this kind, if there is one.
     pub fn given(self, body: Body, kind: Option<Kind>) -> Player
         ensures { result ≡ given self body kind }
     {
@@ -170,7 +175,7 @@ impl Player {
         }
     }
 
-    // The player after a shot hit: at health 0 dead.
+    /// The player after a shot hit: at health 0 dead.
     pub fn struck(self) -> Player
         ensures { result ≡ struck self }
     {
@@ -186,6 +191,7 @@ impl Player {
         Player { state, ..self }
     }
 
+    /// The player with one point more, at most 1,000,000.
     pub fn with_gain(self) -> Player
         ensures { result ≡ with_gain self }
     {
@@ -197,6 +203,7 @@ impl Player {
         Player { score, ..self }
     }
 
+    /// The player with one point less, at least -1,000,000.
     pub fn with_loss(self) -> Player
         ensures { result ≡ with_loss self }
     {
@@ -209,7 +216,7 @@ impl Player {
     }
 }
 
-// Whether a live player stands in the cell of this spot.
+/// Whether a live player stands in the cell of this spot.
 #[tactic(auto, unfolding(crate::specs::Player::is_held))]
 pub fn is_held(players: &[Player], spot: Spot) -> bool
     ensures { result ≡ is_held players.now (spot_cell spot) }
@@ -217,14 +224,14 @@ pub fn is_held(players: &[Player], spot: Spot) -> bool
     players.iter().any(|p| p.stands_in(spot))
 }
 
-// The number of the live player who stands in the cell of this spot.
+/// The number of the live player who stands in the cell of this spot.
 pub fn holder(players: &[Player], spot: Spot) -> Option<usize>
     ensures { result ≡ holder players.now (spot_cell spot) }
 {
     players.iter().position(|p| p.stands_in(spot))
 }
 
-// The players as the match begins.
+/// The players as the match begins.
 pub fn all_at_home(homes: &[Spot]) -> ArrayVec<Player, MOST_PLAYERS>
     requires { length homes.now ≤ 32 }
     ensures { result.items ≡ map opening_player homes.now }

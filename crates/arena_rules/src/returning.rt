@@ -24,7 +24,7 @@ fn returned(players: &[Player], player: Player) -> Player
     }
 }
 
-// The second part of a beat: the dead wait and return, in player order.
+/// The second part of a beat: the dead wait and return, in player order.
 pub fn return_all(players: &mut [Player])
     ensures { players.new ≡ returns [] players.old }
 {

@@ -25,7 +25,7 @@ pub struct Shot {
 }
 
 impl Shot {
-    // A shot as it is fired.
+    /// A shot as it is fired.
     pub fn fired(owner: u8, spot: Spot) -> Shot
         ensures { result ≡ record { owner = owner; spot = spot; left = 8 } }
     {
@@ -36,7 +36,7 @@ impl Shot {
         }
     }
 
-    // Appends the shot's line: its owner's name, its cell, its facing and the cells left. On `NoMemory` `out` is unchanged.
+    /// Appends the shot's line: its owner's name, its cell, its facing and the cells left. On `NoMemory` `out` is unchanged.
     #[tactic(auto, unfolding(crate::specs::Block::shot_line))]
     pub fn push_line(&self, roster: &Roster, out: &mut Vec<u8>) -> Result<(), NoMemory>
         ensures ok { OnOk result (out.new.items ≡ out.old.items ++ shot_line roster.now self.now) }
@@ -108,7 +108,7 @@ fn fly(ground: &Ground, players: &mut [Player], shot: Shot) -> Option<Shot>
     }
 }
 
-// The first part of a beat: the shots fly in list order, and each sees what those before it did.
+/// The first part of a beat: the shots fly in list order, and each sees what those before it did.
 pub fn fly_all(
     ground: &Ground,
     players: &mut [Player],

@@ -6,7 +6,7 @@ ghost use Rattle.executed_list.specs.Segments.{filled};
 
 use game_trait::Item;
 
-// Makes the first `n` numbers one number.
+/// Makes the first `n` numbers one number.
 pub fn fill(list: &mut Vec<u32>, n: usize, number: u32)
     requires { n ≤ vec_len list.old }
     ensures { list.new.items ≡ filled n number list.old.items }
@@ -16,7 +16,7 @@ pub fn fill(list: &mut Vec<u32>, n: usize, number: u32)
     }
 }
 
-// How many ticks an item ends: one or none.
+/// How many ticks an item ends: one or none.
 #[tactic(auto, unfolding(game_trait::specs::Run::beats))]
 pub fn beats_in(item: &Item) -> u32
     ensures count { result ≡ beats (item.now ∷ []) }
@@ -28,7 +28,7 @@ pub fn beats_in(item: &Item) -> u32
     }
 }
 
-// How many ticks the items end.
+/// How many ticks the items end.
 pub fn beats_of(items: &[Item]) -> u32
     requires { length items.now < 2 ^ 32 }
     ensures { result ≡ beats items.now }

@@ -66,6 +66,7 @@ fn is_open(stage: Stage) -> bool
     }
 }
 
+/// Whether the lines stand behind the `script` line, and before the last one.
 pub fn is_script(stage: Stage) -> bool
     ensures { result ≡ is_script stage }
 {
@@ -76,6 +77,7 @@ pub fn is_script(stage: Stage) -> bool
     }
 }
 
+/// Whether the last line of a match was read.
 pub fn is_ended(stage: Stage) -> bool
     ensures { result ≡ is_ended stage }
 {

@@ -37,7 +37,7 @@ fn slot_is_due_before(commands: &[Command], slot: u32, t: Tick) -> bool
     }
 }
 
-// The place at which a command stands among slots in key order, behind those before it.
+/// The place at which a command stands among slots in key order, behind those before it.
 pub fn place_of(commands: &[Command], slots: &VecDeque<u32>, x: &Command) -> usize
     requires { AreSlots commands.now slots.now.items }
     ensures within { result ≤ deque_len slots.now }
@@ -46,7 +46,7 @@ pub fn place_of(commands: &[Command], slots: &VecDeque<u32>, x: &Command) -> usi
     slots.partition_point(|&slot| slot_is_before(commands, slot, x))
 }
 
-// How many of the slots in key order have a command that is due before a tick.
+/// How many of the slots in key order have a command that is due before a tick.
 pub fn due_before(commands: &[Command], slots: &VecDeque<u32>, t: Tick) -> usize
     requires { AreSlots commands.now slots.now.items }
     ensures { result ≡ times (is_due_before commands.now t) slots.now.items }

@@ -17,7 +17,7 @@ fn one_above(clock: Tick, t: Tick) -> u8
     0
 }
 
-// How many clocks are above a time.
+/// How many clocks are above a time.
 pub fn count_above(clocks: &[Tick], t: Tick) -> u8
     requires { length clocks.now ≤ MOST_COPIES }
     ensures count { result ≡ times (λ k. nat_lt t k) clocks.now }

@@ -12,7 +12,7 @@ use game_trait::{Command, Game, Tick};
 use pending_list::Buckets;
 use repair_copy::replay;
 
-// Every copy up to `last` comes to stand at the list's end. But for copy 0, which stands there, they stood at `from`.
+/// Every copy up to `last` comes to stand at the list's end. But for copy 0, which stands there, they stood at `from`.
 pub fn bring_up(run: &mut Segments, last: u8, from: u32)
     requires there { last < length run.old.ends }
     requires few { length run.old.ends ≤ MOST_COPIES }
@@ -26,7 +26,7 @@ pub fn bring_up(run: &mut Segments, last: u8, from: u32)
     }
 }
 
-// Executes a command on the worlds from `first` to `last`.
+/// Executes a command on the worlds from `first` to `last`.
 pub fn apply_to_each<G: Game>(worlds: &mut Vec<G>, first: u8, last: u8, x: &Command)
     requires order { first ≤ last }
     requires there { last < vec_len worlds.old }
@@ -42,7 +42,7 @@ pub fn apply_to_each<G: Game>(worlds: &mut Vec<G>, first: u8, last: u8, x: &Comm
     }
 }
 
-// Makes a copy's world equal to the world of the copy behind it.
+/// Makes a copy's world equal to the world of the copy behind it.
 pub fn copy_down<G: Game>(worlds: &mut Vec<G>, c: usize)
     requires { c + 1 < vec_len worlds.old }
     ensures worlds { (d : G) → worlds.new.items ≡ slice_set worlds.old.items c (slice_index_or worlds.old.items (c + 1) d) }
@@ -52,8 +52,8 @@ pub fn copy_down<G: Game>(worlds: &mut Vec<G>, c: usize)
     ahead[c].set_from(&behind[0]);
 }
 
-// Brings the copies ahead of `last` to their clocks again. They all stand where `last` stands, at the list's end, and each
-// goes on from there in time order. Each tick is executed once, however many copies it belongs to.
+/// Brings the copies ahead of `last` to their clocks again. They all stand where `last` stands, at the list's end, and each
+/// goes on from there in time order. Each tick is executed once, however many copies it belongs to.
 pub fn repair_ahead<G: Game>(
     worlds: &mut Vec<G>,
     run: &mut Segments,
