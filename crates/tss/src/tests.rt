@@ -4,6 +4,7 @@
 mod arena;
 mod counting_game;
 mod game_trait_tests;
+mod limits;
 mod match_texts;
 mod mirror_core_tests;
 mod mirror_lock_tests;
