@@ -6,7 +6,7 @@ use Rattle.game_trait.specs.Ordered.{due_at}
 use Rattle.sync_model.specs.State.{MirrorState, copy_clock}
 use Rattle.sync_model.specs.Settle.{repaired}
 use Rattle.sync_model.specs.Change.{next, is_idle, proposed_by_step}
-use Rattle.sync_model.specs.Drafts.{ReadyTick, epoch, draft_of}
+use Rattle.sync_model.specs.Drafts.{DraftTick, ReadyTick, epoch, draft_of}
 use Rattle.mirror_core.specs.declared.drafts.TheConstants.{MOST_DRAFTED}
 use Rattle.mirror_core.specs.declared.drafts.Drafted.{Drafted}
 use Rattle.mirror_core.specs.declared.drafts.Drafted.TheVariants.{Draft, Idle, Wide}
@@ -38,3 +38,9 @@ committed s r =
     if is_current s r
     then Ran (repaired s.accepted (proposed_by_step s.accepted s.runs r.copy))
     else Stale r.epoch (epoch s r.copy)
+
+-- what holds of the draft that is answered, if one is
+abbrev pub IfDraft : {W : Type 0} → Drafted W → (DraftTick W → Type 0) → Type 0
+IfDraft (Draft d) P = P d
+IfDraft Idle P = Unit {0}
+IfDraft (Wide commands) P = Unit {0}

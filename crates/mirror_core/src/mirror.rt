@@ -8,9 +8,9 @@ ghost use Rattle.sync_model.specs.Change.{next, said, Fits};
 ghost use Rattle.sync_model.specs.Consistent.{IsConsistent};
 ghost use Rattle.sync_model.specs.History.{HasRoom, repairs as repairs_of};
 ghost use Rattle.sync_model.specs.Turns.{is_drained, drain_bound};
-ghost use Rattle.sync_model.specs.Drafts.{epoch as epoch_of, FitsReady};
+ghost use Rattle.sync_model.specs.Drafts.{epoch as epoch_of, ready_of, FitsReady};
 ghost use Rattle.mirror_core.specs.Kept.{delays_of_each, ticks_of_first, copies_of_first};
-ghost use Rattle.mirror_core.specs.Drafts.{drafted, committed_to, committed};
+ghost use Rattle.mirror_core.specs.Drafts.{drafted, committed_to, committed, IfDraft};
 
 use crate::drafts::{Committed, Draft, Drafted, MOST_DRAFTED, Ready};
 use crate::epochs::Epochs;
@@ -269,7 +269,8 @@ impl<G: Game> Mirror<G> {
     /// which fits, once it is run, what the mirror is now and whatever it becomes.
     pub fn draft(&self, copy: u8) -> Drafted<G>
         requires { copy < length self.now.runs }
-        ensures { result ≡ drafted G.rules self.now copy }
+        ensures answer { result ≡ drafted G.rules self.now copy }
+        ensures fits { IfDraft result (λ d. FitsReady G.rules self.now (ready_of G.rules d)) }
     {
         let clock = self.stack.clock(copy);
         if clock >= self.limit(copy) {
