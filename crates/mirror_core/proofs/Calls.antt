@@ -1,5 +1,5 @@
 -- The tests that a mirror makes, as the model's.
-use Rattle.std.proofs.Common.{◌≡◌, refl, ◌∙◌, ap, sym, ℕ, zero, suc, ◌+◌, ◌-◌, ◌^◌, ◌≤◌, ◌<◌, Bool, true, false, cond, eqb, List, [], ◌∷◌, ◌++◌, length, arith}
+use Rattle.std.proofs.Common.{◌≡◌, refl, ◌∙◌, ap, sym, ℕ, zero, suc, ◌+◌, ◌-◌, ◌^◌, ◌≤◌, ◌<◌, Bool, true, false, cond, eqb, leb, eq-eqb, get_or, subst, List, [], ◌∷◌, ◌++◌, length, arith}
 use Rattle.std.proofs.lemmas.Bool.{lt-ltb, le-ltb}
 use Rattle.std.proofs.lemmas.Bool.Decides.{nat_tests}
 use Rattle.std.proofs.lemmas.List.Folds.{list_any-append}
@@ -9,7 +9,7 @@ use Rattle.sync_model.specs.Lists.{last_of}
 use Rattle.sync_model.specs.Staggered.{IsChained}
 use Rattle.game_trait.specs.declared.command.Command.{Command}
 use Rattle.game_trait.specs.declared.command.Item.{Item}
-use Rattle.game_trait.specs.Run.{beats}
+use Rattle.game_trait.specs.Run.{beats, world_of}
 use Rattle.game_trait.specs.Keys.{is_named}
 use Rattle.game_trait.specs.CommandList.{has_command, same_pair}
 use Rattle.sync_model.specs.Schedule.{Schedule, limit_at}
@@ -18,6 +18,15 @@ use Rattle.sync_model.specs.Change.{is_over, is_late, is_idle}
 use Rattle.sync_model.specs.Turns.{is_drained}
 use Rattle.sync_model.proofs.Staggered.{greatest-most, below_limit}
 use Rattle.sync_model.proofs.Trailing.{IsBehindAhead}
+use Rattle.game_trait.specs.Game.{Rules}
+use Rattle.game_trait.specs.declared.event.Event.TheVariants.{Step}
+use Rattle.sync_model.specs.Change.{next}
+use Rattle.sync_model.specs.Drafts.{epoch, run_of, DraftTick, ReadyTick, draft_of, ready_of, IsDueTick, FitsReady}
+use Rattle.sync_model.proofs.Epochs.{draft_fits}
+use Rattle.game_trait.specs.Ordered.{due_at}
+use Rattle.sync_model.proofs.Cases.{ran}
+use Rattle.mirror_core.specs.Drafts.{is_current, committed_to}
+use Rattle.mirror_core.proofs.Answered.{step_ran}
 use Rattle.mirror_core.specs.Kept.{Room, IsKept}
 use Rattle.mirror_core.proofs.PlanLaws.{greatest-short, ticks-few}
 use Rattle.mirror_core.proofs.Clocks.{last_clock-at, drained-last}
@@ -30,7 +39,10 @@ has-push xs x from number = list_any-append (is_named from number) xs (x ∷ [])
     either : (b : Bool) → (b || (is_named from number x || false)) ≡ cond (same_pair (x.from, x.number) (from, number)) true b
     either b = grind (arith, nat_tests)
 
-module _ {W : Type 0} {s : MirrorState W} {plans : List Schedule} {is_taken : ℕ × ℕ → Bool} {repairs_now : ℕ} {room : Room} (h : IsKept s plans is_taken repairs_now room) where
+le-false : (limit clock : ℕ) → clock < limit → leb limit clock ≡ false
+le-false limit clock below = grind (arith, nat_tests)
+
+module _ {W : Type 0} {s : MirrorState W} {plans : List Schedule} {is_taken : ℕ × ℕ → Bool} {repairs_now : ℕ} {numbers : List ℕ} {room : Room} (h : IsKept s plans is_taken repairs_now numbers room) where
   -- a tick
   pub clock-fits : s.clock ≤ 9216
   clock-fits =
@@ -75,6 +87,47 @@ module _ {W : Type 0} {s : MirrorState W} {plans : List Schedule} {is_taken : �
   unfolding IsBehindAhead
   behind-ahead zero more some = absurd (omega arith)
   behind-ahead (suc copy) more some = (let back : suc copy - 1 ≡ copy = omega arith in rw back (below_limit s (suc copy) more).0)
+
+  -- a ready tick of its copy's present epoch is the copy's due tick, which the copy may run
+  pub due-now :
+      (rules : Rules W) (r : ReadyTick W) (copy held now : ℕ) → FitsReady rules s r → copy ≡ r.copy → held ≡ r.epoch → now ≡ get_or numbers copy 0 → held ≡ now
+      → (r.epoch ≡ epoch s r.copy) × IsDueTick rules s r
+  due-now rules r copy held now fits own had kept same =
+      let there = fits.there in
+      let many = h.epochs.as_many in
+      let is = h.epochs.each copy (omega arith) in
+      let current : r.epoch ≡ epoch s r.copy = sym had ∙ same ∙ kept ∙ is ∙ ap (epoch s) own in
+      (current, fits.due current)
+
+  pub commit-runs :
+      (rules : Rules W) (r : ReadyTick W) (copy held now : ℕ) → FitsReady rules s r → copy ≡ r.copy → held ≡ r.epoch → now ≡ get_or numbers copy 0 → held ≡ now
+      → is_idle s copy ≡ false
+  commit-runs rules r copy held now fits own had kept same =
+      let due = (due-now rules r copy held now fits own had kept same).1 in
+      let below = due.below_limit in
+      ap (is_idle s) own ∙ le-false (step_limit s r.copy) (copy_clock s.runs r.copy) below
+
+  pub committed-ran :
+      (rules : Rules W) (r : ReadyTick W) (copy held now : ℕ) → FitsReady rules s r → copy ≡ r.copy → held ≡ r.epoch → now ≡ get_or numbers copy 0 → held ≡ now
+      → ran s copy ≡ committed_to s r
+  committed-ran rules r copy held now fits own had kept same =
+      let current : is_current s r ≡ true = eq-eqb r.epoch (epoch s r.copy) (due-now rules r copy held now fits own had kept same).0 in
+      let more = commit-runs rules r copy held now fits own had kept same in
+      sym (step_ran s copy more).0 ∙ ap (λ (c : ℕ). next s (Step c)) own ∙ sym (ap (λ (b : Bool). cond b (next s (Step r.copy)) s) current)
+
+  -- a draft of these parts fits, once it is run
+  pub drafted-is :
+      (rules : Rules W) (d : DraftTick W) (copy clock number : ℕ) (world : W) (commands : List Command) → copy < length s.runs → is_idle s copy ≡ false
+      → d ≡ record { copy = copy; epoch = number; clock = clock; world = world; commands = commands }
+      → clock ≡ copy_clock s.runs copy → number ≡ get_or numbers copy 0
+      → world ≡ world_of rules s.opening (run_of s copy) → commands ≡ due_at s.accepted clock
+      → FitsReady rules s (ready_of rules d)
+  drafted-is rules d copy clock number world commands there more made at kept of_run due =
+      let many = h.epochs.as_many in
+      let is = kept ∙ h.epochs.each copy (omega arith) in
+      let whole : d ≡ draft_of rules s copy =
+      made ∙ (λ i. record { copy = copy; epoch = is i; clock = at i; world = of_run i; commands = (due ∙ ap (due_at s.accepted) at) i }) in
+      subst (λ (e : DraftTick W). FitsReady rules s (ready_of rules e)) (sym whole) (draft_fits rules s copy there more)
 
   -- the last copy
   pub last-is : (copies : ℕ) → copies ≡ length s.runs → copy_clock s.runs (copies - 1) ≡ last_clock s.runs

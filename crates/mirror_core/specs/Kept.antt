@@ -9,6 +9,7 @@ use Rattle.sync_model.specs.State.{MirrorState}
 use Rattle.sync_model.specs.Staggered.{greatest_delay}
 use Rattle.sync_model.specs.Consistent.{IsConsistent}
 use Rattle.sync_model.specs.History.{repairs}
+use Rattle.mirror_core.specs.Epochs.{AreEpochs}
 
 -- the delays of each plan
 abbrev pub delays_of_each : List Schedule → List (List ℕ)
@@ -49,11 +50,13 @@ pub record HasRoomLeft {W : Type 0} (s : MirrorState W) (room : Room) : Type 0 w
   pub to_note : length s.history + events_left s ≤ room.history
   pub short_history : room.history ≤ 2 ^ 22
 
--- what is always true of a mirror with these plans, this test of a mirror and a number, this number of repairs, and this room
-pub record IsKept {W : Type 0} (s : MirrorState W) (plans : List Schedule) (is_taken : ℕ × ℕ → Bool) (repaired : ℕ) (room : Room) : Type 0 where
+-- what is always true of a mirror with these plans, this test of a mirror and a number, this number of repairs, these numbers of
+-- its copies, and this room
+pub record IsKept {W : Type 0} (s : MirrorState W) (plans : List Schedule) (is_taken : ℕ × ℕ → Bool) (repaired : ℕ) (numbers : List ℕ) (room : Room) : Type 0 where
   pub consistent : IsConsistent s
   pub ticks_each : AllByRecursion (λ plan. plan.length ≡ s.length) plans
   pub names : (from number : ℕ) → is_taken (from, number) ≡ has_command s.accepted from number
   pub repairs_are : repaired ≡ repairs s
   pub few_repairs : repaired ≤ MOST_COPIES * length s.history
+  pub epochs : AreEpochs s numbers
   pub room_left : HasRoomLeft s room

@@ -2,9 +2,12 @@
 //! `sync_model`.
 #![tactic(auto)]
 
+mod drafts;
+mod epochs;
 mod lists;
 mod mirror;
 mod plans;
 
+pub use drafts::{Committed, Draft, Drafted, MOST_DRAFTED, Ready};
 pub use mirror::Mirror;
 pub use sync_model::Turned;

@@ -8,8 +8,12 @@ ghost use Rattle.sync_model.specs.Change.{next, said, Fits};
 ghost use Rattle.sync_model.specs.Consistent.{IsConsistent};
 ghost use Rattle.sync_model.specs.History.{HasRoom, repairs as repairs_of};
 ghost use Rattle.sync_model.specs.Turns.{is_drained, drain_bound};
+ghost use Rattle.sync_model.specs.Drafts.{epoch as epoch_of, ready_of, FitsReady};
 ghost use Rattle.mirror_core.specs.Kept.{delays_of_each, ticks_of_first, copies_of_first};
+ghost use Rattle.mirror_core.specs.Drafts.{drafted, committed_to, committed, IfDraft};
 
+use crate::drafts::{Committed, Draft, Drafted, MOST_DRAFTED, Ready};
+use crate::epochs::Epochs;
 use crate::lists::Lists;
 use crate::plans::greatest;
 use game_trait::limits::{MOST_PLANS, MOST_ROOM};
@@ -40,6 +44,7 @@ pub struct Mirror<G: Game> {
     history: Vec<Event>,
     // how many copies were repaired, in all
     repairs: u64,
+    epochs: Epochs,
     spare: u32,
     plan_spare: u32,
 }
@@ -87,7 +92,7 @@ impl<G: Game> Model for Mirror<G> {
           turned = vec_capacity m.turned;
           history = vec_capacity m.history;
         } in
-        IsKept state m.plans.items (set.contains same_pair m.names) m.repairs room };
+        IsKept state m.plans.items (set.contains same_pair m.names) m.repairs m.epochs room };
 }
 
 impl<G: Game> Mirror<G> {
@@ -129,6 +134,7 @@ impl<G: Game> Mirror<G> {
             turned: lists.turned,
             history: lists.history,
             repairs: 0,
+            epochs: Epochs::new(alloc, copies)?,
             spare: room,
             plan_spare: restaggers,
         })
@@ -192,6 +198,7 @@ impl<G: Game> Mirror<G> {
     {
         self.plan = plan;
         self.plan_spare -= 1;
+        self.epochs.renew_all();
         self.history.push_reserved(Event::Restagger(plan));
     }
 
@@ -224,6 +231,7 @@ impl<G: Game> Mirror<G> {
             Ok(_) => {}
             Err(_) => unreachable!(),
         }
+        self.epochs.renew_due(&self.stack, x.time);
         let repaired = self.stack.accept(x);
         self.repairs += u64::from(repaired);
         Arrived::Taken { repaired }
@@ -241,9 +249,67 @@ impl<G: Game> Mirror<G> {
             return Stepped::Idle;
         }
         let repaired = self.stack.run_tick(copy);
+        self.epochs.renew_stepped(copy, repaired);
         self.repairs += u64::from(repaired);
         self.history.push_reserved(Event::Step(copy));
         Stepped::Ran { repaired }
+    }
+
+    /// The copy's epoch: how many events have renewed it. The copy is there.
+    pub fn epoch(&self, copy: u8) -> u64
+        requires { copy < length self.now.runs }
+        ensures { result ≡ epoch_of self.now copy }
+    {
+        let _ = self.stack.spare();
+        self.epochs.of(copy)
+    }
+
+    /// The copy's due tick, to be executed away from the mirror and then committed. The copy is there. Where it stands at its
+    /// limit the answer is Idle; else, where more than 64 commands are due at its clock, Wide, with how many; else the draft,
+    /// which fits, once it is run, what the mirror is now and whatever it becomes.
+    pub fn draft(&self, copy: u8) -> Drafted<G>
+        requires { copy < length self.now.runs }
+        ensures answer { result ≡ drafted G.rules self.now copy }
+        ensures fits { IfDraft result (λ d. FitsReady G.rules self.now (ready_of G.rules d)) }
+    {
+        let clock = self.stack.clock(copy);
+        if clock >= self.limit(copy) {
+            return Drafted::Idle;
+        }
+        let commands = self.stack.due_len(clock);
+        if commands > MOST_DRAFTED as u32 {
+            return Drafted::Wide { commands };
+        }
+        Drafted::Draft(Draft::of(
+            copy,
+            self.epochs.of(copy),
+            clock,
+            self.stack.world(copy).twin(),
+            self.stack.due(clock),
+        ))
+    }
+
+    /// Makes the step that a ready tick stands for, which fits the mirror, without executing the tick again. Where the copy's
+    /// epoch is no longer that of the tick nothing changes, and the answer is Stale, with both. Else the answer is Ran, with how
+    /// many copies were repaired.
+    pub fn commit(&mut self, r: &Ready<G>) -> Committed
+        requires { FitsReady G.rules self.old r.now }
+        ensures state { self.new ≡ committed_to self.old r.now }
+        ensures answer { result ≡ committed self.old r.now }
+    {
+        let copy = r.copy();
+        let now = self.epochs.of(copy);
+        if r.epoch() != now {
+            return Committed::Stale {
+                held: r.epoch(),
+                now,
+            };
+        }
+        let repaired = self.stack.commit_tick(copy, r.world());
+        self.epochs.renew_stepped(copy, repaired);
+        self.repairs += u64::from(repaired);
+        self.history.push_reserved(Event::Step(copy));
+        Committed::Ran { repaired }
     }
 
     /// Makes the event, whichever it is, as `tick`, `arrive`, `step` and `restagger` do.

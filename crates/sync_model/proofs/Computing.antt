@@ -11,8 +11,9 @@ use Rattle.sync_model.specs.Settle.{settle, settle_one, which_repaired, is_repai
 use Rattle.sync_model.specs.Change.{next, said, after, answers, with_late, with_tick}
 use Rattle.sync_model.specs.Turns.{steps_from, turns_of, drain_within}
 use Rattle.sync_model.specs.History.{repairs_in}
+use Rattle.sync_model.specs.Drafts.{renewals}
 
 -- named on a line of its own, this opens them all
 unfoldable pub computing : ℕ
-unfolding beats same_item same_command commands_of same_name key_lt in_key_order placed times ticks last_of limit_at step_limit settle settle_one which_repaired is_repaired next said after answers with_late with_tick steps_from turns_of drain_within repairs_in
+unfolding beats same_item same_command commands_of same_name key_lt in_key_order placed times ticks last_of limit_at step_limit settle settle_one which_repaired is_repaired next said after answers with_late with_tick steps_from turns_of drain_within repairs_in renewals
 computing = 0

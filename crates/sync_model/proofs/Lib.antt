@@ -17,3 +17,5 @@ pub mod Rebuilt
 mod Replies
 mod Computing
 mod Alone
+pub mod Epochs
+pub mod Renewals

@@ -190,7 +190,7 @@ never_early-late x run early =
     refl
 
 -- a command that is due later doesn't change an ordered part
-due_at-later : (accepted : List Command) (x : Command) (t : ℕ) → t < x.time → due_at (accepted ++ x ∷ []) t ≡ due_at accepted t
+pub due_at-later : (accepted : List Command) (x : Command) (t : ℕ) → t < x.time → due_at (accepted ++ x ∷ []) t ≡ due_at accepted t
 due_at-later accepted x t later =
     ap in_key_order (filter-append (λ (y : Command). y.time == t) accepted (x ∷ [])
     ∙ rw (ne_eqb x.time t (λ e. omega arith)) (append-nil (filter (λ (y : Command). y.time == t) accepted)))

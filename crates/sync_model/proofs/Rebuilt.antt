@@ -188,7 +188,7 @@ all-at P (x ∷ xs) zero d h there = h.0
 all-at P (x ∷ xs) (suc i) d h there = all-at P xs i d h.1 (omega arith)
 
 -- a run behind is a front of the first
-front-at : (a : List Item) (rest : List (List Item)) (i : ℕ) → IsChained (a ∷ rest) → i < length rest → IsPrefix (get_or rest i []) a
+pub front-at : (a : List Item) (rest : List (List Item)) (i : ℕ) → IsChained (a ∷ rest) → i < length rest → IsPrefix (get_or rest i []) a
 unfolding IsChained IsAhead
 front-at a [] i h there = absurd (omega arith)
 front-at a (r ∷ rs) zero h there = h.0

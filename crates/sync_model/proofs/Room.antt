@@ -69,7 +69,7 @@ same-first : {W : Type 0} (s t : MirrorState W) → SameParts s t → first_stat
 same-first s t same = λ i. opening_state (same.opening i) (same.length i) (same.plans i) 0 0
 
 -- the first state of a mirror stays, and its history gains the event where it changes the state
-first-next : {W : Type 0} (s : MirrorState W) (e : Event) → first_state (next s e) ≡ first_state s
+pub first-next : {W : Type 0} (s : MirrorState W) (e : Event) → first_state (next s e) ≡ first_state s
 first-next s e = same-first s (next s e) (next-fixed s e)
 
 -- what holds of the grown history and the changed state, and of the state as it is, holds of the next

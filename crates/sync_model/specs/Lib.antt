@@ -9,6 +9,7 @@ pub mod Turns
 pub mod History
 pub mod Legal
 pub mod Consistent
+pub mod Drafts
 pub mod Repairs
 pub mod Worked
 pub mod Pinned

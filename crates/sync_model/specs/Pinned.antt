@@ -17,6 +17,11 @@ use Rattle.sync_model.specs.Staggered.{IsChained, IsComplete, IsNeverEarly, grea
 use Rattle.sync_model.specs.WellFormed.{ArePlans}
 use Rattle.sync_model.specs.History.{EachChanges}
 use Rattle.sync_model.specs.Legal.{NamesWhatIsThere}
+use Rattle.game_trait.specs.Game.{Rules}
+use Rattle.game_trait.specs.Run.{world_of}
+use Rattle.sync_model.specs.State.{copy_clock, step_limit}
+use Rattle.sync_model.specs.Change.{with_tick, after}
+use Rattle.sync_model.specs.Drafts.{run_of, epoch, ReadyTick, IsDueTick}
 use Rattle.sync_model.specs.Worked.{go_first, go_at, beat}
 
 -- all of some facts hold
@@ -177,3 +182,27 @@ arrives_twice = replicate 2 (Arrive (go_at 1))
 -- both copies make a step, and then one that isn't there
 abbrev pub step_of_a_third : List Event
 step_of_a_third = Tick ∷ Step 0 ∷ Tick ∷ Step 1 ∷ Step 2 ∷ []
+
+-- ---- ready ticks
+
+abbrev pub parts_of_due_tick : {W : Type 0} → Rules W → MirrorState W → ReadyTick W → List (Type 0)
+parts_of_due_tick rules s r =
+    (r.clock ≡ copy_clock s.runs r.copy)
+    ∷ (copy_clock s.runs r.copy < step_limit s r.copy)
+    ∷ (r.world ≡ world_of rules s.opening (with_tick s.accepted (run_of s r.copy)))
+    ∷ []
+
+abbrev pub parts_of_ready : {W : Type 0} → Rules W → MirrorState W → ReadyTick W → List (Type 0)
+parts_of_ready rules s r =
+    (r.copy < length s.runs) ∷ (r.epoch ≤ epoch s r.copy) ∷ (r.epoch ≡ epoch s r.copy → IsDueTick rules s r) ∷ []
+
+-- a game whose world counts the beats
+abbrev pub counting : Rules ℕ
+counting = record { apply = λ beats x. beats; beat = λ beats. beats + 1 }
+
+-- a match of that game after some events
+abbrev pub counted_after : List Event → MirrorState ℕ
+counted_after es = after (small_match 0) es
+
+abbrev pub ready : ℕ → ℕ → ℕ → ℕ → ReadyTick ℕ
+ready copy epoch clock world = record { copy = copy; epoch = epoch; clock = clock; world = world }

@@ -1,6 +1,7 @@
 //! The laws of the model. Each is the contract of a function without parameters that does nothing.
 
 mod clocks;
+mod drafts;
 mod draining;
 mod history;
 mod room;
@@ -8,6 +9,10 @@ mod settling;
 mod staggered;
 
 pub use clocks::{clock_counts, other_events_move_no_copy, step_moves_its_copy};
+pub use drafts::{
+    arrival_renews, draft_fits, epoch_bounded, epoch_counts, epoch_opens, epoch_rises,
+    ready_fits_kept, renews_exactly, restagger_renews, step_renews, tick_renews,
+};
 pub use draining::{
     drained_in_order, drained_is_tested, drained_worlds, draining_delivers_nothing, draining_ends,
     draining_is_turns, played_in_order,

@@ -12,8 +12,10 @@ ghost use Rattle.sync_model.specs.Staggered.{IsStaggered};
 ghost use Rattle.sync_model.specs.WellFormed.{ArePlans, IsWellFormed};
 ghost use Rattle.sync_model.specs.Turns.{IsDrained};
 ghost use Rattle.sync_model.specs.Legal.{IsLegal};
+ghost use Rattle.game_trait.specs.Game.{Rules};
+ghost use Rattle.sync_model.specs.Drafts.{ReadyTick, IsDueTick, FitsReady};
 ghost use Rattle.sync_model.specs.Worked.{go_at, one_copy, one_late};
-ghost use Rattle.sync_model.specs.Pinned.{AllHold, AllHoldBut, parts_of_staggered, small_match, unchained, lacking, doubled, strange, hasty, last_too_late, last_unsorted, too_early, past_match, past_clock, past_end, past_delay, third_copy, same_names, never_due, wrong_bound, all_done, last_one_short, first_one_short, third_plan, parts_of_schedule, schedule, nine_delays, parts_of_plans, parts_of_well_formed, parts_of_legal, arrives_twice, step_of_a_third};
+ghost use Rattle.sync_model.specs.Pinned.{AllHold, AllHoldBut, parts_of_staggered, small_match, unchained, lacking, doubled, strange, hasty, last_too_late, last_unsorted, too_early, past_match, past_clock, past_end, past_delay, third_copy, same_names, never_due, wrong_bound, all_done, last_one_short, first_one_short, third_plan, parts_of_schedule, schedule, nine_delays, parts_of_plans, parts_of_well_formed, parts_of_legal, arrives_twice, step_of_a_third, parts_of_due_tick, parts_of_ready, counting, counted_after, ready};
 
 use game_trait::Game;
 
@@ -139,4 +141,31 @@ pub fn fits_parts<G: Game>()
     ensures no_copy { (o : G) → Fits (small_match o) (Step 2) → ⊥ }
     ensures last_plan { (o : G) → Fits (small_match o) (Restagger 1) }
     ensures no_plan { (o : G) → Fits (small_match o) (Restagger 2) → ⊥ }
+{}
+
+/// The due tick of a copy, part by part. After one tick copy 0 may run tick 0, copy 1 may not.
+pub fn due_tick_parts<G: Game>()
+    ensures parts { (rules : Rules G) (s : MirrorState G) (r : ReadyTick G)
+        → IsDueTick rules s r ↔ AllHold (parts_of_due_tick rules s r) }
+    ensures due { IsDueTick counting (counted_after (Tick ∷ [])) (ready 0 0 0 1) }
+    ensures other_clock { (IsDueTick counting (counted_after (Tick ∷ [])) (ready 0 0 1 1) → ⊥)
+        × AllHoldBut 0 (parts_of_due_tick counting (counted_after (Tick ∷ [])) (ready 0 0 1 1)) }
+    ensures at_limit { (IsDueTick counting (counted_after (Tick ∷ [])) (ready 1 0 0 1) → ⊥)
+        × AllHoldBut 1 (parts_of_due_tick counting (counted_after (Tick ∷ [])) (ready 1 0 0 1)) }
+    ensures other_world { (IsDueTick counting (counted_after (Tick ∷ [])) (ready 0 0 0 2) → ⊥)
+        × AllHoldBut 2 (parts_of_due_tick counting (counted_after (Tick ∷ [])) (ready 0 0 0 2)) }
+{}
+
+/// A ready tick that fits, part by part. One of an epoch that is over fits, whatever it is.
+pub fn ready_parts<G: Game>()
+    ensures parts { (rules : Rules G) (s : MirrorState G) (r : ReadyTick G)
+        → FitsReady rules s r ↔ AllHold (parts_of_ready rules s r) }
+    ensures due { FitsReady counting (counted_after (Tick ∷ [])) (ready 0 0 0 1) }
+    ensures over { FitsReady counting (counted_after (Tick ∷ Step 0 ∷ [])) (ready 0 0 5 7) }
+    ensures third_copy { (FitsReady counting (counted_after (Restagger 0 ∷ [])) (ready 2 0 0 1) → ⊥)
+        × AllHoldBut 0 (parts_of_ready counting (counted_after (Restagger 0 ∷ [])) (ready 2 0 0 1)) }
+    ensures later_epoch { (FitsReady counting (counted_after (Tick ∷ [])) (ready 0 1 0 1) → ⊥)
+        × AllHoldBut 1 (parts_of_ready counting (counted_after (Tick ∷ [])) (ready 0 1 0 1)) }
+    ensures not_due { (FitsReady counting (counted_after (Tick ∷ [])) (ready 0 0 0 2) → ⊥)
+        × AllHoldBut 2 (parts_of_ready counting (counted_after (Tick ∷ [])) (ready 0 0 0 2)) }
 {}

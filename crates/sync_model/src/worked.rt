@@ -1,6 +1,6 @@
 //! The worked runs: what some lists of events lead to, computed.
 
-ghost use Rattle.std.specs.Prelude.{◌≡◌, List, [], ◌∷◌, ◌++◌, replicate};
+ghost use Rattle.std.specs.Prelude.{◌≡◌, List, [], ◌∷◌, ◌++◌, map, replicate};
 ghost use Rattle.game_trait.specs.declared.command.Item.TheVariants.{Cmd, Beat};
 ghost use Rattle.game_trait.specs.declared.event.Event.TheVariants.{Tick, Arrive, Step, Restagger};
 ghost use Rattle.game_trait.specs.declared.event.Reply.TheVariants.{Tick as ToTick, Arrive as ToArrive, Step as ToStep, Restaggered};
@@ -9,6 +9,7 @@ ghost use Rattle.game_trait.specs.declared.event.Arrived.TheVariants.{Taken, Rep
 ghost use Rattle.game_trait.specs.declared.event.Stepped.TheVariants.{Ran, Idle};
 ghost use Rattle.sync_model.specs.Change.{after};
 ghost use Rattle.sync_model.specs.Turns.{turn_events, turns_of, drain};
+ghost use Rattle.sync_model.specs.Drafts.{epoch};
 ghost use Rattle.sync_model.specs.Worked.{go_named, go_first, go_at, go_next, one_copy, two_copies, one_tick, three_copies, closer_plan, wider_plan, one_late, one_in_time, late_after_three, late_after_five, both_late, level, level_late, side_by_side, opposite, forward, back, back_late, answer_after, answers_after, runs_after, Outcome, outcome, beat, run_with, run_both, run_tied};
 
 use game_trait::Game;
@@ -297,4 +298,40 @@ pub fn restagger_back<G: Game>()
           repairs = 3;
           runs = replicate 3 (run_with (go_at 1) 1 8);
         } }
+{}
+
+/// After one tick the copy's epoch is 0, and a step of it makes it 1: what was drafted before is stale.
+pub fn draft_made_stale_by_a_step<G: Game>()
+    ensures before { (o : G) → epoch (after (one_copy o) (Tick ∷ [])) 0 ≡ 0 }
+    ensures stepped { (o : G) → epoch (after (one_copy o) (Tick ∷ Step 0 ∷ [])) 0 ≡ 1 }
+{}
+
+/// A command that is due later leaves the epoch: what was drafted before still fits.
+pub fn draft_survives_an_early_arrival<G: Game>()
+    ensures { (o : G) → epoch (after (one_copy o) (Tick ∷ Arrive (go_at 2) ∷ [])) 0 ≡ 0 }
+{}
+
+/// After three ticks and two steps the copy's clock is 2, and so is its epoch. The command of tick 2 isn't late, but is due
+/// at the tick at which the copy stands: the epoch is 3. A second arrival of it is a repeat, and leaves that.
+pub fn draft_made_stale_by_a_late_arrival<G: Game>()
+    ensures before { (o : G)
+        → epoch (after (one_copy o) (replicate 3 Tick ++ replicate 2 (Step 0))) 0 ≡ 2 }
+    ensures arrived { (o : G)
+        → epoch (after (one_copy o) (replicate 3 Tick ++ replicate 2 (Step 0) ++ Arrive (go_at 2) ∷ [])) 0
+        ≡ 3 }
+    ensures again { (o : G)
+        → epoch (after (one_copy o) (replicate 3 Tick ++ replicate 2 (Step 0) ++ replicate 2 (Arrive (go_at 2)))) 0
+        ≡ 3 }
+{}
+
+/// Copy 1 runs tick 1, which repairs copy 0 and renews both; copy 2 isn't renewed. A change of the plan renews all.
+pub fn drafts_made_stale_by_a_repair<G: Game>()
+    ensures before { (o : G)
+        → map (epoch (after (three_copies o) late_after_three)) (0 ∷ 1 ∷ 2 ∷ []) ≡ 4 ∷ 2 ∷ 0 ∷ [] }
+    ensures repaired { (o : G)
+        → map (epoch (after (three_copies o) (late_after_three ++ Tick ∷ Step 1 ∷ []))) (0 ∷ 1 ∷ 2 ∷ [])
+        ≡ 5 ∷ 3 ∷ 0 ∷ [] }
+    ensures restaggered { (o : G)
+        → map (epoch (after (three_copies o) (late_after_three ++ Restagger 0 ∷ []))) (0 ∷ 1 ∷ 2 ∷ [])
+        ≡ 5 ∷ 3 ∷ 1 ∷ [] }
 {}

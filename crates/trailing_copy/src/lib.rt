@@ -3,6 +3,7 @@
 #![tactic(auto)]
 
 mod clocks;
+mod due;
 mod repairs;
 mod stack;
 

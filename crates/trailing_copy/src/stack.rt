@@ -5,13 +5,16 @@ ghost use Rattle.std.specs.List.{list_any};
 ghost use Rattle.game_trait.specs.declared.limits.TheConstants.{LONGEST_MATCH, MOST_COPIES, MOST_ROOM};
 ghost use Rattle.game_trait.specs.Run.{world_of};
 ghost use Rattle.game_trait.specs.Keys.{same_name};
+ghost use Rattle.game_trait.specs.Ordered.{due_at};
 ghost use Rattle.sync_model.specs.Settle.{begins_with, settle, repaired};
 ghost use Rattle.sync_model.specs.Change.{with_tick, proposed_by_arrival, proposed_by_step};
 ghost use Rattle.sync_model.specs.State.{copy_clock, last_clock};
 ghost use Rattle.sync_model.specs.Repairs.{is_late_at, IsLastLate};
 
 use crate::clocks::count_above;
+use crate::due::due_of;
 use crate::repairs::{apply_to_each, bring_up, repair_ahead};
+use arrayvec::ArrayVec;
 use divergence_check::diverges;
 use executed_list::Segments;
 use game_trait::{Command, Game, Item, Tick};
@@ -334,6 +337,23 @@ impl<G: Game> CopyStack<G> {
         ensures { result.now ≡ self.now.accepted }
     {
         self.list.all()
+    }
+
+    /// How many of the accepted commands are due at a tick of the match.
+    pub fn due_len(&self, t: Tick) -> u32
+        requires { t < self.now.ticks }
+        ensures { result ≡ length (due_at self.now.accepted t) }
+    {
+        let _ = self.run.len();
+        self.list.start(t + 1) - self.list.start(t)
+    }
+
+    /// The accepted commands that are due at a tick, in key order. They are no more than the list holds.
+    pub fn due<const N: usize>(&self, t: Tick) -> ArrayVec<Command, N>
+        requires { length (due_at self.now.accepted t) ≤ N }
+        ensures { result.items ≡ due_at self.now.accepted t }
+    {
+        due_of(&self.list, t)
     }
 
     /// The copy's clock: how many ticks it has run. The copy is there.

@@ -5,7 +5,7 @@ use Rattle.game_trait.specs.declared.event.Reply.TheVariants.{Arrive as ToArrive
 use Rattle.game_trait.specs.declared.event.Arrived.TheVariants.{Late}
 use Rattle.mirror_core.proofs.Answered.{arrive_repeat, arrive_late, arrive_taken}
 use Rattle.mirror_core.proofs.Calls.{late-at, on-time, has-push}
-use Rattle.mirror_core.proofs.Kept.{kept_away, kept_taken}
+use Rattle.mirror_core.proofs.Kept.{kept_away, kept_taken, small-numbers}
 use Rattle.mirror_core.proofs.mirror.Mirror.arrive.Goals as goal
 
 pub returns-then-contains-clause-state : goal.returns-then-contains-clause-state
@@ -51,6 +51,12 @@ returns-then-x-bound-clause-answer g c =
     rw (← c.self.view_is)
     ((arrive_late _ x new (late-at c.self.invariant x c.last_clock-bound.result bound c.if-x-bound.true)).1 ∙ ap (λ (n : ℕ). ToArrive (Late n)) (sym bound))
 
+pub renew_due-requires-clause-as_many : goal.renew_due-requires-clause-as_many
+renew_due-requires-clause-as_many g c = c.self.invariant.epochs.as_many
+
+pub renew_due-requires-clause-small : goal.renew_due-requires-clause-small
+renew_due-requires-clause-small g c = small-numbers c.self.invariant
+
 pub accept-repaired-requires-clause-new_name : goal.accept-repaired-requires-clause-new_name
 unfolding same_name
 accept-repaired-requires-clause-new_name g c =
@@ -66,8 +72,8 @@ invariant_of-self-2 g c =
     let within = rw (← c.self.view_is) at c.requires.within_match in
     let spare = rw (← c.self.view_is) at c.requires.room in
     rw (c.accept-repaired.ensures.state, c.push_reserved.ensures.items, c.push_reserved.ensures.capacity)
-    (kept_taken c.self.invariant x c.from.result _ _ within spare new (on-time c.self.invariant x c.last_clock-bound.result bound c.if-x-bound.false) (c.from.ensures ∙ c.accept-repaired.ensures.repaired)
-    (λ from number. c.in-Ok.ensures.updates.0 (from, number) ∙ rw (c.self.invariant.names from number) (sym (has-push c.self.inside.stack.accepted x from number))) c.insert.ensures.spare)
+    (kept_taken c.self.invariant x c.from.result _ _ _ within spare new (on-time c.self.invariant x c.last_clock-bound.result bound c.if-x-bound.false) (c.from.ensures ∙ c.accept-repaired.ensures.repaired)
+    (λ from number. c.in-Ok.ensures.updates.0 (from, number) ∙ rw (c.self.invariant.names from number) (sym (has-push c.self.inside.stack.accepted x from number))) c.insert.ensures.spare c.renew_due.ensures)
 
 pub returns-clause-state : goal.returns-clause-state
 unfolding same_name

@@ -15,7 +15,7 @@ invariant_of-result g c =
     let copies : c.copies-copies.result ≡ copies_of_first c.args.plans.now =
     c.copies-copies.ensures.copies ∙ ap (λ (p : Schedule). length p.delays) c.index-plans-0-2.is ∙ first-copies c.args.plans.now _ c.requires.some_plan
     in
-    rw (c.in_ok-new.ensures, c.in_ok-lists.ensures.plans, empty.1, empty.2, room.1, room.2, ticks, copies, c.greatest.ensures.greatest)
+    rw (c.in_ok-new.ensures, c.in_ok-new-2.ensures, c.in_ok-lists.ensures.plans, empty.1, empty.2, room.1, room.2, ticks, copies, c.greatest.ensures.greatest)
     (kept_opened c.args.opening.now c.args.plans.now c.args.room c.args.restaggers _ _ c.requires.some_plan c.requires.few_plans c.greatest.ensures.schedules c.requires.equal_ticks c.requires.equal_copies c.requires.room c.requires.restaggers room.0
     (λ from number. rw empty.0 refl))
 

@@ -1,7 +1,8 @@
-use Rattle.std.proofs.Common.{◌∙◌, sym, arith}
+use Rattle.std.proofs.Common.{◌∙◌, sym, eqb, ltb, ◌||◌, arith}
 use Rattle.mirror_core.proofs.Answered.{step_idle, step_ran}
 use Rattle.mirror_core.proofs.Calls.{idle-at, runs-on, below-end, behind-ahead}
-use Rattle.mirror_core.proofs.Kept.{kept_ran, note-ran}
+use Rattle.mirror_core.proofs.Kept.{kept_ran, note-ran, small-numbers}
+use Rattle.mirror_core.proofs.Renewed.{renewed-as}
 use Rattle.mirror_core.proofs.mirror.Mirror.step.Goals as goal
 
 pub returns-then-clock-limit-clause-state : goal.returns-then-clock-limit-clause-state
@@ -24,6 +25,9 @@ run_tick-repaired-requires-clause-behind g c =
     let more = runs-on c.self.invariant c.args.copy c.clock.result c.limit.result c.clock.ensures (rw (← c.self.view_is) at c.limit.ensures) c.if-clock-limit.false in
     behind-ahead c.self.invariant c.args.copy more
 
+pub renew_stepped-requires : goal.renew_stepped-requires
+renew_stepped-requires g c = small-numbers c.self.invariant
+
 pub push_reserved-requires : goal.push_reserved-requires
 push_reserved-requires g c =
     let there = rw (← c.self.view_is) at c.requires in
@@ -37,7 +41,8 @@ invariant_of-self g c =
     let there = rw (← c.self.view_is) at c.requires in
     let more = runs-on c.self.invariant c.args.copy c.clock.result c.limit.result c.clock.ensures (rw (← c.self.view_is) at c.limit.ensures) c.if-clock-limit.false in
     rw (c.run_tick-repaired.ensures.state, c.push_reserved.ensures.items, c.push_reserved.ensures.capacity)
-    (kept_ran c.self.invariant c.args.copy c.from.result there more (c.from.ensures ∙ c.run_tick-repaired.ensures.repaired))
+    (kept_ran c.self.invariant c.args.copy c.from.result _ there more (c.from.ensures ∙ c.run_tick-repaired.ensures.repaired)
+    (renewed-as (λ i k. eqb i c.args.copy || ltb i k) _ _ _ _ (sym c.from.ensures) c.renew_stepped.ensures))
 
 pub returns-clause-state : goal.returns-clause-state
 returns-clause-state g c =
