@@ -1,5 +1,5 @@
 -- From the machine to the contract.
-use Rattle.std.proofs.Common.{◌≡◌, ℕ, ◌+◌, ◌≤◌, ◌⊎◌, List, [], ◌∷◌, ◌++◌, map, length, refl, ap, sym, ◌∙◌, subst, inl, inr, arith}
+use Rattle.std.proofs.Common.{◌≡◌, ℕ, ◌+◌, ◌≤◌, ◌⊎◌, List, [], ◌∷◌, ◌++◌, map, length, refl, ap, sym, ◌∙◌, subst, inl, inr, arith, append-nil}
 use Rattle.std.specs.List.{AllByRecursion, AllZip}
 use Rattle.game_trait.specs.declared.command.Command.{Command}
 use Rattle.game_trait.specs.Count.{times}
@@ -92,10 +92,6 @@ no-links [] (y ∷ ys) [] heard e = absurd heard
 no-links [] (y ∷ ys) (h ∷ hs) heard e = absurd heard
 no-links (x ∷ xs) ys hs heard e = absurd cc
 
-append-none : {X : Type 0} (l : List X) → l ++ [] ≡ l
-append-none [] = refl
-append-none {X} (x ∷ xs) = ap (λ (m : List X). x ∷ m) (append-none xs)
-
 bound-got : (job : FeederJob) (clock_s clock_e : ℕ) (h : Hearing) → clock_e ≡ clock_s → Hears h → IsBound (task_of job) clock_s h → (clock_e ≤ last_mark h.got + job.pace) ⊎ (last_mark h.got ≡ job.stagger.length)
 bound-got job clock_s clock_e h same hears (inl e) = inl (let a = hears.kept in omega arith)
 bound-got job clock_s clock_e h same hears (inr e) = inr (let a = hears.kept in omega arith)
@@ -120,7 +116,7 @@ feeder-ends job end before after e =
       least = (let a = f.sends.least in let b = e.clock in let c = e.marked in omega arith);
       most = (let a = f.sends.most in let b = e.clock in let c = e.marked in omega arith);
       arrive = subst (λ (l : List Message). AllByRecursion (λ x. ArrivesAt s.asked x x.time) (commands_in l)) sent f.issues.arrive;
-      pieces = f.turns.pieces ∙ ap (λ (l : List Asked). joined s.turns ++ l) e.between.here ∙ append-none (joined s.turns);
+      pieces = f.turns.pieces ∙ ap (λ (l : List Asked). joined s.turns ++ l) e.between.here ∙ append-nil (joined s.turns);
       count = e.turns;
       feeding = f.turns.feeding;
       single = f.turns.single;

@@ -1,5 +1,5 @@
 -- A feeder's start and its end.
-use Rattle.std.proofs.Common.{◌≡◌, ℕ, ◌+◌, ◌*◌, ◌<◌, ◌≤◌, ◌⊎◌, List, [], ◌∷◌, ◌++◌, map, length, refl, ap, sym, ◌∙◌, subst, arith}
+use Rattle.std.proofs.Common.{◌≡◌, ℕ, ◌+◌, ◌*◌, ◌<◌, ◌≤◌, ◌⊎◌, List, [], ◌∷◌, ◌++◌, map, length, refl, ap, sym, ◌∙◌, subst, arith, append-nil}
 use Rattle.std.specs.List.{AllByRecursion, AllZip}
 use Rattle.game_trait.specs.declared.command.Command.{Command}
 use Rattle.link_ring.specs.declared.send.LinkSend.{LinkSend}
@@ -22,10 +22,6 @@ use Rattle.copy_workers.proofs.TurnEnds.{IsFresh, fed-start, between-start}
 fresh : LinkReceive → Hearing
 fresh r = record { promised = length (waiting_of r); kept = 0; got = []; risen = 0; tries = 0; known = length (waiting_of r) }
 
-append-none : {X : Type 0} (l : List X) → l ++ [] ≡ l
-append-none [] = refl
-append-none {X} (x ∷ xs) = ap (λ (m : List X). x ∷ m) (append-none xs)
-
 all-fresh : (rs : List LinkReceive) → AllByRecursion IsFresh (map fresh rs)
 unfolding fresh
 all-fresh [] = tt
@@ -35,7 +31,7 @@ heard-fresh : (rs : List LinkReceive) → AllHeard rs rs (map fresh rs)
 unfolding AllHeard fresh
 heard-fresh [] = tt
 heard-fresh (r ∷ rs) =
-    (record { received = sym (append-none (received_of r)); misses = omega arith; same = ((refl, refl, refl, refl), refl); known = refl; promised = refl }, heard-fresh rs)
+    (record { received = sym (append-nil (received_of r)); misses = omega arith; same = ((refl, refl, refl, refl), refl); known = refl; promised = refl }, heard-fresh rs)
 
 kept-fresh : (ms : List ℕ) (rs : List LinkReceive) → AllByRecursion (λ m. m ≡ 0) ms → length rs ≤ length ms → AllKept ms (map fresh rs)
 unfolding AllKept fresh
@@ -71,7 +67,7 @@ rests-start c f calls grows plan sends receives limit delay pace foreign marks s
         delay = delay;
         pace = pace;
         foreign = foreign;
-        asks = sym (append-none c.asked);
+        asks = sym (append-nil c.asked);
         taken = taken;
         clock = clock;
         marked = marked;

@@ -14,3 +14,4 @@ pub mod TurnStands
 pub mod FeederStarts
 pub mod Contracts
 pub mod Races
+pub mod Copying

@@ -6,3 +6,5 @@ pub mod Sending
 pub mod Refining
 pub mod Standing
 pub mod Fed
+pub mod Trail
+pub mod Copied
