@@ -32,6 +32,7 @@ fn run_turn<G: Game, P: DraftPost<G>>(post: &mut P, copy: u8) -> Tick
         (P.trail post.old) (P.trail post.new) }
     ensures calls { P.calls post.old ≤ P.calls post.new + 2 }
     ensures takes { (e : AnEvent) → P.takes post.old e → P.takes post.new e }
+    ensures same { (p : P) → P.same p post.old → P.same p post.new }
 {
     match post.draft(copy) {
         Drafted::Idle => 0,
@@ -50,8 +51,9 @@ fn run_turn<G: Game, P: DraftPost<G>>(post: &mut P, copy: u8) -> Tick
 pub fn run_copy<G: Game, P: DraftPost<G>, Q: Gate>(post: &mut P, gate: &Q, job: CopyJob) -> CopyEnd
     requires takes { P.takes post.old (Step job.copy) }
     requires calls { 2 * job.budget ≤ P.calls post.old }
-    ensures { CopyEnds job result (P.asked post.old) (P.asked post.new)
+    ensures ends { CopyEnds job result (P.asked post.old) (P.asked post.new)
         (P.trail post.old) (P.trail post.new) }
+    ensures same { (p : P) → P.same p post.old → P.same p post.new }
 {
     let mut end = CopyEnd { ran: 0, turns: 0 };
     'turns: while end.ran < job.length && end.turns < job.budget {

@@ -27,7 +27,8 @@ pub trait DraftPost<G: Game>: Post {
         ensures asked { Self.asked self.new ≡ Self.asked self.old }
         ensures calls { Self.calls self.new + 1 ≡ Self.calls self.old }
         ensures grows { Self.grows self.new ≡ Self.grows self.old }
-        ensures takes { (e : AnEvent) → Self.takes self.old e → Self.takes self.new e };
+        ensures takes { (e : AnEvent) → Self.takes self.old e → Self.takes self.new e }
+        ensures same { (p : Self) → Self.same p self.old → Self.same p self.new };
 
     /// Gives back the draft that the last call answered, executed. Where it is still due, that counts as the copy's step,
     /// asked and answered. It uses up a call. It may wait.
@@ -38,5 +39,6 @@ pub trait DraftPost<G: Game>: Post {
         ensures asked { Self.asked self.new ≡ Self.asked self.old ++ commit_asked r.copy result }
         ensures calls { Self.calls self.new + 1 ≡ Self.calls self.old }
         ensures grows { Self.grows self.new ≡ Self.grows self.old }
-        ensures takes { (e : AnEvent) → Self.takes self.old e → Self.takes self.new e };
+        ensures takes { (e : AnEvent) → Self.takes self.old e → Self.takes self.new e }
+        ensures same { (p : Self) → Self.same p self.old → Self.same p self.new };
 }

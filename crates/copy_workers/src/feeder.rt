@@ -54,6 +54,7 @@ impl Feeder {
             → InTurn c self.new (P.asked post.new) (P.calls post.new) (P.grows post.new) 0 0 }
         ensures issued { IsIssued self.new }
         ensures takes { (e : Event) → P.takes post.old e → P.takes post.new e }
+        ensures same { (p : P) → P.same p post.old → P.same p post.new }
         ensures bounds { self.new.bounds ≡ self.old.bounds }
         ensures turns { self.new.turns ≡ self.old.turns }
     {
@@ -84,6 +85,7 @@ impl Feeder {
             → InTurn c self.new (P.asked post.new) (P.calls post.new) (P.grows post.new) 7 1 }
         ensures issued { IsIssued self.old → IsIssued self.new }
         ensures takes { (e : Event) → P.takes post.old e → P.takes post.new e }
+        ensures same { (p : P) → P.same p post.old → P.same p post.new }
         ensures bounds { self.new.bounds ≡ self.old.bounds }
         ensures turns { self.new.turns ≡ self.old.turns }
     {
@@ -139,6 +141,7 @@ impl Feeder {
         ensures stands { (c : Start) → InTurn c self.old (P.asked post.old) (P.calls post.old) (P.grows post.old) 7 1
             → Rests c self.new (P.asked post.new) (P.calls post.new) (P.grows post.new) }
         ensures takes { (e : Event) → P.takes post.old e → P.takes post.new e }
+        ensures same { (p : P) → P.same p post.old → P.same p post.new }
         ensures bounds { self.new.bounds ≡ self.old.bounds }
         ensures turns { self.new.turns ≡ self.old.turns + 1 }
     {
@@ -166,6 +169,7 @@ impl Feeder {
         ensures stands { (c : Start) → Goes c self.old (P.asked post.old) (P.calls post.old) (P.grows post.old)
             → Rests c self.new (P.asked post.new) (P.calls post.new) (P.grows post.new) }
         ensures takes { (e : Event) → P.takes post.old e → P.takes post.new e }
+        ensures same { (p : P) → P.same p post.old → P.same p post.new }
         ensures bounds { self.new.bounds ≡ self.old.bounds }
         ensures turns { self.new.turns ≡ self.old.turns + 1 }
     {
@@ -223,7 +227,8 @@ pub fn run_feeder<P: Post, Q: Gate>(post: &mut P, gate: &Q, job: FeederJob) -> F
     requires takes { (e : Event) → IsFeedingBelow job.stagger.length e → P.takes post.old e }
     requires calls { 8 * job.budget + length job.plan.items ≤ P.calls post.old }
     requires grows { length job.plan.items + job.foreign ≤ P.grows post.old }
-    ensures { FeederEnds job result (P.asked post.old) (P.asked post.new) }
+    ensures ends { FeederEnds job result (P.asked post.old) (P.asked post.new) }
+    ensures same { (p : P) → P.same p post.old → P.same p post.new }
 {
     let FeederJob {
         mirror,

@@ -33,6 +33,7 @@ pub fn hear_one<P: Post>(
     ensures grows { P.grows post.new + taken.new ≡ P.grows post.old + taken.old }
     ensures within { taken.old ≤ foreign → taken.new ≤ foreign }
     ensures takes { (e : Event) → P.takes post.old e → P.takes post.new e }
+    ensures same { (p : P) → P.same p post.old → P.same p post.new }
 {
     match receive.receive() {
         None => {}
@@ -69,6 +70,7 @@ pub fn hear_all<P: Post>(
     ensures grows { P.grows post.new + result ≡ P.grows post.old + taken }
     ensures within { taken ≤ foreign → result ≤ foreign }
     ensures takes { (e : Event) → P.takes post.old e → P.takes post.new e }
+    ensures same { (p : P) → P.same p post.old → P.same p post.new }
 {
     let mut asked = taken;
     for i in 0..receives.len() {

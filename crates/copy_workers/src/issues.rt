@@ -26,6 +26,7 @@ pub fn issue_one<P: Post>(post: &mut P, sends: &mut [LinkSend], x: &Command, len
     ensures calls { P.calls post.new + 1 ≡ P.calls post.old }
     ensures grows { P.grows post.new + 1 ≡ P.grows post.old }
     ensures takes { (e : Event) → P.takes post.old e → P.takes post.new e }
+    ensures same { (p : P) → P.same p post.old → P.same p post.new }
     ensures sent { AllZip (IsSent (Cmd x.now ∷ [])) sends.old sends.new }
 {
     post.ask(&Event::Arrive(*x));
@@ -56,6 +57,7 @@ pub fn issue_tick<P: Post>(
     ensures calls { P.calls post.new + result ≡ P.calls post.old + issued }
     ensures grows { P.grows post.new + result ≡ P.grows post.old + issued }
     ensures takes { (e : Event) → P.takes post.old e → P.takes post.new e }
+    ensures same { (p : P) → P.same p post.old → P.same p post.new }
 {
     let mut next = issued;
     while next < plan.len() && plan[next].time == t {

@@ -50,6 +50,8 @@ pub trait Post {
     ghost grows: { Self → ℕ };
     /// The events that may be asked, which no call takes back.
     ghost takes: { Self → AnEvent → Type 0 };
+    /// Two values of one post: what tells it from other posts is the same. No call makes it another one.
+    ghost same: { Self → Self → Type 0 };
 
     /// Asks one event, and answers in its kind. It uses up a call, and an arrival one of the arrivals. It may wait.
     fn ask(&mut self, event: &Event) -> Reply
@@ -61,5 +63,6 @@ pub trait Post {
         ensures kind { IsOfKind event.now result }
         ensures calls { calls self.new + 1 ≡ calls self.old }
         ensures grows { grows self.new + cond (is_arrival event.now) 1 0 ≡ grows self.old }
-        ensures takes { (e : AnEvent) → takes self.old e → takes self.new e };
+        ensures takes { (e : AnEvent) → takes self.old e → takes self.new e }
+        ensures same { (p : Self) → same p self.old → same p self.new };
 }

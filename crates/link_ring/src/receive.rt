@@ -17,7 +17,7 @@ pub struct LinkReceive {
 
 impl LinkReceive {
     ghost use mathlib.Core.List.{IsPrefix};
-    ghost use Rattle.std.specs.Prelude.{◌≡◌, ◌+◌, ◌-◌, ◌^◌, min, [], ◌∷◌, ◌++◌, IfSome, IfNone};
+    ghost use Rattle.std.specs.Prelude.{◌≡◌, ◌+◌, ◌-◌, ◌^◌, min, [], ◌∷◌, ◌++◌, length, IfSome, IfNone};
     ghost use Rattle.link_ring.specs.Ends.{received_of, waiting_of, misses_of, SameReceive};
 
     pub(crate) fn new(consumer: Consumer<Message>) -> LinkReceive
@@ -49,6 +49,14 @@ impl LinkReceive {
                 None
             }
         }
+    }
+
+    /// How many messages are known to be on their way: those that `rest` has shown and `receive` hasn't given yet, and maybe
+    /// more.
+    pub fn known(&self) -> u32
+        ensures { result ≡ length (waiting_of self.now) }
+    {
+        self.consumer.cached_slots() as u32
     }
 
     /// How often `receive` saw nothing. At the greatest value it stays.

@@ -6,6 +6,7 @@ pub turns-init : goal.turns-init
 turns-init g c = record {
   works = works-start c.args.job _ _;
   takes = c.requires.takes;
+  same = λ p h. h;
   calls = (let a = c.requires.calls in omega arith);
 }
 
@@ -18,5 +19,6 @@ turns-preserved g c =
     record {
       works = works-more c.args.job c.turns.end c.run_turn.result _ _ _ _ _ _ v.works c.run_turn.ensures.turn c.turns-test.true c.if-end-job.true;
       takes = c.run_turn.ensures.takes _ v.takes;
+      same = λ p h. c.run_turn.ensures.same p (v.same p h);
       calls = (let a = v.calls in let b = c.run_turn.ensures.calls in omega arith);
     }

@@ -13,6 +13,7 @@ loop-i-init g c = record {
   grows = omega arith;
   within = λ few. few;
   takes = λ e t. t;
+  same = λ p h. h;
 }
 
 pub hear_one-requires-clause-misses : goal.hear_one-requires-clause-misses
@@ -32,4 +33,5 @@ loop-i-preserved g c = record {
   grows = (let a = c.hear_one.ensures.grows in let b = c.loop-i.invariant.grows in omega arith);
   within = λ few. c.hear_one.ensures.within (c.loop-i.invariant.within few);
   takes = λ e t. c.hear_one.ensures.takes e (c.loop-i.invariant.takes e t);
+  same = λ p h. c.hear_one.ensures.same p (c.loop-i.invariant.same p h);
 }

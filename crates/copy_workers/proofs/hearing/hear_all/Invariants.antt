@@ -18,4 +18,5 @@ invariant-loop-i g l = record {
   grows : g.P.Post.grows l.post + l.asked ≡ g.P.Post.grows l.fn.post + l.taken;
   within : l.taken ≤ l.foreign → l.asked ≤ l.foreign;
   takes : (e : Event) → g.P.Post.takes l.fn.post e → g.P.Post.takes l.post e;
+  same : (p : _) → g.P.Post.same p l.fn.post → g.P.Post.same p l.post;
 }

@@ -11,6 +11,7 @@ loop-next-init g c = record {
   calls = omega arith;
   grows = omega arith;
   takes = λ e t. t;
+  same = λ p h. h;
 }
 
 pub issue_one-requires-clause-room : goal.issue_one-requires-clause-room
@@ -25,6 +26,7 @@ loop-next-preserved g c = record {
   calls = omega arith;
   grows = omega arith;
   takes = λ e t. c.issue_one.ensures.takes e (c.loop-next.invariant.takes e t);
+  same = λ p h. c.issue_one.ensures.same p (c.loop-next.invariant.same p h);
 }
 
 pub send_all-requires : goal.send_all-requires
@@ -46,4 +48,5 @@ returns g c =
       calls = omega arith;
       grows = omega arith;
       takes = c.loop-next.invariant.takes;
+      same = c.loop-next.invariant.same;
     }
