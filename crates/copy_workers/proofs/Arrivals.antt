@@ -12,19 +12,24 @@ use Rattle.copy_workers.specs.Messages.{mark_after}
 use Rattle.copy_workers.specs.Asking.{IsFeeding, is_moved, arrival, moves, ticks_in, arrivals_of, ArrivesAt, ArrivesBy, AreArrivals}
 use Rattle.copy_workers.specs.Feeding.{InTime}
 
+-- what is counted of two lists, one after the other
 pub moves-append : (a b : List Asked) → moves (a ++ b) ≡ moves a + moves b
 moves-append a b = times-append _ a b
 
+-- the same of ticks
 pub ticks-append : (a b : List Asked) → ticks_in (a ++ b) ≡ ticks_in a + ticks_in b
 ticks-append a b = times-append _ a b
 
+-- the same of arrivals
 pub arrivals-append : (x : Command) (a b : List Asked) → arrivals_of x (a ++ b) ≡ arrivals_of x a + arrivals_of x b
 arrivals-append x a b = times-append _ a b
 
+-- what is counted of one
 pub one : {X : Type 0} (p : X → Bool) (x : X) → times p (x ∷ []) ≡ cond (p x) 1 0
 unfolding times
 one p x = omega arith
 
+-- an arrival stays where it is
 pub at-later : (asked more : List Asked) (x : Command) (clock : ℕ) → ArrivesAt asked x clock → ArrivesAt (asked ++ more) x clock
 at-later asked more x clock h =
     record {
@@ -35,6 +40,7 @@ at-later asked more x clock h =
       here = h.here;
     }
 
+-- and so it is early enough
 pub by-later : (asked more : List Asked) (x : Command) (clock : ℕ) → ArrivesBy asked x clock → ArrivesBy (asked ++ more) x clock
 by-later asked more x clock h =
     record {
@@ -45,18 +51,21 @@ by-later asked more x clock h =
       here = h.here;
     }
 
+-- and so are all
 pub in_time-later : (asked more : List Asked) (pace m : ℕ) (got : List Message) → InTime asked pace m got → InTime (asked ++ more) pace m got
 unfolding InTime
 in_time-later asked more pace m [] h = tt
 in_time-later asked more pace m (Cmd x ∷ got) h = (by-later asked more x (m + pace) h.0, in_time-later asked more pace m got h.1)
 in_time-later asked more pace m (Mark n ∷ got) h = in_time-later asked more pace n got h
 
+-- a mark asks for no arrival
 pub in_time-mark : (asked : List Asked) (pace m : ℕ) (got : List Message) (n : ℕ) → InTime asked pace m got → InTime asked pace m (got ++ Mark n ∷ [])
 unfolding InTime
 in_time-mark asked pace m [] n h = tt
 in_time-mark asked pace m (Cmd x ∷ got) n h = (h.0, in_time-mark asked pace m got n h.1)
 in_time-mark asked pace m (Mark k ∷ got) n h = in_time-mark asked pace k got n h
 
+-- a command that came last arrives by the last mark
 pub in_time-command :
     (asked : List Asked) (pace m : ℕ) (got : List Message) (x : Command)
     → InTime asked pace m got → ArrivesBy asked x (mark_after m got + pace) → InTime asked pace m (got ++ Cmd x ∷ [])
@@ -73,6 +82,7 @@ arrivals-moves [] (p ∷ ps) h = absurd h
 arrivals-moves (x ∷ xs) [] h = absurd h
 arrivals-moves (x ∷ xs) (p ∷ ps) h = rw (h.1) (omega (arith, arrivals-moves xs ps h.2))
 
+-- arrivals are no ticks
 pub arrivals-ticks : (xs : List Command) (pairs : List Asked) → AreArrivals xs pairs → ticks_in pairs ≡ 0
 unfolding AreArrivals times
 arrivals-ticks [] [] h = refl
@@ -80,6 +90,7 @@ arrivals-ticks [] (p ∷ ps) h = absurd h
 arrivals-ticks (x ∷ xs) [] h = absurd h
 arrivals-ticks (x ∷ xs) (p ∷ ps) h = rw (h.0) (omega (arith, arrivals-ticks xs ps h.2))
 
+-- each command arrives as often as it stands among them
 pub arrivals-count : (y : Command) (xs : List Command) (pairs : List Asked) → AreArrivals xs pairs → arrivals_of y pairs ≡ times (same_command y) xs
 unfolding AreArrivals times
 arrivals-count y [] [] h = refl
@@ -87,6 +98,7 @@ arrivals-count y [] (p ∷ ps) h = absurd h
 arrivals-count y (x ∷ xs) [] h = absurd h
 arrivals-count y (x ∷ xs) (p ∷ ps) h = rw (h.0) (omega (arith, arrivals-count y xs ps h.2))
 
+-- arrivals feed
 pub arrivals-feeding : (xs : List Command) (pairs : List Asked) → AreArrivals xs pairs → AllByRecursion (λ p. IsFeeding p.event) pairs
 unfolding AreArrivals
 arrivals-feeding [] [] h = tt
@@ -94,6 +106,7 @@ arrivals-feeding [] (p ∷ ps) h = absurd h
 arrivals-feeding (x ∷ xs) [] h = absurd h
 arrivals-feeding (x ∷ xs) (p ∷ ps) h = (rw (h.0) tt, arrivals-feeding xs ps h.2)
 
+-- each of the commands arrives at the clock before them
 pub arrivals-each :
     (asked : List Asked) (clock : ℕ) (xs : List Command) (pairs : List Asked) → moves asked ≡ clock → AllByRecursion (λ x. x.time ≡ clock) xs
     → AreArrivals xs pairs → AllByRecursion (λ x. ArrivesAt (asked ++ pairs) x x.time) xs

@@ -19,6 +19,7 @@ use Rattle.copy_workers.specs.Refining.{AllHeard}
 use Rattle.copy_workers.specs.Standing.{EndsAs, task_of}
 use Rattle.copy_workers.specs.Fed.{ArriveInTime, AllReceive, misses_between, least_last, FeederEnds}
 
+-- what was received on a link
 abbrev pub got_of : Hearing → List Message
 got_of h = h.got
 
@@ -29,31 +30,38 @@ in_time-places asked pace m [] back x h = h.0
 in_time-places asked pace m (Cmd y ∷ front) back x h = in_time-places asked pace m front back x h.1
 in_time-places asked pace m (Mark n ∷ front) back x h = in_time-places asked pace n front back x h
 
+-- so of all places
 pub in_time-got : (asked : List Asked) (pace : ℕ) (got : List Message) → InTime asked pace 0 got → ArriveInTime asked pace got
 in_time-got asked pace got h front back x parts = in_time-places asked pace 0 front back x (subst (InTime asked pace 0) parts h)
 
+-- what follows of what was received
 all-got : (P : Hearing → Type 0) (Q : List Message → Type 0) (hs : List Hearing) → ((h : Hearing) → P h → Q h.got) → AllByRecursion P hs → AllByRecursion Q (map got_of hs)
 all-got P Q [] step all = tt
 all-got P Q (h ∷ hs) step all = (step h all.0, all-got P Q hs step all.1)
 
+-- and back
 all-back : (Q : List Message → Type 0) (hs : List Hearing) → AllByRecursion Q (map got_of hs) → AllByRecursion (λ h. Q h.got) hs
 all-back Q [] all = tt
 all-back Q (h ∷ hs) all = (all.0, all-back Q hs all.1)
 
+-- what follows of two facts
 all-with : (P R : Hearing → Type 0) (Q : List Message → Type 0) (hs : List Hearing) → ((h : Hearing) → P h → R h → Q h.got) → AllByRecursion P hs → AllByRecursion R hs → AllByRecursion Q (map got_of hs)
 all-with P R Q [] step all more = tt
 all-with P R Q (h ∷ hs) step all more = (step h all.0 more.0, all-with P R Q hs step all.1 more.1)
 
+-- sums of what was received
 total-got : (f : List Message → ℕ) (hs : List Hearing) → total f (map got_of hs) ≡ total (λ h. f h.got) hs
 unfolding total
 total-got f [] = refl
 total-got f (h ∷ hs) = omega (arith, total-got f hs)
 
+-- the least mark is the least of the last marks
 least-got : (length : ℕ) (hs : List Hearing) → AllByRecursion Hears hs → least_mark length hs ≡ least_last length (map got_of hs)
 unfolding least_mark least_last
 least-got length [] all = refl
 least-got length (h ∷ hs) all = (let a = all.0.kept in omega (arith, least-got length hs all.1))
 
+-- each link's end
 all-receive :
     (turns : ℕ) (first now : List LinkReceive) (hs : List Hearing) → AllHeard first now hs → AllByRecursion Hears hs → AllByRecursion (λ h. h.tries ≡ turns) hs
     → AllReceive turns first now (map got_of hs)
@@ -73,6 +81,7 @@ all-receive turns (x ∷ xs) (y ∷ ys) (h ∷ hs) heard hears tries =
     let t = tries.0 in
     (record { same = heard.0.same; received = heard.0.received; rises = omega arith; each = omega arith; least = omega arith }, all-receive turns xs ys hs heard.1 hears.1 tries.1)
 
+-- how often nothing came, in all
 total-misses : (first now : List LinkReceive) (hs : List Hearing) → AllHeard first now hs → total (λ h. length (commands_in h.got) + h.risen) hs ≡ total (λ h. length (commands_in h.got)) hs + misses_between first now
 unfolding AllHeard total misses_between
 total-misses [] [] [] heard = omega arith
@@ -84,6 +93,7 @@ total-misses (x ∷ xs) [] (h ∷ hs) heard = absurd heard
 total-misses (x ∷ xs) (y ∷ ys) [] heard = absurd heard
 total-misses (x ∷ xs) (y ∷ ys) (h ∷ hs) heard = (let m = heard.0.misses in omega (arith, total-misses xs ys hs heard.1))
 
+-- no links, nothing heard
 no-links : (first now : List LinkReceive) (hs : List Hearing) → AllHeard first now hs → first ≡ [] → hs ≡ []
 unfolding AllHeard
 no-links [] [] [] heard e = refl
@@ -92,10 +102,12 @@ no-links [] (y ∷ ys) [] heard e = absurd heard
 no-links [] (y ∷ ys) (h ∷ hs) heard e = absurd heard
 no-links (x ∷ xs) ys hs heard e = absurd cc
 
+-- each link holds the clock
 bound-got : (job : FeederJob) (clock_s clock_e : ℕ) (h : Hearing) → clock_e ≡ clock_s → Hears h → IsBound (task_of job) clock_s h → (clock_e ≤ last_mark h.got + job.pace) ⊎ (last_mark h.got ≡ job.stagger.length)
 bound-got job clock_s clock_e h same hears (inl e) = inl (let a = hears.kept in omega arith)
 bound-got job clock_s clock_e h same hears (inr e) = inr (let a = hears.kept in omega arith)
 
+-- from the machine's facts to the contract
 pub feeder-ends : (job : FeederJob) (end : FeederEnd) (before after : List Asked) → EndsAs job end before after → FeederEnds job end before after
 feeder-ends job end before after e =
     let s = e.state in

@@ -19,26 +19,31 @@ use Rattle.copy_workers.specs.Standing.{Start, Rests, BeginsWith, EndsAs}
 use Rattle.copy_workers.proofs.Issued.{sent-none}
 use Rattle.copy_workers.proofs.TurnEnds.{IsFresh, fed-start, between-start}
 
+-- a link before anything is heard on it
 fresh : LinkReceive → Hearing
 fresh r = record { promised = length (waiting_of r); kept = 0; got = []; risen = 0; tries = 0; known = length (waiting_of r) }
 
+-- all links are so
 all-fresh : (rs : List LinkReceive) → AllByRecursion IsFresh (map fresh rs)
 unfolding fresh
 all-fresh [] = tt
 all-fresh (r ∷ rs) = ((refl, refl, refl, refl, refl), all-fresh rs)
 
+-- each end is as it was handed in
 heard-fresh : (rs : List LinkReceive) → AllHeard rs rs (map fresh rs)
 unfolding AllHeard fresh
 heard-fresh [] = tt
 heard-fresh (r ∷ rs) =
     (record { received = sym (append-nil (received_of r)); misses = omega arith; same = ((refl, refl, refl, refl), refl); known = refl; promised = refl }, heard-fresh rs)
 
+-- no mark is kept
 kept-fresh : (ms : List ℕ) (rs : List LinkReceive) → AllByRecursion (λ m. m ≡ 0) ms → length rs ≤ length ms → AllKept ms (map fresh rs)
 unfolding AllKept fresh
 kept-fresh ms [] none long = tt
 kept-fresh [] (r ∷ rs) none long = absurd (omega arith)
 kept-fresh (m ∷ ms) (r ∷ rs) none long = (none.0, kept-fresh ms rs none.1 (omega arith))
 
+-- nothing of the plan is due before tick 0
 none-from : (plan : List Command) → IsFrom plan 0 0
 none-from plan = record { within = omega arith; before = tt; behind = low plan }
   where
@@ -46,10 +51,12 @@ none-from plan = record { within = omega arith; before = tt; behind = low plan }
     low [] = tt
     low (x ∷ xs) = (omega arith, low xs)
 
+-- no command was issued
 nothing-sent : length (commands_in []) ≡ 0
 unfolding commands_in
 nothing-sent = refl
 
+-- a feeder before its first turn
 pub rests-start :
     (c : Start) (f : Feeder) (calls grows : ℕ) → f.plan.items ≡ c.job.plan → f.sends.items ≡ c.sends → f.receives.items ≡ c.receives
     → f.bounds.length ≡ c.job.length → f.bounds.delay ≡ c.job.delay → f.bounds.pace ≡ c.job.pace → f.bounds.foreign ≡ c.job.foreign
@@ -88,6 +95,7 @@ rests-start c f calls grows plan sends receives limit delay pace foreign marks s
 pub issued-within : (c : Start) (f : Feeder) (asked : List Asked) (calls grows : ℕ) → Rests c f asked calls grows → f.issued ≤ length c.job.plan
 issued-within c f asked calls grows h = (let a = h.stands.from.within in let b = ap (λ (l : List Command). length l) h.stands.plan in omega arith)
 
+-- a feeder that has ended, by the machine
 pub ends-as :
     (c : Start) (job : FeederJob) (f : Feeder) (end : FeederEnd) (before asked : List Asked) (calls grows : ℕ) → BeginsWith c job before → Rests c f asked calls grows
     → end.plan ≡ f.plan → end.sends ≡ f.sends → end.receives ≡ f.receives → end.clock ≡ f.clock → end.issued ≡ f.issued → end.marked ≡ f.marked → end.turns ≡ f.turns

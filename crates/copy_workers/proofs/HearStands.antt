@@ -16,6 +16,7 @@ use Rattle.copy_workers.specs.Refining.{AllHeard, AllKept, HeardTo}
 use Rattle.copy_workers.specs.Standing.{Start, Stands, InTurn}
 use Rattle.copy_workers.proofs.Hearings.{heard-length}
 
+-- as many ends as were handed in
 pub first-length : (first now : List LinkReceive) (hs : List Hearing) → AllHeard first now hs → length first ≡ length now
 unfolding AllHeard
 first-length [] [] [] all = refl
@@ -27,12 +28,14 @@ first-length (x ∷ xs) [] (h ∷ hs) all = absurd all
 first-length (x ∷ xs) (y ∷ ys) [] all = absurd all
 first-length (x ∷ xs) (y ∷ ys) (h ∷ hs) all = omega (arith, first-length xs ys hs all.1)
 
+-- as many marks at least
 kept-length : (ms : List ℕ) (hs : List Hearing) → AllKept ms hs → length hs ≤ length ms
 unfolding AllKept
 kept-length ms [] all = omega arith
 kept-length [] (h ∷ hs) all = absurd all
 kept-length (m ∷ ms) (h ∷ hs) all = omega (arith, kept-length ms hs all.1)
 
+-- the count of misses is far from its end
 misses-few :
     (n : ℕ) (first now : List LinkReceive) (hs : List Hearing) → n < 2 ^ 63 → AllByRecursion (λ r. misses_of r < 2 ^ 63) first → AllByRecursion Hears hs → AllByRecursion (λ h. h.tries ≡ n) hs
     → AllHeard first now hs → AllByRecursion (λ r. misses_of r + 1 < 2 ^ 64) now
@@ -47,22 +50,27 @@ misses-few n (x ∷ xs) (y ∷ ys) [] few start hears tries all = absurd all
 misses-few n (x ∷ xs) (y ∷ ys) (h ∷ hs) few start hears tries all =
     ((let a = all.0.misses in let b = hears.0.each in let c = tries.0 in let d = start.0 in omega arith), misses-few n xs ys hs few start.1 hears.1 tries.1 all.1)
 
+-- seven links at most
 pub hear-seven : (c : Start) (f : Feeder) (asked : List Asked) (calls grows spent : ℕ) → Stands c f asked calls grows spent → length f.receives.items ≤ 7
 hear-seven c f asked calls grows spent h = (let a = first-length c.receives f.receives.items h.state.hearings h.heard in let b = c.seven in omega arith)
 
+-- the calls that are left are enough for all links
 pub hear-calls : (c : Start) (f : Feeder) (asked : List Asked) (calls grows : ℕ) → InTurn c f asked calls grows 0 0 → length f.receives.items ≤ calls
 hear-calls c f asked calls grows h =
     (let a = hear-seven c f asked calls grows 0 h.stands in let b = h.stands.calls_left in let d = h.going in let e = h.stands.from.within in
     let l = ap (λ (xs : List _). length xs) h.stands.plan in omega arith)
 
+-- there is a mark for each link
 pub hear-marks : (c : Start) (f : Feeder) (asked : List Asked) (calls grows spent : ℕ) → Stands c f asked calls grows spent → length f.receives.items ≤ length f.marks
 hear-marks c f asked calls grows spent h =
     (let a = heard-length c.receives f.receives.items h.state.hearings h.heard in let b = kept-length f.marks h.state.hearings h.kept in omega arith)
 
+-- no count of misses overflows
 pub hear-few : (c : Start) (f : Feeder) (asked : List Asked) (calls grows : ℕ) → InTurn c f asked calls grows 0 0 → AllByRecursion (λ r. misses_of r + 1 < 2 ^ 64) f.receives.items
 hear-few c f asked calls grows h =
     misses-few (f.turns + 0) c.receives f.receives.items h.stands.state.hearings (let a = h.going in let b = c.short in omega arith) c.misses h.stands.fed.feeds.hears h.tries h.stands.heard
 
+-- before the first link is asked
 pub hear-begins :
     (c : Start) (f : Feeder) (asked : List Asked) (calls grows : ℕ) → (h : InTurn c f asked calls grows 0 0)
     → HeardTo c.job c.receives c.asked h.stands.state f.receives.items f.marks f.taken asked 0
@@ -86,6 +94,7 @@ hear-begins c f asked calls grows h =
       turns = refl;
     }
 
+-- nothing is left behind as many
 none-left : {X : Type 0} (all done rest : List X) → all ≡ done ++ rest → length all ≡ length done → all ≡ done
 none-left all done [] parts long = parts ∙ append-none done
   where
@@ -94,6 +103,7 @@ none-left all done [] parts long = parts ∙ append-none done
     append-none {Y} (x ∷ xs) = ap (λ (m : List Y). x ∷ m) (append-none xs)
 none-left {X} all done (x ∷ rest) parts long = absurd (let a = ap (λ (l : List X). length l) parts in let b = length-append done (x ∷ rest) in omega arith)
 
+-- all links were asked once
 pub hear-ends :
     (c : Start) (f then : Feeder) (asked asked_then : List Asked) (calls calls_then grows grows_then n : ℕ) → (h : InTurn c f asked calls grows 0 0)
     → HeardTo c.job c.receives c.asked h.stands.state then.receives.items then.marks then.taken asked_then n → n ≡ length then.receives.items

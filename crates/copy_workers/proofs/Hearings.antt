@@ -15,10 +15,7 @@ use Rattle.copy_workers.proofs.Lists.{all-append, all-at}
 use Rattle.copy_workers.proofs.Along.{all-get}
 use Rattle.copy_workers.proofs.Machine.{fed-missed, fed-mark, fed-command, fed-dropped}
 
-append-none : {X : Type 0} (l : List X) → l ++ [] ≡ l
-append-none [] = refl
-append-none {X} (x ∷ xs) = ap (λ (m : List X). x ∷ m) (append-none xs)
-
+-- the link at a place, among those heard
 pub heard-at :
     (first now : List LinkReceive) (front : List Hearing) (h : Hearing) (back : List Hearing) (a b : LinkReceive)
     → AllHeard first now (front ++ h ∷ back) → IsHeardAs (get_or first (length front) a) (get_or now (length front) b) h
@@ -32,6 +29,7 @@ heard-at (x ∷ xs) [] (g ∷ front) h back a b all = absurd all
 heard-at (x ∷ xs) (y ∷ ys) [] h back a b all = all.0
 heard-at (x ∷ xs) (y ∷ ys) (g ∷ front) h back a b all = heard-at xs ys front h back a b all.1
 
+-- one link is changed
 pub heard-set :
     (first now : List LinkReceive) (front : List Hearing) (h k : Hearing) (back : List Hearing) (a b : LinkReceive)
     → IsHeardAs (get_or first (length front) a) b k → AllHeard first now (front ++ h ∷ back) → AllHeard first (set now (length front) b) (front ++ k ∷ back)
@@ -45,6 +43,7 @@ heard-set (x ∷ xs) [] (g ∷ front) h k back a b new all = absurd all
 heard-set (x ∷ xs) (y ∷ ys) [] h k back a b new all = (new, all.1)
 heard-set (x ∷ xs) (y ∷ ys) (g ∷ front) h k back a b new all = (all.0, heard-set xs ys front h k back a b new all.1)
 
+-- as many links as are heard
 pub heard-length : (first now : List LinkReceive) (hs : List Hearing) → AllHeard first now hs → length now ≡ length hs
 unfolding AllHeard
 heard-length [] [] [] all = refl
@@ -56,6 +55,7 @@ heard-length (x ∷ xs) [] (h ∷ hs) all = absurd all
 heard-length (x ∷ xs) (y ∷ ys) [] all = absurd all
 heard-length (x ∷ xs) (y ∷ ys) (h ∷ hs) all = omega (arith, heard-length xs ys hs all.1)
 
+-- the mark at a place
 pub kept-at : (ms : List ℕ) (front : List Hearing) (h : Hearing) (back : List Hearing) (d : ℕ) → AllKept ms (front ++ h ∷ back) → get_or ms (length front) d ≡ h.kept
 unfolding AllKept
 kept-at [] [] h back d all = absurd all
@@ -63,6 +63,7 @@ kept-at [] (g ∷ front) h back d all = absurd all
 kept-at (m ∷ ms) [] h back d all = all.0
 kept-at (m ∷ ms) (g ∷ front) h back d all = kept-at ms front h back d all.1
 
+-- one mark is changed
 pub kept-set : (ms : List ℕ) (front : List Hearing) (h k : Hearing) (back : List Hearing) (m : ℕ) → m ≡ k.kept → AllKept ms (front ++ h ∷ back) → AllKept (set ms (length front) m) (front ++ k ∷ back)
 unfolding AllKept
 kept-set [] [] h k back m new all = absurd all
@@ -70,9 +71,11 @@ kept-set [] (g ∷ front) h k back m new all = absurd all
 kept-set (n ∷ ms) [] h k back m new all = (new, all.1)
 kept-set (n ∷ ms) (g ∷ front) h k back m new all = (all.0, kept-set ms front h k back m new all.1)
 
+-- one message fewer is known
 prefix-fewer : {X : Type 0} (xs ys : List X) (x : X) → IsPrefix xs (x ∷ ys) → length xs ≤ length ys + 1
 prefix-fewer xs ys x p = (let a = ap length p.1 in let b = length-append xs p.0 in omega arith)
 
+-- the same end, twice
 same-trans : (a b c : LinkReceive) → SameReceive a b → SameReceive b c → SameReceive a c
 same-trans a b c h k = ((k.0.0 ∙ h.0.0, k.0.1 ∙ h.0.1, k.0.2 ∙ h.0.2, k.0.3 ∙ h.0.3), k.1 ∙ h.1)
 

@@ -1,5 +1,5 @@
 -- Issuing a tick: the commands that are due, what is asked, what is sent.
-use Rattle.std.proofs.Common.{◌≡◌, ◌≢◌, ℕ, zero, suc, ◌+◌, ◌<◌, ◌≤◌, Bool, true, false, cond, List, [], ◌∷◌, ◌++◌, map, filter, length, take, drop, get_or, refl, ap, sym, ◌∙◌, subst, append_assoc, arith, length-append}
+use Rattle.std.proofs.Common.{◌≡◌, ◌≢◌, ℕ, zero, suc, ◌+◌, ◌<◌, ◌≤◌, Bool, true, false, cond, List, [], ◌∷◌, ◌++◌, map, filter, length, take, drop, get_or, refl, ap, sym, ◌∙◌, subst, append_assoc, arith, length-append, append-nil}
 use Rattle.std.specs.Prelude.{◌==◌}
 use Rattle.std.proofs.lemmas.Bool.Decides.{nat_tests}
 use Rattle.std.proofs.Math.Seq.{drop-cons}
@@ -19,17 +19,16 @@ use Rattle.copy_workers.specs.Asking.{is_moved, arrival, AreArrivals, HasArrival
 use Rattle.copy_workers.specs.Sending.{HasRoom, IsSent, IsFrom, Issuing}
 use Rattle.copy_workers.proofs.Lists.{all-append}
 
-append-none : {X : Type 0} (l : List X) → l ++ [] ≡ l
-append-none [] = refl
-append-none {X} (x ∷ xs) = ap (λ (m : List X). x ∷ m) (append-none xs)
-
+-- nothing is sent
 pub sent-none : (xs : List LinkSend) → AllZip (IsSent []) xs xs
 sent-none [] = tt
-sent-none (x ∷ xs) = (record { sent = sym (append-none (sent_of x)); room = refl; same = ((refl, refl, refl, refl), refl) }, sent-none xs)
+sent-none (x ∷ xs) = (record { sent = sym (append-nil (sent_of x)); room = refl; same = ((refl, refl, refl, refl), refl) }, sent-none xs)
 
+-- the same end, twice
 same_send-trans : (a b c : LinkSend) → SameSend a b → SameSend b c → SameSend a c
 same_send-trans a b c h k = ((k.0.0 ∙ h.0.0, k.0.1 ∙ h.0.1, k.0.2 ∙ h.0.2, k.0.3 ∙ h.0.3), k.1 ∙ h.1)
 
+-- what is sent after what was sent
 pub sent-both : (more rest : List Message) (xs ys zs : List LinkSend) → AllZip (IsSent more) xs ys → AllZip (IsSent rest) ys zs → AllZip (IsSent (more ++ rest)) xs zs
 sent-both more rest [] [] [] h k = tt
 sent-both more rest [] [] (z ∷ zs) h k = k
@@ -55,6 +54,7 @@ room-left n m more (x ∷ xs) (y ∷ ys) e h k = (
   room-left n m more xs ys e h.1 k.1,
 )
 
+-- room for more is room for less
 pub room-less : (n m : ℕ) (xs : List LinkSend) → m ≤ n → AllByRecursion (HasRoom n) xs → AllByRecursion (HasRoom m) xs
 room-less n m xs e h = all-weaker (HasRoom n) (HasRoom m) xs (λ s r. record { room = (let a = r.room in omega arith) }) h
 
@@ -66,10 +66,12 @@ arrivals-push [] (p ∷ ps) x reply h still = absurd h
 arrivals-push (y ∷ xs) [] x reply h still = absurd h
 arrivals-push (y ∷ xs) (p ∷ ps) x reply h still = (h.0, h.1, arrivals-push xs ps x reply h.2 still)
 
+-- one more command is sent
 map-push : (xs : List Command) (x : Command) → map Cmd (xs ++ x ∷ []) ≡ map Cmd xs ++ Cmd x ∷ []
 map-push [] x = refl
 map-push (y ∷ xs) x = ap (λ (l : List Message). Cmd y ∷ l) (map-push xs x)
 
+-- nothing of the tick is issued yet
 pub issuing-start : (plan : List Command) (issued t : ℕ) (asked : List Asked) (sends : List LinkSend) → issued ≤ length plan → Issuing plan issued t issued asked asked sends sends
 unfolding AreArrivals
 issuing-start plan issued t asked sends within =
@@ -79,10 +81,11 @@ issuing-start plan issued t asked sends within =
       count = omega arith;
       within = within;
       due = tt;
-      arrive = record { pairs = []; asked = sym (append-none asked); arrivals = tt };
+      arrive = record { pairs = []; asked = sym (append-nil asked); arrivals = tt };
       sent = sent-none sends;
     }
 
+-- one more command of the tick is issued
 pub issuing-more :
     (plan : List Command) (issued t next : ℕ) (asked asked_now asked_then : List Asked) (sends sends_now sends_then : List LinkSend) (d x : Command)
     → next < length plan → x ≡ get_or plan next d → x.time ≡ t → HasArrival x asked_now asked_then → AllZip (IsSent (Cmd x ∷ [])) sends_now sends_then
@@ -108,12 +111,14 @@ issuing-more plan issued t next asked asked_now asked_then sends sends_now sends
 rising-behind : (t : ℕ) (x : Command) (rest : List Command) → AllByRecursion (λ y. before x y ≡ true) rest → t < x.time → AllByRecursion (λ y. t < y.time) rest
 rising-behind t x rest rises late = all-weaker (λ y. before x y ≡ true) (λ y. t < y.time) rest (λ y h. (let a = before-time x y h in omega arith)) rises
 
+-- keys rise behind a place
 rising-drop : (n : ℕ) (xs : List Command) → KeysRise xs → KeysRise (drop n xs)
 unfolding KeysRise
 rising-drop zero xs h = h
 rising-drop (suc n) [] h = h
 rising-drop (suc n) (x ∷ xs) h = rising-drop n xs h.1
 
+-- all behind are as late
 pub all-behind : (t : ℕ) (rest : List Command) → KeysRise rest → AllByRecursion (λ x. t ≤ x.time) rest → ((x : Command) (more : List Command) → rest ≡ x ∷ more → x.time ≢ t) → AllByRecursion (λ x. t + 1 ≤ x.time) rest
 unfolding KeysRise
 all-behind t [] rises low stops = tt
@@ -121,6 +126,7 @@ all-behind t (x ∷ rest) rises low stops =
     let late : t < x.time = (let a = low.0 in let b : x.time ≢ t = stops x rest refl in omega arith) in
     (omega arith, all-weaker (λ y. t < y.time) (λ y. t + 1 ≤ y.time) rest (λ y h. omega arith) (rising-behind t x rest rises.0 late))
 
+-- none is due
 filter-none : (t : ℕ) (xs : List Command) → AllByRecursion (λ x. x.time ≢ t) xs → filter (λ x. x.time == t) xs ≡ []
 filter-none t [] h = refl
 filter-none t (x ∷ xs) h =
@@ -129,6 +135,7 @@ filter-none t (x ∷ xs) h =
     not_same : (a b : ℕ) → a ≢ b → (a == b) ≡ false
     not_same a b h = grind (arith, nat_tests)
 
+-- all are due
 filter-all : (t : ℕ) (xs : List Command) → AllByRecursion (λ x. x.time ≡ t) xs → filter (λ x. x.time == t) xs ≡ xs
 filter-all t [] h = refl
 filter-all t (x ∷ xs) h =
@@ -137,12 +144,14 @@ filter-all t (x ∷ xs) h =
     is_same : (a b : ℕ) → a ≡ b → (a == b) ≡ true
     is_same a b h = grind (arith, nat_tests)
 
+-- what is due of two lists
 filter-append : {X : Type 0} (p : X → Bool) (xs ys : List X) → filter p (xs ++ ys) ≡ filter p xs ++ filter p ys
 filter-append p [] ys = refl
 filter-append {X} p (x ∷ xs) ys =
     elim (p x) as (λ v. cond v (x ∷ filter p (xs ++ ys)) (filter p (xs ++ ys)) ≡ cond v (x ∷ filter p xs) (filter p xs) ++ filter p ys)
     [ true ↦ ap (λ (l : List X). x ∷ l) (filter-append p xs ys) | false ↦ filter-append p xs ys ]
 
+-- a list up to a place, and from there on
 take_drop : {X : Type 0} (n : ℕ) (xs : List X) → xs ≡ take n xs ++ drop n xs
 take_drop zero xs = refl
 take_drop (suc n) [] = refl
@@ -160,7 +169,7 @@ due-between plan issued t some rest rises front parts due behind =
     ∙ ap (λ (l : List Command). l ++ filter p (some ++ rest)) (filter-none t (take issued plan) (all-weaker (λ x. x.time < t) (λ x. x.time ≢ t) (take issued plan) (λ x h. omega arith) front))
     ∙ filter-append p some rest
     ∙ ap (λ (l : List Command). filter p some ++ l) (filter-none t rest (all-weaker (λ x. t + 1 ≤ x.time) (λ x. x.time ≢ t) rest (λ x h. omega arith) behind))
-    ∙ append-none (filter p some)
+    ∙ append-nil (filter p some)
     ∙ filter-all t some due
 
 -- where the tick's commands end, all that is issued is known
@@ -170,11 +179,13 @@ pub issuing-due :
 issuing-due plan issued t next asked asked_now sends sends_now rises from behind h =
     due-between plan issued t h.some (drop next plan) rises from.before h.parts h.due behind
 
+-- what holds of all holds from a place on
 all-drop : {X : Type 0} (P : X → Type 0) (n : ℕ) (xs : List X) → AllByRecursion P xs → AllByRecursion P (drop n xs)
 all-drop P zero xs h = h
 all-drop P (suc n) [] h = tt
 all-drop P (suc n) (x ∷ xs) h = all-drop P n xs h.1
 
+-- what holds of all holds at the end
 all-suffix : {X : Type 0} (P : X → Type 0) (xs ys : List X) → AllByRecursion P (xs ++ ys) → AllByRecursion P ys
 all-suffix P [] ys h = h
 all-suffix P (x ∷ xs) ys h = all-suffix P xs ys h.1
@@ -195,6 +206,7 @@ issuing-stops plan issued t next asked asked_now sends sends_now d rises from st
     first (suc n) [] x more is stops = absurd cc
     first (suc n) (y ∷ xs) x more is stops = first n xs x more is (λ below. stops (omega arith))
 
+-- what holds up to a place, and of those behind it
 all-take-append : {X : Type 0} (P : X → Type 0) (n k : ℕ) (xs some rest : List X) → AllByRecursion P (take n xs) → AllByRecursion P some → drop n xs ≡ some ++ rest → k ≡ length some → n ≤ length xs → AllByRecursion P (take (n + k) xs)
 all-take-append P zero k xs some rest front here parts count within = (let e : zero + k ≡ length some = omega arith in rw (e, parts) (rw take-front here))
   where
@@ -205,6 +217,7 @@ all-take-append P (suc n) k [] some rest front here parts count within = absurd 
 all-take-append P (suc n) k (x ∷ xs) some rest front here parts count within =
     (let e : suc n + k ≡ suc (n + k) = omega arith in rw e (front.0, all-take-append P n k xs some rest front.1 here parts count (omega arith)))
 
+-- the plan from the next tick on
 pub issuing-from :
     (plan : List Command) (issued t next : ℕ) (asked asked_now : List Asked) (sends sends_now : List LinkSend) → IsFrom plan issued t
     → AllByRecursion (λ x. t + 1 ≤ x.time) (drop next plan) → Issuing plan issued t next asked asked_now sends sends_now → IsFrom plan next (t + 1)
@@ -218,6 +231,7 @@ issuing-from plan issued t next asked asked_now sends sends_now from behind h =
       behind = behind;
     }
 
+-- a message for each command
 pub map-length : (xs : List Command) → length (map Cmd xs) ≡ length xs
 map-length [] = refl
 map-length (x ∷ xs) = omega (arith, map-length xs)
@@ -233,6 +247,7 @@ pub record Issued (plan : List Command) (issued t next : ℕ) (asked asked_now :
   pub sent : AllZip (IsSent (map Cmd (due_at plan t))) sends sends_now
   pub count : next ≡ issued + length (due_at plan t)
 
+-- all that is due is issued
 pub issuing-end :
     (plan : List Command) (issued t next : ℕ) (asked asked_now : List Asked) (sends sends_now : List LinkSend) → KeysRise plan → IsFrom plan issued t
     → (next < length plan → (get_or plan next blank).time ≢ t) → Issuing plan issued t next asked asked_now sends sends_now

@@ -11,13 +11,16 @@ use Rattle.copy_workers.specs.Feeding.{Hears, IsFair}
 use Rattle.copy_workers.proofs.Lists.{total-at, all-at, all-changed}
 use Rattle.copy_workers.proofs.MessageLists.{mark_after-mark, mark_after-command, commands_in-mark, commands_in-command, orderly-front, orderly-marks, length-parts}
 
+-- nothing came
 pub hears-missed : (h : Hearing) (known : ℕ) → h.known ≡ 0 → Hears h → Hears (missed h known)
 hears-missed h known none hears =
     record { kept = hears.kept; each = omega (arith, hears.each); known = omega (arith, hears.known); least = omega (arith, hears.known) }
 
+-- one message more
 one-more : (got : List Message) (x : Message) → length (got ++ x ∷ []) ≡ length got + 1
 one-more got x = length-append got (x ∷ [])
 
+-- a mark came
 pub hears-mark : (h : Hearing) (n known : ℕ) → h.known ≤ known + 1 → Hears h → Hears (with_mark h n known)
 hears-mark h n known fewer hears =
     let longer = one-more h.got (Mark n) in
@@ -28,6 +31,7 @@ hears-mark h n known fewer hears =
       least = omega (arith, longer, hears.least);
     }
 
+-- a command came
 pub hears-command : (h : Hearing) (x : Command) (known : ℕ) → h.known ≤ known + 1 → Hears h → Hears (with_command h x known)
 hears-command h x known fewer hears =
     let longer = one-more h.got (Cmd x) in
@@ -42,9 +46,11 @@ hears-command h x known fewer hears =
 abbrev pub heard_commands : Hearing → ℕ
 heard_commands h = length (commands_in h.got)
 
+-- a mark is no command
 pub commands-mark : (h : Hearing) (n known : ℕ) → heard_commands (with_mark h n known) ≡ heard_commands h
 commands-mark h n known = ap (λ (l : List Command). length l) (commands_in-mark h.got n)
 
+-- a command is one
 pub commands-command : (h : Hearing) (x : Command) (known : ℕ) → heard_commands (with_command h x known) ≡ heard_commands h + 1
 commands-command h x known = ap (λ (l : List Command). length l) (commands_in-command h.got x) ∙ length-append (commands_in h.got) (x ∷ [])
 
@@ -61,15 +67,18 @@ fair-before job front h k back orderly fewer fair =
       few = (let a = total-at heard_commands front h back in let b = total-at heard_commands front k back in let c = fair.few in omega arith);
     }
 
+-- fair before, where nothing came
 pub fair-missed :
     (job : Task) (front : List Hearing) (h : Hearing) (back : List Hearing) (known : ℕ) → IsFair job (front ++ missed h known ∷ back) → IsFair job (front ++ h ∷ back)
 fair-missed job front h back known fair = fair-before job front h (missed h known) back (λ o. o) (omega arith) fair
 
+-- fair before a mark
 pub fair-mark :
     (job : Task) (front : List Hearing) (h : Hearing) (back : List Hearing) (n known : ℕ) → IsFair job (front ++ with_mark h n known ∷ back) → IsFair job (front ++ h ∷ back)
 fair-mark job front h back n known fair =
     fair-before job front h (with_mark h n known) back (orderly-front job.length 0 h.got (Mark n ∷ [])) (omega (arith, commands-mark h n known)) fair
 
+-- fair before a command
 pub fair-command :
     (job : Task) (front : List Hearing) (h : Hearing) (back : List Hearing) (x : Command) (known : ℕ)
     → IsFair job (front ++ with_command h x known ∷ back) → IsFair job (front ++ h ∷ back)

@@ -16,22 +16,26 @@ use Rattle.copy_workers.specs.Messages.{tick_messages, messages, commands_in, ma
 use Rattle.copy_workers.proofs.MessageLists.{commands_in-append, commands_in-tick, mark_after-append, orderly-front, orderly-back}
 use Rattle.copy_workers.proofs.Standings.{due-times}
 
+-- orderly lists, one after the other
 orderly-join : (length m : ℕ) (a b : List Message) → OrderlyAfter length m a → OrderlyAfter length (mark_after m a) b → OrderlyAfter length m (a ++ b)
 unfolding OrderlyAfter mark_after
 orderly-join length m [] b h k = k
 orderly-join length m (Cmd x ∷ a) b h k = (h.0, h.1, orderly-join length m a b h.2 k)
 orderly-join length m (Mark n ∷ a) b h k = (h.0, h.1, orderly-join length n a b h.2 k)
 
+-- the messages of a tick are orderly
 orderly-tick : (length t : ℕ) (xs : List Command) → t < length → AllByRecursion (λ x. x.time ≡ t) xs → OrderlyAfter length t (map Cmd xs ++ Mark (t + 1) ∷ [])
 unfolding OrderlyAfter
 orderly-tick length t [] below due = (omega arith, omega arith, tt)
 orderly-tick length t (x ∷ xs) below due = (below, (let a = due.0 in omega arith), orderly-tick length t xs below due.1)
 
+-- the mark above a tick
 mark-tick : (m t : ℕ) (xs : List Command) → mark_after m (map Cmd xs ++ Mark (t + 1) ∷ []) ≡ t + 1
 unfolding mark_after
 mark-tick m t [] = refl
 mark-tick m t (x ∷ xs) = mark-tick m t xs
 
+-- the last mark is how far the plan is sent
 pub mark_after-messages : (plan : List Command) (n : ℕ) → last_mark (messages plan n) ≡ n
 unfolding messages mark_after
 mark_after-messages plan zero = refl
@@ -55,15 +59,18 @@ unfolding times
 times-apart p q r [] apart = omega arith
 times-apart p q r (x ∷ xs) apart = omega (arith, apart x, times-apart p q r xs apart)
 
+-- below the next tick, or at this one
 split-below : (p : Command → Bool) (n : ℕ) (x : Command) →
     cond {A = ℕ} (p x && nat_lt x.time (suc n)) 1 0 ≡ cond {A = ℕ} (p x && nat_lt x.time n) 1 0 + cond {A = ℕ} (p x && (x.time == n)) 1 0
 split-below p n x = grind (arith, nat_tests)
 
+-- nothing is due below tick 0
 none-below : (p : Command → Bool) (xs : List Command) → times (λ x. p x && nat_lt x.time 0) xs ≡ 0
 unfolding times
 none-below p [] = refl
 none-below p (x ∷ xs) = (let e : (p x && nat_lt x.time 0) ≡ false = grind (arith, nat_tests) in rw e (omega (arith, none-below p xs)))
 
+-- how often commands are sent
 pub times-messages : (p : Command → Bool) (plan : List Command) (n : ℕ) → times p (commands_in (messages plan n)) ≡ times (λ x. p x && nat_lt x.time n) plan
 unfolding messages commands_in times
 times-messages p plan zero = sym (none-below p plan)
@@ -80,16 +87,19 @@ pub times-received : (p : Command → Bool) (plan : List Command) (n : ℕ) (got
 times-received p plan n got rest parts =
     sym (times-append p (commands_in got) (commands_in rest)) ∙ ap (times p) (sym (commands_in-append got rest)) ∙ ap (λ (l : List Message). times p (commands_in l)) (sym parts) ∙ times-messages p plan n
 
+-- all are counted
 times-all : {X : Type 0} (xs : List X) → times (λ x. true) xs ≡ length xs
 unfolding times
 times-all [] = refl
 times-all (x ∷ xs) = omega (arith, times-all xs)
 
+-- no more than all are counted
 times-most : {X : Type 0} (p : X → Bool) (xs : List X) → times p xs ≤ length xs
 unfolding times
 times-most p [] = omega arith
 times-most p (x ∷ xs) = elim (p x) as (λ v. cond v 1 0 + times p xs ≤ suc (length xs)) [ true ↦ omega (arith, times-most p xs) | false ↦ omega (arith, times-most p xs) ]
 
+-- no more is received than the plan has
 pub few-received : (plan : List Command) (n : ℕ) (got rest : List Message) → messages plan n ≡ got ++ rest → length (commands_in got) ≤ length plan
 few-received plan n got rest parts =
     (let a = times-received (λ x. true) plan n got rest parts in let b = times-all (commands_in got) in let c = times-most (λ x. true && nat_lt x.time n) plan in omega arith)
@@ -100,17 +110,20 @@ Timely m [] = Unit {0}
 Timely m (Cmd x ∷ rest) = (m ≡ x.time) × Timely m rest
 Timely m (Mark n ∷ rest) = Timely n rest
 
+-- the mark before each command of two lists
 timely-join : (m : ℕ) (a b : List Message) → Timely m a → Timely (mark_after m a) b → Timely m (a ++ b)
 unfolding Timely mark_after
 timely-join m [] b h k = k
 timely-join m (Cmd x ∷ a) b h k = (h.0, timely-join m a b h.1 k)
 timely-join m (Mark n ∷ a) b h k = timely-join n a b h k
 
+-- in the messages of a tick
 timely-tick : (t : ℕ) (xs : List Command) → AllByRecursion (λ x. x.time ≡ t) xs → Timely t (map Cmd xs ++ Mark (t + 1) ∷ [])
 unfolding Timely
 timely-tick t [] due = tt
 timely-tick t (x ∷ xs) due = (sym due.0, timely-tick t xs due.1)
 
+-- in all that is sent
 timely-messages : (plan : List Command) (n : ℕ) → Timely 0 (messages plan n)
 unfolding messages Timely
 timely-messages plan zero = tt
@@ -118,6 +131,7 @@ timely-messages plan (suc n) =
     timely-join 0 (messages plan n) (tick_messages plan n) (timely-messages plan n)
     (subst (λ (m : ℕ). Timely m (tick_messages plan n)) (sym (mark_after-messages plan n)) (timely-tick n (due_at plan n) (due-times plan n)))
 
+-- the mark before a command at a place
 timely-places : (m : ℕ) (front back : List Message) (x : Command) → Timely m (front ++ Cmd x ∷ back) → mark_after m front ≡ x.time
 unfolding Timely mark_after
 timely-places m [] back x h = h.0
@@ -135,6 +149,7 @@ marks-rise length m [] h = omega arith
 marks-rise length m (Cmd x ∷ a) h = marks-rise length m a h.2
 marks-rise length m (Mark n ∷ a) h = omega (arith, h.0, marks-rise length n a h.2)
 
+-- the last mark of a front is no higher
 marks-front : (length : ℕ) (a b : List Message) → IsOrderly length (a ++ b) → last_mark a ≤ last_mark (a ++ b)
 marks-front length a b h = (let e = mark_after-append 0 a b in let r = marks-rise length (mark_after 0 a) b (orderly-back length 0 a b h) in omega arith)
 

@@ -21,11 +21,13 @@ use Rattle.copy_workers.proofs.MessageLists.{length-parts, commands_in-tick}
 use Rattle.copy_workers.proofs.Issued.{room-left, sent-both}
 use Rattle.copy_workers.proofs.Machine.{fed-issued}
 
+-- one mark a tick
 marks-map : (xs : List Command) (n : ℕ) → marks_in (map Cmd xs ++ Mark n ∷ []) ≡ 1
 unfolding marks_in
 marks-map [] n = omega arith
 marks-map (x ∷ xs) n = marks-map xs n
 
+-- the marks of two lists
 marks-append : (a b : List Message) → marks_in (a ++ b) ≡ marks_in a + marks_in b
 unfolding marks_in
 marks-append [] b = omega arith
@@ -39,6 +41,7 @@ marks-messages plan zero = refl
 marks-messages plan (suc n) =
     marks-append (messages plan n) (tick_messages plan n) ∙ (let a = marks-messages plan n in let b = marks-map (due_at plan n) (n + 1) in omega arith)
 
+-- what is due at a tick
 filter-due : (t : ℕ) (xs : List Command) → AllByRecursion (λ x. x.time ≡ t) (filter (λ x. x.time == t) xs)
 filter-due t [] = tt
 filter-due t (x ∷ xs) =
@@ -48,6 +51,7 @@ filter-due t (x ∷ xs) =
     is_same : (a b : ℕ) → (a == b) ≡ true → a ≡ b
     is_same a b h = grind (arith, nat_tests)
 
+-- is of that time
 pub due-times : (plan : List Command) (t : ℕ) → AllByRecursion (λ x. x.time ≡ t) (due_at plan t)
 due-times plan t = all-in_key_order (λ x. x.time ≡ t) (filter (λ x. x.time == t) plan) (filter-due t plan)
 
@@ -63,6 +67,7 @@ issue-room c f asked calls grows h below unissued =
     room-left (length c.job.plan + c.job.length) ((length f.plan.items - f.issued) + 1) h.state.sent c.sends f.sends.items
     (let a = h.issued in let b = h.marked in let d = h.limit in let e = h.from.within in omega arith) c.room h.sends
 
+-- a tick is issued, or was
 pub issue-stands :
     (c : Start) (f then : Feeder) (asked asked_then : List Asked) (calls calls_then grows grows_then : ℕ)
     → f.clock < f.bounds.length → f.marked ≤ f.clock

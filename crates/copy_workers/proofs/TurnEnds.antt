@@ -17,18 +17,22 @@ use Rattle.copy_workers.proofs.MessageLists.{orderly-most}
 use Rattle.copy_workers.proofs.Arrivals.{moves-append, ticks-append, arrivals-append, one, at-later, in_time-later}
 use Rattle.copy_workers.proofs.Links.{least-all, least-tries}
 
+-- nothing is counted of no list
 nothing : {X : Type 0} (p : X → Bool) → times p [] ≡ 0
 unfolding times
 nothing p = refl
 
+-- with no link the least mark is the length
 least-none : (length : ℕ) → least_mark length [] ≡ length
 unfolding least_mark
 least-none length = refl
 
+-- no mark came
 unmarked : last_mark [] ≡ 0
 unfolding mark_after
 unmarked = refl
 
+-- nothing came late
 nothing_in_time : (pace : ℕ) → InTime [] pace 0 []
 unfolding InTime
 nothing_in_time pace = tt
@@ -51,9 +55,11 @@ bound-tick :
 bound-tick job clock more least h one (inl e) k = inl (let a = k.0 in omega arith)
 bound-tick job clock more least h one (inr e) k = inr (let a = k.0 in let b = k.1 in omega arith)
 
+-- no mark is above the length
 kept-most : (job : Task) (h : Hearing) → Hears h → IsOrderly job.length h.got → h.kept ≤ job.length
 kept-most job h hears orderly = (let a = hears.kept in let b = orderly-most job.length 0 h.got (omega arith) orderly in omega arith)
 
+-- what follows of two facts
 all-both : {X : Type 0} (P Q R : X → Type 0) (xs : List X) → ((x : X) → P x → Q x → R x) → AllByRecursion P xs → AllByRecursion Q xs → AllByRecursion R xs
 all-both P Q R [] step h k = tt
 all-both P Q R (x ∷ xs) step h k = (step x h.0 k.0, all-both P Q R xs step h.1 k.1)
@@ -163,6 +169,7 @@ between-ticked job s reply tries none =
           let a = ticks-append s.here (ticking reply ∷ []) in let b : ticks_in (ticking reply ∷ []) ≡ 1 = one (λ q. is_tick q.event) (ticking reply) in omega arith);
     }
 
+-- between two turns, where the marks held
 pub between-rested : (job : Task) (s : Feed) → AllByRecursion (λ h. h.tries ≡ length s.turns + 1) s.hearings → IsHeld job s → IsBetween job (rested s)
 between-rested job s tries held =
     record {
@@ -175,6 +182,7 @@ between-rested job s tries held =
 abbrev pub IsFresh : Hearing → Type 0
 IsFresh h = (h.kept ≡ 0) × (h.got ≡ []) × (h.risen ≡ 0) × (h.tries ≡ 0) × (h.promised ≡ h.known)
 
+-- a link before anything is heard on it
 fresh-hears : (h : Hearing) → IsFresh h → Hears h
 fresh-hears h fresh =
     let a : h.kept ≡ 0 = fresh.0 in
@@ -185,14 +193,17 @@ fresh-hears h fresh =
     let n : length h.got ≡ 0 = ap (λ (l : List Message). length l) b in
     record { kept = a ∙ sym (ap last_mark b ∙ unmarked); each = omega arith; known = omega arith; least = omega arith }
 
+-- nothing came late on it
 fresh-in_time : (h : Hearing) (pace : ℕ) → IsFresh h → InTime [] pace 0 h.got
 fresh-in_time h pace fresh = subst (InTime [] pace 0) (sym fresh.1) (nothing_in_time pace)
 
+-- no command came
 fresh-count : (x : Command) (hs : List Hearing) → AllByRecursion IsFresh hs → total (λ h. times (same_command x) (commands_in h.got)) hs ≡ 0
 unfolding total times commands_in
 fresh-count x [] fresh = refl
 fresh-count x (h ∷ hs) fresh = rw (fresh.0.1) (omega (arith, fresh-count x hs fresh.1))
 
+-- a feeder at its start
 pub fed-start : (job : Task) (hearings : List Hearing) → AllByRecursion IsFresh hearings → IsFed job (at_start hearings)
 unfolding messages commands_in times joined GoesOn total
 fed-start job hearings fresh =
@@ -223,6 +234,7 @@ fed-start job hearings fresh =
       };
     }
 
+-- it stands between two turns
 pub between-start : (job : Task) (hearings : List Hearing) → AllByRecursion IsFresh hearings → IsBetween job (at_start hearings)
 between-start job hearings fresh =
     record {

@@ -19,12 +19,14 @@ use Rattle.copy_workers.proofs.TurnEnds.{fed-ticked, fed-rested, between-ticked,
 abbrev pub IsFree : Feeder → List Hearing → Type 0
 IsFree f hearings = (f.clock + 1 ≤ least_mark f.bounds.length hearings + f.bounds.pace) ⊎ (f.bounds.length ≤ least_mark f.bounds.length hearings)
 
+-- the clock is free, by the machine's marks
 free-as :
     (clock clock_s least least_s length length_s pace pace_s : ℕ) → clock ≡ clock_s → least ≡ least_s → length ≡ length_s → pace ≡ pace_s
     → (clock + 1 ≤ least + pace) ⊎ (length ≤ least) → (clock_s + 1 ≤ least_s + pace_s) ⊎ (length_s ≤ least_s)
 free-as clock clock_s least least_s length length_s pace pace_s a b c d (inl e) = inl (omega arith)
 free-as clock clock_s least least_s length length_s pace pace_s a b c d (inr e) = inr (omega arith)
 
+-- the marks hold it
 held-as :
     (clock clock_s least least_s length length_s pace pace_s : ℕ) → clock ≡ clock_s → least ≡ least_s → length ≡ length_s → pace ≡ pace_s
     → ((clock + 1 ≤ least + pace) ⊎ (length ≤ least) → ⊥) → (least_s + pace_s < clock_s + 1) × (least_s < length_s)
@@ -34,9 +36,11 @@ held-as clock clock_s least least_s length length_s pace pace_s a b c d h =
     not_le : (x y : ℕ) → (y ≤ x → ⊥) → x < y
     not_le x y k = omega arith
 
+-- each link was asked in this turn
 tries-there : (c : Start) (f : Feeder) (asked : List Asked) (calls grows : ℕ) → (h : InTurn c f asked calls grows 7 1) → AllByRecursion (λ g. g.tries ≡ length h.stands.state.turns + 1) h.stands.state.hearings
 tries-there c f asked calls grows h = all-weaker (λ g. g.tries ≡ f.turns + 1) (λ g. g.tries ≡ length h.stands.state.turns + 1) h.stands.state.hearings (λ g e. (let a = h.stands.turns in omega arith)) h.tries
 
+-- a turn ends with a tick
 pub tick-stands :
     (c : Start) (f then : Feeder) (asked asked_then : List Asked) (calls calls_then grows grows_then n : ℕ) (reply : Reply)
     → ((hearings : List Hearing) → length hearings ≡ n → AllKept f.marks hearings → IsFree f hearings) → n ≡ length f.receives.items → IsIssued f
@@ -83,6 +87,7 @@ tick-stands c f then asked asked_then calls calls_then grows grows_then n reply 
         subst (λ (k : ℕ). IsFrom then.plan.items then.issued k) (sym marked) (subst (λ (k : ℕ). IsFrom then.plan.items k f.marked) (sym issued)
         (subst (λ l. IsFrom l f.issued f.marked) (sym (ap (λ v. v.items) plan)) h.stands.from))
 
+-- a turn ends without one
 pub rest-stands :
     (c : Start) (f then : Feeder) (asked : List Asked) (calls grows n : ℕ)
     → ((hearings : List Hearing) → length hearings ≡ n → AllKept f.marks hearings → IsFree f hearings → ⊥) → n ≡ length f.receives.items
@@ -129,6 +134,7 @@ rest-stands c f then asked calls grows n held count clock turns bounds plan send
         subst (λ (k : ℕ). IsFrom then.plan.items then.issued k) (sym marked) (subst (λ (k : ℕ). IsFrom then.plan.items k f.marked) (sym issued)
         (subst (λ l. IsFrom l f.issued f.marked) (sym (ap (λ v. v.items) plan)) h.stands.from))
 
+-- a turn begins
 pub turn-begins : (c : Start) (f : Feeder) (asked : List Asked) (calls grows : ℕ) → Goes c f asked calls grows → InTurn c f asked calls grows 0 0
 turn-begins c f asked calls grows h =
     record {

@@ -1,5 +1,5 @@
 -- What a post's answers to a draft and to its return leave on its trail.
-use Rattle.std.specs.Prelude.{◌≡◌, ℕ, Option, None, Some, List, [], ◌∷◌}
+use Rattle.std.specs.Prelude.{ℕ, Option, None, Some, List, [], ◌∷◌}
 use Rattle.game_trait.specs.declared.event.Event.TheVariants.{Step}
 use Rattle.game_trait.specs.declared.event.Reply.TheVariants.{Step as ToStep}
 use Rattle.game_trait.specs.declared.event.Stepped.TheVariants.{Ran as RanStep}
@@ -18,12 +18,6 @@ abbrev pub draft_in : {W : Type 0} → Drafted W → Option (DraftTick W)
 draft_in (Draft d) = Some d
 draft_in Idle = None
 draft_in (Wide n) = None
-
--- a draft that was answered is of this copy
-abbrev pub IsDraftOf : {W : Type 0} → ℕ → Drafted W → Type 0
-IsDraftOf c (Draft d) = d.copy ≡ c
-IsDraftOf c Idle = Unit {0}
-IsDraftOf c (Wide n) = Unit {0}
 
 -- the mark of what was answered where a draft was asked for
 abbrev pub draft_mark : {W : Type 0} → ℕ → Drafted W → TrailMark

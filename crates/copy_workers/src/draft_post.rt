@@ -12,7 +12,8 @@ use mirror_core::{Committed, Drafted, Ready};
 /// executed.
 pub trait DraftPost<G: Game>: Post {
     ghost use Rattle.sync_model.specs.Drafts.{DraftTick, ready_of};
-    ghost use Rattle.copy_workers.specs.Trail.{draft_in, draft_mark, IsDraftOf, commit_mark, commit_asked};
+    ghost use Rattle.copy_workers.specs.Trail.{draft_in, draft_mark, commit_mark, commit_asked};
+    ghost use Rattle.mirror_core.specs.Drafts.{IfDraft};
 
     /// The draft that the last call answered, and none where it answered none.
     ghost drawn: { Self → Option (DraftTick G) };
@@ -21,7 +22,7 @@ pub trait DraftPost<G: Game>: Post {
     fn draft(&mut self, copy: u8) -> Drafted<G>
         requires takes { Self.takes self.old (Step copy) }
         requires calls { 0 < Self.calls self.old }
-        ensures copy { IsDraftOf copy result }
+        ensures copy { IfDraft result (λ d. d.copy ≡ copy) }
         ensures drawn { drawn self.new ≡ draft_in result }
         ensures trail { Self.trail self.new ≡ Self.trail self.old ++ draft_mark copy result ∷ [] }
         ensures asked { Self.asked self.new ≡ Self.asked self.old }
