@@ -1,0 +1,17 @@
+pub mod Lists
+pub mod MessageLists
+pub mod Arrivals
+pub mod Links
+pub mod Machine
+pub mod TurnEnds
+pub mod Along
+pub mod Issued
+pub mod Hearings
+pub mod Least
+pub mod Standings
+pub mod HearStands
+pub mod TurnStands
+pub mod FeederStarts
+pub mod Contracts
+pub mod Races
+pub mod Copying

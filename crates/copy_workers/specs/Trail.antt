@@ -1,0 +1,36 @@
+-- What a post's answers to a draft and to its return leave on its trail.
+use Rattle.std.specs.Prelude.{ℕ, Option, None, Some, List, [], ◌∷◌}
+use Rattle.game_trait.specs.declared.event.Event.TheVariants.{Step}
+use Rattle.game_trait.specs.declared.event.Reply.TheVariants.{Step as ToStep}
+use Rattle.game_trait.specs.declared.event.Stepped.TheVariants.{Ran as RanStep}
+use Rattle.mirror_core.specs.declared.drafts.Committed.{Committed}
+use Rattle.mirror_core.specs.declared.drafts.Committed.TheVariants.{Ran, Stale}
+use Rattle.mirror_core.specs.declared.drafts.Drafted.{Drafted}
+use Rattle.mirror_core.specs.declared.drafts.Drafted.TheVariants.{Draft, Idle, Wide}
+use Rattle.sync_model.specs.Drafts.{DraftTick}
+use Rattle.copy_workers.specs.declared.post.Asked.{Asked}
+use Rattle.copy_workers.specs.declared.post.TrailMark.{TrailMark}
+use Rattle.copy_workers.specs.declared.post.TrailMark.TheVariants.{Drawn, Idle as IdleMark, Wide as WideMark, Ran as RanMark, Stale as StaleMark}
+use Rattle.copy_workers.specs.Asking.{pair_of}
+
+-- the draft that was answered
+abbrev pub draft_in : {W : Type 0} → Drafted W → Option (DraftTick W)
+draft_in (Draft d) = Some d
+draft_in Idle = None
+draft_in (Wide n) = None
+
+-- the mark of what was answered where a draft was asked for
+abbrev pub draft_mark : {W : Type 0} → ℕ → Drafted W → TrailMark
+draft_mark c (Draft d) = Drawn c
+draft_mark c Idle = IdleMark c
+draft_mark c (Wide n) = WideMark c
+
+-- the mark of what was answered where it was given back
+abbrev pub commit_mark : ℕ → Committed → TrailMark
+commit_mark c (Ran n) = RanMark c
+commit_mark c (Stale held now) = StaleMark c
+
+-- a draft that ran is a step of its copy
+abbrev pub commit_asked : ℕ → Committed → List Asked
+commit_asked c (Ran n) = pair_of (Step c) (ToStep (RanStep n)) ∷ []
+commit_asked c (Stale held now) = []

@@ -1,0 +1,65 @@
+//! The worker of a copy: it runs the copy's ticks, away from the mirror where it can.
+
+ghost use Rattle.std.specs.Prelude.{◌≡◌, ◌+◌, ◌*◌, ◌≤◌, cond};
+ghost use Rattle.game_trait.specs.declared.event.Event.{Event as AnEvent};
+ghost use Rattle.game_trait.specs.declared.event.Event.TheVariants.{Step};
+ghost use Rattle.copy_workers.specs.Copied.{is_ran, IsTurn, CopyEnds};
+
+use crate::copy_job::{CopyEnd, CopyJob};
+use crate::draft_post::DraftPost;
+use crate::gate::Gate;
+use game_trait::{Event, Game, Reply, Stepped, Tick};
+use mirror_core::{Committed, Drafted};
+
+// How many ticks a copy ran by an answer.
+fn runs_by(reply: Reply) -> Tick
+    ensures { result ≡ cond (is_ran reply) 1 0 }
+{
+    match reply {
+        Reply::Step(Stepped::Ran { repaired: _ }) => 1,
+        Reply::Step(Stepped::Idle) => 0,
+        Reply::Tick(_) => 0,
+        Reply::Arrive(_) => 0,
+        Reply::Restaggered => 0,
+    }
+}
+
+// One turn: how many ticks the copy ran in it.
+fn run_turn<G: Game, P: DraftPost<G>>(post: &mut P, copy: u8) -> Tick
+    requires takes { P.takes post.old (Step copy) }
+    requires calls { 2 ≤ P.calls post.old }
+    ensures turn { IsTurn copy result (P.asked post.old) (P.asked post.new)
+        (P.trail post.old) (P.trail post.new) }
+    ensures calls { P.calls post.old ≤ P.calls post.new + 2 }
+    ensures takes { (e : AnEvent) → P.takes post.old e → P.takes post.new e }
+    ensures same { (p : P) → P.same p post.old → P.same p post.new }
+{
+    match post.draft(copy) {
+        Drafted::Idle => 0,
+        Drafted::Wide { commands: _ } => runs_by(post.ask(&Event::Step(copy))),
+        Drafted::Draft(draft) => match post.commit(draft.run()) {
+            Committed::Ran { repaired: _ } => 1,
+            Committed::Stale { held: _, now: _ } => 0,
+        },
+    }
+}
+
+/// Runs one copy of a mirror, turn by turn, until it has run as many ticks as the match has or the budget is spent. Each turn
+/// passes the gate and asks the post for the copy's due tick. A draft is executed away from the mirror and given back; where
+/// the tick has too many commands for one, the copy's step is asked; where no tick is due, nothing is. It takes no memory. It
+/// may wait where the post or the gate does.
+pub fn run_copy<G: Game, P: DraftPost<G>, Q: Gate>(post: &mut P, gate: &Q, job: CopyJob) -> CopyEnd
+    requires takes { P.takes post.old (Step job.copy) }
+    requires calls { 2 * job.budget ≤ P.calls post.old }
+    ensures ends { CopyEnds job result (P.asked post.old) (P.asked post.new)
+        (P.trail post.old) (P.trail post.new) }
+    ensures same { (p : P) → P.same p post.old → P.same p post.new }
+{
+    let mut end = CopyEnd { ran: 0, turns: 0 };
+    'turns: while end.ran < job.length && end.turns < job.budget {
+        gate.pass(job.mirror, job.copy, end.turns);
+        end.ran += run_turn::<G, P>(post, job.copy);
+        end.turns += 1;
+    }
+    end
+}
