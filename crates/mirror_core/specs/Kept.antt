@@ -24,11 +24,6 @@ abbrev pub ticks_of_first : List Schedule → ℕ
 ticks_of_first [] = 0
 ticks_of_first (plan ∷ plans) = plan.length
 
--- the copies of the first plan
-abbrev pub copies_of_first : List Schedule → ℕ
-copies_of_first [] = 0
-copies_of_first (plan ∷ plans) = length plan.delays
-
 -- how much the lists of a mirror may hold
 pub record Room : Type 0 where
   pub accepted : ℕ

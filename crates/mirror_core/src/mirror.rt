@@ -8,7 +8,7 @@ ghost use Rattle.sync_model.specs.Change.{next, said, Fits};
 ghost use Rattle.sync_model.specs.Consistent.{IsConsistent};
 ghost use Rattle.sync_model.specs.History.{HasRoom, repairs as repairs_of};
 ghost use Rattle.sync_model.specs.Turns.{is_drained, drain_bound};
-ghost use Rattle.mirror_core.specs.Kept.{delays_of_each, ticks_of_first, copies_of_first};
+ghost use Rattle.mirror_core.specs.Kept.{delays_of_each, ticks_of_first};
 
 use crate::commands::{place, run_tick};
 use crate::lists::Lists;
@@ -110,15 +110,38 @@ impl<G: Game> Mirror<G> {
         requires few_plans { length plans.now ≤ MOST_PLANS }
         requires equal_ticks { AllByRecursion (λ plan. plan.length ≡ ticks_of_first plans.now)
             plans.now }
-        requires equal_copies { AllByRecursion (λ plan. length plan.delays ≡ copies_of_first plans.now)
-            plans.now }
+        requires one_copy { AllByRecursion (λ plan. length plan.delays ≡ 1) plans.now }
         requires room { room ≤ MOST_ROOM }
         requires restaggers { restaggers ≤ MOST_ROOM }
         ensures { IfOk result (λ m. m
             ≡ opening_state opening.now (ticks_of_first plans.now) (delays_of_each plans.now) room restaggers) }
     {
-        let _ = opening;
-        Err(NoMemory)
+        let ticks = plans[0].length();
+        let length = ticks as usize;
+        let arrivals = room as usize;
+        let lists = Lists::new(
+            alloc,
+            plans,
+            arrivals,
+            length + arrivals,
+            length + greatest(plans) as usize + length + arrivals + restaggers as usize,
+        )?;
+        Ok(Mirror {
+            opening: opening.twin(),
+            ticks,
+            plans: lists.plans,
+            plan: 0,
+            clock: 0,
+            accepted: lists.accepted,
+            turned: lists.turned,
+            history: lists.history,
+            spare: room,
+            plan_spare: restaggers,
+            world: opening.twin(),
+            run: lists.run,
+            run_clock: 0,
+            in_order: lists.in_order,
+        })
     }
 
     /// What always holds of a mirror: it is staggered, its plans are those of a match, and its state is the one that its
