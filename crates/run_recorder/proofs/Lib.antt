@@ -1,0 +1,6 @@
+mod ExactKinds
+mod FaultLaws
+mod NumberedLaws
+mod PrintLaws
+mod TailLaws
+mod WrittenLaws
