@@ -3,4 +3,5 @@ mod FaultLaws
 mod NumberedLaws
 mod PrintLaws
 mod TailLaws
+mod TopLaws
 mod WrittenLaws

@@ -11,7 +11,7 @@ use Rattle.tss_io.specs.Lines.{Lines, as_line, lines_of, words_of}
 use Rattle.tss_io.specs.Results.{◌>>=◌}
 use Rattle.tss_io.specs.Reading.{refused_at}
 use Rattle.tss_io.specs.Forms.{front_at}
-use Rattle.tss_io.specs.Kinds.{step, all_tests, first_failing}
+use Rattle.tss_io.specs.Kinds.{step, all_tests, first_failing, line_at}
 use Rattle.tss_io.specs.Runs.{FirstFault, line_checks, run_to, ended}
 use Rattle.match_file.specs.Data.{MatchData, IsMatch}
 use Rattle.match_file.specs.Reading.{IsFirstAt}
@@ -74,15 +74,27 @@ no_tail = record { stage = Between; logs = []; worlds = []; events = []; left = 
 abbrev pub tail_at : MatchData → ℕ → Lines → Result Tail Refused
 tail_at m n lines = run_to (take m) is_last n no_tail lines >>= ended
 
+-- ---- the first line, and the match
+
+-- the lines behind the first
+abbrev pub head_at : Lines → Result Lines Cause
+head_at lines = line_at lines >>= λ l. if bytes_eq l.0 head_line then Ok l.1 else Err Head
+
+-- how many newlines there are, so how many lines are closed
+abbrev pub newlines : List ℕ → ℕ
+newlines text = count_by (λ b. b == 10) text
+
+-- a record begins with this match; behind it stands this text, whose first line has this number
+pub record IsFront (text : List ℕ) (m : MatchData) (number : ℕ) (rest : List ℕ) : Type 0 where
+  pub sound : IsMatch m
+  pub whole : text ≡ as_line head_line ++ (match_text m ++ rest)
+  pub counted : number ≡ 2 + newlines (match_text m)
+
 -- ---- the first fault of a record
 
 -- the check of the first line
 abbrev pub head_checks : Unit {0} → List ℕ → List (Bool × Cause)
 head_checks _ l = (bytes_eq l head_line, Head) ∷ []
-
--- how many newlines there are, so how many lines are closed
-abbrev pub newlines : List ℕ → ℕ
-newlines text = count_by (λ b. b == 10) text
 
 -- the first line is refused
 abbrev pub IsHeadFault : List ℕ → Refused → Type 0
@@ -105,11 +117,15 @@ pub record IsTailFault (text : List ℕ) (refused : Refused) : Type 0 where
   pub first :
       FirstFault (take game) (checks_of game) is_last (2 + newlines (match_text game)) no_tail (lines_of rest) refused
 
+-- The first line, or the first faulty line of the match, is refused.
+abbrev pub IsFrontFault : List ℕ → TextFault → Type 0
+IsFrontFault text text_faults.NoMemory = Unit {0}
+IsFrontFault text (text_faults.Refused refused) = IsHeadFault text refused ⊎ IsMatchFault text refused
+
 -- The refusal is of the whole text for its length, or of the first faulty line, with that line's first failing check: lines are
 -- counted over the whole record.
 abbrev pub IsFirst : List ℕ → TextFault → Type 0
 IsFirst text text_faults.NoMemory = Unit {0}
 IsFirst text (text_faults.Refused refused) =
     ((LONGEST_RECORD_TEXT < length text) × (refused ≡ refused_at 0 Long))
-    ⊎ ((length text ≤ LONGEST_RECORD_TEXT)
-    × (IsHeadFault text refused ⊎ (IsMatchFault text refused ⊎ IsTailFault text refused)))
+    ⊎ ((length text ≤ LONGEST_RECORD_TEXT) × (IsFrontFault text (text_faults.Refused refused) ⊎ IsTailFault text refused))

@@ -5,9 +5,11 @@ mod block;
 mod log;
 mod printing;
 mod race_record;
+mod reading;
 mod tail;
 
 pub use block::Block;
 pub use log::MirrorLog;
 pub use printing::print_record;
 pub use race_record::RaceRecord;
+pub use reading::read_record;
