@@ -1,6 +1,15 @@
-//! The log of a mirror: the events that changed it. Stands on `game_trait` and `tss_io`.
+//! The log of a mirror, and records: a match, what changed each of its mirrors, and the worlds that these showed.
 #![tactic(auto)]
 
+mod block;
 mod log;
+mod printing;
+mod race_record;
+mod reading;
+mod tail;
 
+pub use block::Block;
 pub use log::MirrorLog;
+pub use printing::print_record;
+pub use race_record::RaceRecord;
+pub use reading::read_record;

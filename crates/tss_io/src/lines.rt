@@ -28,7 +28,7 @@ pub enum LineStep {
 }
 
 /// A walk over a text. It takes no memory.
-#[derive(Debug)]
+#[derive(Debug, Drop)]
 pub struct Lines<'a> {
     text: &'a [u8],
     start: usize,

@@ -1,0 +1,7 @@
+mod ExactKinds
+mod FaultLaws
+mod NumberedLaws
+mod PrintLaws
+mod TailLaws
+mod TopLaws
+mod WrittenLaws

@@ -1,0 +1,57 @@
+-- What printing a record appends.
+use Rattle.std.proofs.Common.{◌≡◌, ℕ, ◌+◌, ◌<◌, ◌≤◌, List, [], ◌∷◌, ◌++◌, map, length, take, refl, sym, ap, ◌∙◌, append_assoc, append-nil, get_or, take_all, arith}
+use Rattle.std.proofs.lemmas.Grind.{flat_map-append, take_at_read}
+use Rattle.game_trait.specs.declared.event.Event.{Event}
+use Rattle.tss_io.specs.Lines.{as_line, lines_text}
+use Rattle.run_recorder.specs.declared.log.MirrorLog.{MirrorLog}
+use Rattle.run_recorder.specs.Text.{event_line, log_line, log_text, blocks_text, mirrors_text}
+
+pub blocks_none : (old : List ℕ) → old ≡ old ++ blocks_text []
+unfolding blocks_text
+blocks_none old = sym (append-nil old)
+
+pub blocks_text-append : (xs ys : List (List ℕ)) → blocks_text (xs ++ ys) ≡ blocks_text xs ++ blocks_text ys
+unfolding blocks_text
+blocks_text-append xs ys = flat_map-append (λ block. block) xs ys
+
+pub one_block : (block : List ℕ) → blocks_text (block ∷ []) ≡ block
+unfolding blocks_text
+one_block block = append-nil block
+
+-- the next block
+pub blocks_next : (xs : List (List ℕ)) (i : ℕ) (d : List ℕ) (old mid new : List ℕ) → i < length xs → mid ≡ old ++ blocks_text (take i xs) → new ≡ mid ++ get_or xs i d → new ≡ old ++ blocks_text (take (i + 1) xs)
+blocks_next xs i d old mid new within so_far next =
+    next ∙ rw (so_far, (take_at_read xs i d within).1, blocks_text-append, one_block (get_or xs i d)) (append_assoc old _ _)
+
+-- a log's first line, and its events
+pub log_puts : (mirror count : ℕ) (events : List Event) (old mid new : List ℕ) → mid ≡ old ++ as_line (log_line mirror count) → new ≡ mid ++ lines_text (map event_line events) → new ≡ old ++ log_text mirror count events
+unfolding lines_text
+log_puts mirror count events old mid new first more = more ∙ rw first (append_assoc old (as_line (log_line mirror count)) (lines_text (map event_line events)))
+
+-- one mirror more
+pub mirrors_text-append : (logs : List MirrorLog) (worlds : List (List (List ℕ))) (log : MirrorLog) (blocks : List (List ℕ)) → length worlds ≡ length logs
+    → mirrors_text (logs ++ log ∷ []) (worlds ++ blocks ∷ []) ≡ mirrors_text logs worlds ++ (log_text log.mirror (length log.events) log.events ++ blocks_text blocks)
+unfolding mirrors_text
+mirrors_text-append [] [] log blocks same = append-nil (log_text log.mirror (length log.events) log.events ++ blocks_text blocks)
+mirrors_text-append [] (ws ∷ worlds) log blocks same = absurd (omega arith)
+mirrors_text-append (l ∷ logs) [] log blocks same = absurd (omega arith)
+mirrors_text-append (l ∷ logs) (ws ∷ worlds) log blocks same =
+    ap (λ (t : List ℕ). (log_text l.mirror (length l.events) l.events ++ blocks_text ws) ++ t) (mirrors_text-append logs worlds log blocks (omega arith))
+    ∙ sym (append_assoc (log_text l.mirror (length l.events) l.events ++ blocks_text ws) _ _)
+
+-- the mirrors from this one on
+pub mirrors_on : (logs more : List MirrorLog) (worlds others : List (List (List ℕ))) (log : MirrorLog) (blocks : List (List ℕ)) (old new all : List ℕ) → logs ≡ log ∷ more → worlds ≡ blocks ∷ others
+    → new ≡ old ++ (log_text log.mirror (length log.events) log.events ++ blocks_text blocks) → old ++ mirrors_text logs worlds ≡ all → new ++ mirrors_text more others ≡ all
+unfolding mirrors_text
+mirrors_on logs more worlds others log blocks old new all some stated put so_far =
+    rw put (append_assoc old (log_text log.mirror (length log.events) log.events ++ blocks_text blocks) (mirrors_text more others)) ∙ rw (some, stated) at so_far
+
+pub mirrors_end : (logs : List MirrorLog) (worlds : List (List (List ℕ))) (old all : List ℕ) → length logs ≡ 0 → old ++ mirrors_text logs worlds ≡ all → old ≡ all
+unfolding mirrors_text
+mirrors_end [] worlds old all none so_far = sym (append-nil old) ∙ so_far
+mirrors_end (log ∷ logs) worlds old all none so_far = absurd (omega arith)
+
+pub worlds_end : (logs more : List MirrorLog) (worlds : List (List (List ℕ))) (log : MirrorLog) (old all : List ℕ) → logs ≡ log ∷ more → length worlds ≡ 0 → old ++ mirrors_text logs worlds ≡ all → old ≡ all
+unfolding mirrors_text
+worlds_end logs more [] log old all some none so_far = sym (append-nil old) ∙ rw some at so_far
+worlds_end logs more (blocks ∷ worlds) log old all some none so_far = absurd (omega arith)

@@ -1,0 +1,131 @@
+-- Reading a record: its lines one after another, every check of each line, and the first fault.
+use Rattle.std.specs.Prelude.{◌≡◌, ◌⊎◌, ◌<◌, ◌≤◌, ℕ, ◌+◌, ◌==◌, Bool, false, List, [], ◌∷◌, ◌++◌, count_by, length, Result, Ok, Err, Some, if◌then◌else◌, bytes_eq, codes}
+use Rattle.game_trait.specs.declared.event.Event.TheVariants.{Tick}
+use Rattle.game_trait.specs.declared.limits.TheConstants.{LONGEST_RECORD_TEXT}
+use Rattle.tss_io.specs.declared.cause.Cause.{Cause}
+use Rattle.tss_io.specs.declared.cause.Cause.TheVariants.{Head, Shape, Long}
+use Rattle.tss_io.specs.declared.fault.Refused.{Refused}
+use Rattle.tss_io.specs.declared.fault.TextFault.{TextFault}
+use Rattle.tss_io.specs.declared.fault.TextFault.TheVariants as text_faults
+use Rattle.tss_io.specs.Lines.{Lines, as_line, lines_of, words_of}
+use Rattle.tss_io.specs.Results.{◌>>=◌}
+use Rattle.tss_io.specs.Reading.{refused_at}
+use Rattle.tss_io.specs.Forms.{front_at}
+use Rattle.tss_io.specs.Kinds.{step, all_tests, first_failing, line_at}
+use Rattle.tss_io.specs.Runs.{FirstFault, line_checks, run_to, ended}
+use Rattle.match_file.specs.Data.{MatchData, IsMatch}
+use Rattle.match_file.specs.Reading.{IsFirstAt}
+use Rattle.match_file.specs.Text.{match_text}
+use Rattle.run_recorder.specs.declared.tail.Stage.TheVariants.{Between, Ended}
+use Rattle.run_recorder.specs.declared.tail.Tail.{Tail}
+use Rattle.run_recorder.specs.Kinds.{is_ended, is_in_world, is_event_due, is_end_due, closed, with_event, log_kind, arrive_kind, step_kind, restagger_kind, world_kind}
+use Rattle.run_recorder.specs.Text.{head_line, is_block_line}
+
+-- ---- a line behind the match
+
+-- the line of the kind that its first word names
+unfoldable pub by_word : MatchData → Tail → List ℕ → List (List ℕ) → Result Tail Cause
+by_word m t word words =
+    if bytes_eq word (codes "arrive") then step (arrive_kind m) t words
+    else (if bytes_eq word (codes "step") then step (step_kind m) t words
+    else (if bytes_eq word (codes "world") then step (world_kind m) t words
+    else (if bytes_eq word (codes "log") then step (log_kind m) t words
+    else (if bytes_eq word (codes "restagger") then step (restagger_kind m) t words
+    else Err Shape))))
+
+-- a line behind the match
+unfoldable pub take : MatchData → Tail → List ℕ → Result Tail Cause
+take m t l =
+    if bytes_eq l (codes "tick") then (if is_event_due t then Ok (with_event t Tick) else Err Shape)
+    else (if bytes_eq l (codes "done") then (if is_end_due m t then Ok (record (closed t) { stage = Ended }) else Err Shape)
+    else (if is_block_line l then (if is_in_world t.stage then Ok (record t { block = t.block ++ as_line l }) else Err Shape)
+    else (front_at (words_of l) >>= λ front. by_word m t front.0 front.1)))
+
+abbrev pub is_last : Tail → Bool
+is_last t = is_ended t.stage
+
+-- every check of a line whose first word is this, in their order
+abbrev pub word_checks : MatchData → Tail → List ℕ → List (List ℕ) → List (Bool × Cause)
+word_checks m t word words =
+    if bytes_eq word (codes "arrive") then all_tests (arrive_kind m) t words
+    else (if bytes_eq word (codes "step") then all_tests (step_kind m) t words
+    else (if bytes_eq word (codes "world") then all_tests (world_kind m) t words
+    else (if bytes_eq word (codes "log") then all_tests (log_kind m) t words
+    else (if bytes_eq word (codes "restagger") then all_tests (restagger_kind m) t words
+    else (false, Shape) ∷ []))))
+
+abbrev pub behind_checks : MatchData → Tail → Result (List ℕ × List (List ℕ)) Cause → List (Bool × Cause)
+behind_checks m t (Ok front) = word_checks m t front.0 front.1
+behind_checks m t (Err cause) = (false, Shape) ∷ []
+
+-- every check of a line behind the match, in their order
+abbrev pub checks_of : MatchData → Tail → List ℕ → List (Bool × Cause)
+checks_of m t l =
+    if bytes_eq l (codes "tick") then (is_event_due t, Shape) ∷ []
+    else (if bytes_eq l (codes "done") then (is_end_due m t, Shape) ∷ []
+    else (if is_block_line l then (is_in_world t.stage, Shape) ∷ []
+    else behind_checks m t (front_at (words_of l))))
+
+-- no line was read yet
+abbrev pub no_tail : Tail
+no_tail = record { stage = Between; logs = []; worlds = []; events = []; left = 0; blocks = []; block = [] }
+
+-- the lines behind the match, of which the first has this number, with nothing behind them
+abbrev pub tail_at : MatchData → ℕ → Lines → Result Tail Refused
+tail_at m n lines = run_to (take m) is_last n no_tail lines >>= ended
+
+-- ---- the first line, and the match
+
+-- the lines behind the first
+abbrev pub head_at : Lines → Result Lines Cause
+head_at lines = line_at lines >>= λ l. if bytes_eq l.0 head_line then Ok l.1 else Err Head
+
+-- how many newlines there are, so how many lines are closed
+abbrev pub newlines : List ℕ → ℕ
+newlines text = count_by (λ b. b == 10) text
+
+-- a record begins with this match; behind it stands this text, whose first line has this number
+pub record IsFront (text : List ℕ) (m : MatchData) (number : ℕ) (rest : List ℕ) : Type 0 where
+  pub sound : IsMatch m
+  pub whole : text ≡ as_line head_line ++ (match_text m ++ rest)
+  pub counted : number ≡ 2 + newlines (match_text m)
+
+-- ---- the first fault of a record
+
+-- the check of the first line
+abbrev pub head_checks : Unit {0} → List ℕ → List (Bool × Cause)
+head_checks _ l = (bytes_eq l head_line, Head) ∷ []
+
+-- the first line is refused
+abbrev pub IsHeadFault : List ℕ → Refused → Type 0
+IsHeadFault text refused =
+    (refused.line ≡ 1) × (first_failing (line_checks head_checks (λ _. false) tt (lines_of text)) ≡ Some refused.cause)
+
+-- No match stands behind the first line, and its first faulty line is refused.
+pub record IsMatchFault (text : List ℕ) (refused : Refused) : Type 0 where
+  pub rest : List ℕ
+  pub head : text ≡ as_line head_line ++ rest
+  pub no_match : (m : MatchData) (behind : List ℕ) → IsMatch m → rest ≡ match_text m ++ behind → ⊥
+  pub first : IsFirstAt 2 rest (text_faults.Refused refused)
+
+-- The first faulty line behind the match is refused.
+pub record IsTailFault (text : List ℕ) (refused : Refused) : Type 0 where
+  pub game : MatchData
+  pub rest : List ℕ
+  pub sound : IsMatch game
+  pub front : text ≡ as_line head_line ++ (match_text game ++ rest)
+  pub first :
+      FirstFault (take game) (checks_of game) is_last (2 + newlines (match_text game)) no_tail (lines_of rest) refused
+
+-- The first line, or the first faulty line of the match, is refused.
+abbrev pub IsFrontFault : List ℕ → TextFault → Type 0
+IsFrontFault text text_faults.NoMemory = Unit {0}
+IsFrontFault text (text_faults.Refused refused) = IsHeadFault text refused ⊎ IsMatchFault text refused
+
+-- The refusal is of the whole text for its length, or of the first faulty line, with that line's first failing check: lines are
+-- counted over the whole record.
+abbrev pub IsFirst : List ℕ → TextFault → Type 0
+IsFirst text text_faults.NoMemory = Unit {0}
+IsFirst text (text_faults.Refused refused) =
+    ((LONGEST_RECORD_TEXT < length text) × (refused ≡ refused_at 0 Long))
+    ⊎ ((length text ≤ LONGEST_RECORD_TEXT) × (IsFrontFault text (text_faults.Refused refused) ⊎ IsTailFault text refused))

@@ -1,0 +1,70 @@
+-- The text of a record, line by line.
+use Rattle.std.specs.Prelude.{ℕ, Bool, ◌&&◌, ◌||◌, List, [], ◌∷◌, ◌++◌, flat_map, length, map, Result, Ok, Err, bytes_eq, codes, decimal}
+use Rattle.std.specs.List.{list_all}
+use Rattle.game_trait.specs.declared.event.Event.{Event}
+use Rattle.game_trait.specs.declared.event.Event.TheVariants.{Tick, Arrive, Step, Restagger}
+use Rattle.tss_io.specs.declared.cause.Cause.{Cause}
+use Rattle.tss_io.specs.Forms.{is_word, front_at}
+use Rattle.tss_io.specs.Lines.{as_line, spaced, words_of, lines_text}
+use Rattle.match_file.specs.Text.{match_text}
+use Rattle.run_recorder.specs.declared.log.MirrorLog.{MirrorLog}
+use Rattle.run_recorder.specs.declared.race_record.RaceRecord.{RaceRecord}
+
+-- the first line
+abbrev pub head_line : List ℕ
+head_line = codes "tss record 1"
+
+-- the last line
+abbrev pub last_line : List ℕ
+last_line = codes "done"
+
+-- the line of a log's event
+abbrev pub event_line : Event → List ℕ
+event_line Tick = codes "tick"
+event_line (Arrive x) = spaced (codes "arrive" ∷ decimal x.from ∷ decimal x.number ∷ [])
+event_line (Step copy) = spaced (codes "step" ∷ decimal copy ∷ [])
+event_line (Restagger plan) = spaced (codes "restagger" ∷ decimal plan ∷ [])
+
+-- the line that opens a log: its mirror, and how many events it has
+abbrev pub log_line : ℕ → ℕ → List ℕ
+log_line mirror count = spaced (codes "log" ∷ decimal mirror ∷ decimal count ∷ [])
+
+-- the line that opens the block of a copy: its mirror, its number, and its clock
+abbrev pub world_line : ℕ → ℕ → ℕ → List ℕ
+world_line mirror copy time = spaced (codes "world" ∷ decimal mirror ∷ decimal copy ∷ decimal time ∷ [])
+
+-- the first word of a line, or the line where it is one word alone
+abbrev pub first_of : List ℕ → Result (List ℕ × List (List ℕ)) Cause → List ℕ
+first_of l (Ok front) = front.0
+first_of l (Err cause) = l
+
+abbrev pub first_word : List ℕ → List ℕ
+first_word l = first_of l (front_at (words_of l))
+
+-- a word that opens a line of a block
+abbrev pub is_shown : List ℕ → Bool
+is_shown word = bytes_eq word (codes "live") || (bytes_eq word (codes "dead") || (bytes_eq word (codes "shot") || bytes_eq word (codes "item")))
+
+-- a line of a block, behind its head
+unfoldable pub is_block_line : List ℕ → Bool
+is_block_line l = is_shown (first_word l) && list_all is_word (words_of l)
+
+-- blocks, one after another
+unfoldable pub blocks_text : List (List ℕ) → List ℕ
+blocks_text blocks = flat_map (λ block. block) blocks
+
+-- a mirror's log
+abbrev pub log_text : ℕ → ℕ → List Event → List ℕ
+log_text mirror count events = lines_text (log_line mirror count ∷ map event_line events)
+
+-- the log of each mirror, and behind it the blocks of its copies
+unfoldable pub mirrors_text : List MirrorLog → List (List (List ℕ)) → List ℕ
+mirrors_text [] worlds = []
+mirrors_text (log ∷ logs) [] = []
+mirrors_text (log ∷ logs) (blocks ∷ worlds) =
+    (log_text log.mirror (length log.events) log.events ++ blocks_text blocks) ++ mirrors_text logs worlds
+
+-- the one text of a record
+abbrev pub record_text : RaceRecord → List ℕ
+record_text r =
+    as_line head_line ++ (match_text r.game ++ (mirrors_text r.logs r.worlds ++ as_line last_line))
