@@ -1,0 +1,2 @@
+mod AuditLaws
+mod WalkLaws

@@ -1,0 +1,10 @@
+use Rattle.std.proofs.Common.{◌≡◌, ◌+◌, ◌≤◌, drop}
+use Rattle.game_trait.specs.Count.{times}
+use Rattle.game_trait.specs.Events.{is_restagger}
+use Rattle.run_auditor.proofs.walk.restaggers.Given as goal
+
+abbrev pub invariant-loop-event : goal.invariant-loop-event
+invariant-loop-event l = record {
+  counted : l.count + times is_restagger (drop l.event-index l.events) ≡ times is_restagger l.events;
+  few : l.count ≤ l.event-index;
+}

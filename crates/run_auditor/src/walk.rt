@@ -1,0 +1,175 @@
+//! A walk along a log.
+
+ghost use Rattle.std.specs.Prelude.{◌≡◌, ◌≤◌, ◌<◌, ◌+◌, ◌++◌, List, length, map, take, IfOk, IfSome, IfNone};
+ghost use Rattle.std.specs.List.{AllByRecursion};
+ghost use Rattle.game_trait.specs.declared.limits.TheConstants.{MOST_ROOM};
+ghost use Rattle.game_trait.specs.Count.{times};
+ghost use Rattle.game_trait.specs.Events.{is_arrival, is_restagger};
+ghost use Rattle.match_file.specs.Data.{IsMatch, schedule_of};
+ghost use Rattle.run_recorder.specs.Data.{IsEventOf};
+ghost use Rattle.run_auditor.specs.Walks.{schedules, walk_of, told_next, moved_on};
+
+use crate::why::{Why, why_of};
+use game_trait::{Event, Game, MirrorId, Note};
+use match_file::Match;
+use mirror_core::Mirror;
+use run_recorder::MirrorLog;
+use stagger_clock::Stagger;
+use std::alloc::Global;
+use std::marker::Model;
+use tss_io::NoMemory;
+
+/// What a walk tells of the next event.
+#[derive(Clone, Copy, Debug, PartialEq, Eq)]
+pub enum Walked {
+    /// It changed the mirror: the mirror's number, the event, and the answer.
+    Note(Note),
+    /// All events of the log are made.
+    End,
+    /// It changes nothing.
+    Stuck {
+        /// Its place in the log, from 0.
+        place: u32,
+        /// Why nothing changes.
+        why: Why,
+    },
+}
+
+/// A walk along a log: each of its events is made on a mirror of the walk's own. Contracts see the mirror, whose history is what
+/// was made, and the events that are left.
+#[derive(Drop)]
+pub struct LogWalk<'a, G: Game> {
+    number: MirrorId,
+    mirror: Mirror<G>,
+    left: &'a [Event],
+}
+
+impl<'a, G: Game> Model for LogWalk<'a, G> {
+    ghost use Rattle.run_auditor.specs.Walks.{Walk, IsWalk};
+
+    ghost Value = { Walk G };
+
+    ghost view = { λ w. record { number = w.number; mirror = w.mirror; left = w.left.now } };
+
+    ghost invariant = { λ w. IsWalk w.mirror w.left.now };
+}
+
+// The plans of a match, plan 0 first.
+fn plans(alloc: Global, m: &Match) -> Result<Vec<Stagger>, NoMemory>
+    ensures plans { IfOk result (λ plans. plans.items ≡ schedules m.now) }
+    ensures sound { IfOk result (λ _. IsMatch m.now) }
+{
+    let mut plans = Vec::new(alloc);
+    plans.push(Stagger::new(m.delays.as_slice(), m.length))?;
+    for delays in m.plans.as_slice() {
+        plans.push(Stagger::new(delays.as_slice(), m.length))?;
+    }
+    Ok(plans)
+}
+
+fn is_arrival(event: &Event) -> bool
+    ensures { result ≡ is_arrival event.now }
+{
+    match event {
+        Event::Arrive(_) => true,
+        Event::Tick | Event::Step(_) | Event::Restagger(_) => false,
+    }
+}
+
+fn is_restagger(event: &Event) -> bool
+    ensures { result ≡ is_restagger event.now }
+{
+    match event {
+        Event::Restagger(_) => true,
+        Event::Tick | Event::Step(_) | Event::Arrive(_) => false,
+    }
+}
+
+// How many of the events are arrivals.
+#[tactic(auto, unfolding(game_trait::specs::Count::times))]
+fn arrivals(events: &[Event]) -> u32
+    requires { length events.now ≤ MOST_ROOM }
+    ensures count { result ≡ times is_arrival events.now }
+    ensures few { result ≤ MOST_ROOM }
+{
+    let mut count = 0;
+    for event in events {
+        count += u32::from(is_arrival(event));
+    }
+    count
+}
+
+// How many of the events put another plan of delays in force.
+#[tactic(auto, unfolding(game_trait::specs::Count::times))]
+fn restaggers(events: &[Event]) -> u32
+    requires { length events.now ≤ MOST_ROOM }
+    ensures count { result ≡ times is_restagger events.now }
+    ensures few { result ≤ MOST_ROOM }
+{
+    let mut count = 0;
+    for event in events {
+        count += u32::from(is_restagger(event));
+    }
+    count
+}
+
+impl<'a, G: Game> LogWalk<'a, G> {
+    /// A walk along the log, of at most 1,048,576 events, each of which names a command, a copy or a plan that the match has; the
+    /// mirror begins with a twin of `opening`. It takes all the memory that the walk needs. Want of memory makes nothing.
+    pub fn new(
+        alloc: Global,
+        m: &Match,
+        opening: &G,
+        log: &'a MirrorLog,
+    ) -> Result<LogWalk<'a, G>, NoMemory>
+        requires few { length log.now.events ≤ MOST_ROOM }
+        requires events { AllByRecursion (IsEventOf m.now) log.now.events }
+        ensures { IfOk result (λ w. w ≡ walk_of opening.now m.now log.now.mirror log.now.events) }
+    {
+        let plans = plans(alloc, m)?;
+        let events = log.events.as_slice();
+        let mirror = Mirror::new(
+            alloc,
+            opening,
+            plans.as_slice(),
+            arrivals(events),
+            restaggers(events),
+        )?;
+        Ok(LogWalk {
+            number: log.mirror,
+            mirror,
+            left: events,
+        })
+    }
+
+    /// Makes the next event. Where it changes the mirror the walk goes on behind it; else the walk stays, and tells the same from
+    /// then on. It takes no memory.
+    pub fn next(&mut self) -> Walked
+        ensures told { result ≡ told_next self.old self.old.left }
+        ensures state { self.new ≡ moved_on self.old self.old.left }
+    {
+        let Some((event, rest)) = self.left.split_first() else {
+            return Walked::End;
+        };
+        let place = self.mirror.events().len() as u32;
+        let reply = self.mirror.make(event);
+        match why_of(reply) {
+            Some(why) => Walked::Stuck { place, why },
+            None => {
+                self.left = rest;
+                Walked::Note(Note {
+                    mirror: self.number,
+                    event: *event,
+                    reply,
+                })
+            }
+        }
+    }
+
+    /// The mirror as it stands.
+    pub fn mirror(&self) -> &Mirror<G>
+        ensures { result.now ≡ self.now.mirror }
+    {
+        &self.mirror
+    }
+}
