@@ -1,173 +1,103 @@
--- The state and the answer of each call, in terms of what a mirror of one copy holds.
-use Rattle.std.proofs.Common.{◌≡◌, ◌∙◌, ap, sym, subst, ℕ, zero, suc, ◌+◌, ◌-◌, ◌≤◌, ◌<◌, true, false, List, [], ◌∷◌, ◌++◌, length, map, get_or, arith, eqb}
+-- The tests that a mirror makes, as the model's.
+use Rattle.std.proofs.Common.{◌≡◌, refl, ◌∙◌, ap, sym, ℕ, zero, suc, ◌+◌, ◌-◌, ◌^◌, ◌≤◌, ◌<◌, Bool, true, false, cond, eqb, List, [], ◌∷◌, ◌++◌, length, arith}
+use Rattle.std.proofs.lemmas.Bool.{lt-ltb, le-ltb}
 use Rattle.std.proofs.lemmas.Bool.Decides.{nat_tests}
-use Rattle.std.specs.List.{list_any, filter}
+use Rattle.std.proofs.lemmas.List.Folds.{list_any-append}
+use Rattle.std.specs.List.{AllByRecursion, list_all}
+use Rattle.std.specs.Prelude.{◌||◌}
+use Rattle.sync_model.specs.Lists.{last_of}
+use Rattle.sync_model.specs.Staggered.{IsChained}
 use Rattle.game_trait.specs.declared.command.Command.{Command}
-use Rattle.game_trait.specs.declared.command.Item.TheVariants.{Cmd, Beat}
-use Rattle.game_trait.specs.declared.event.Event.TheVariants.{Tick, Arrive, Step, Restagger}
-use Rattle.game_trait.specs.declared.event.Reply.TheVariants.{Tick as ToTick, Arrive as ToArrive, Step as ToStep, Restaggered}
-use Rattle.game_trait.specs.declared.event.Ticked.TheVariants.{Moved, Over}
-use Rattle.game_trait.specs.declared.event.Arrived.TheVariants.{Taken, Repeat, Late}
-use Rattle.game_trait.specs.declared.event.Stepped.TheVariants.{Ran, Idle}
-use Rattle.game_trait.specs.Game.{Rules}
-use Rattle.game_trait.specs.Run.{beats, world_of}
-use Rattle.game_trait.specs.Keys.{KeysRise, same_name, in_key_order}
-use Rattle.game_trait.specs.Count.{times}
-use Rattle.game_trait.specs.Ordered.{tick_of}
-use Rattle.game_trait.proofs.Counts.{times-in_key_order}
-use Rattle.game_trait.proofs.KeyOrder.{KeysRise-in_key_order, all-in_key_order}
-use Rattle.game_trait.proofs.Places.{due_at-filter, new_name, no_name}
-use Rattle.game_trait.proofs.Lengths.{times-from, length-in_key_order}
-use Rattle.sync_model.specs.Schedule.{limit_at, is_at_end, longest_delay}
-use Rattle.sync_model.specs.State.{step_limit, last_clock, schedule_of}
-use Rattle.sync_model.specs.Change.{next, said, is_late, is_idle}
-use Rattle.sync_model.proofs.Staggered.{greatest-most}
-use Rattle.mirror_core.specs.Kept.{Parts, shown, IsKept, delays_of_each}
+use Rattle.game_trait.specs.declared.command.Item.{Item}
+use Rattle.game_trait.specs.Run.{beats}
+use Rattle.game_trait.specs.Keys.{is_named}
+use Rattle.game_trait.specs.CommandList.{has_command, same_pair}
+use Rattle.sync_model.specs.Schedule.{Schedule, limit_at}
+use Rattle.sync_model.specs.State.{MirrorState, schedule_of, copy_clock, last_clock, step_limit}
+use Rattle.sync_model.specs.Change.{is_over, is_late, is_idle}
+use Rattle.sync_model.specs.Turns.{is_drained}
+use Rattle.sync_model.proofs.Staggered.{greatest-most, below_limit}
+use Rattle.sync_model.proofs.Trailing.{IsBehindAhead}
+use Rattle.mirror_core.specs.Kept.{Room, IsKept}
 use Rattle.mirror_core.proofs.PlanLaws.{greatest-short, ticks-few}
-use Rattle.mirror_core.proofs.Kept.{refused, before_end, kept_ran}
-use Rattle.mirror_core.proofs.OneCopy.{restagger_one, tick_over, tick_moved, arrive_repeat, arrive_late, arrive_taken, step_idle, step_ran, last_clock-one, with_command, with_one_tick}
+use Rattle.mirror_core.proofs.Clocks.{last_clock-at, drained-last}
+use Rattle.mirror_core.proofs.Kept.{some-copies, before-end}
 
-module _ {W : Type 0} {rules : Rules W} {m : Parts W} (h : IsKept rules m) where
+-- one command more is found by its name, and the others as before
+pub has-push : (xs : List Command) (x : Command) (from number : ℕ) → has_command (xs ++ x ∷ []) from number ≡ cond (same_pair (x.from, x.number) (from, number)) true (has_command xs from number)
+has-push xs x from number = list_any-append (is_named from number) xs (x ∷ []) ∙ either (has_command xs from number)
+  where
+    either : (b : Bool) → (b || (is_named from number x || false)) ≡ cond (same_pair (x.from, x.number) (from, number)) true b
+    either b = grind (arith, nat_tests)
+
+module _ {W : Type 0} {s : MirrorState W} {plans : List Schedule} {is_taken : ℕ × ℕ → Bool} {repairs_now : ℕ} {room : Room} (h : IsKept s plans is_taken repairs_now room) where
   -- a tick
-  pub clock_fits : m.clock ≤ 9216
-  clock_fits =
+  pub clock-fits : s.clock ≤ 9216
+  clock-fits =
       let upto = h.consistent.staggered.in_bounds.before_end in
-      let few = ticks-few (delays_of_each m.plans) m.ticks 1 h.consistent.well_formed.plans in
-      let short = greatest-short (delays_of_each m.plans) m.ticks h.consistent.well_formed.plans.schedules in
+      let few = ticks-few s.plans s.length (length s.runs) h.consistent.well_formed.plans in
+      let short = greatest-short s.plans s.length h.consistent.well_formed.plans.schedules in
       omega arith
 
-  pub over_state : is_at_end (schedule_of (shown m)) m.clock ≡ true → shown m ≡ next (shown m) Tick
-  over_state over = sym (tick_over (shown m) over).0
-
-  pub over_answer : is_at_end (schedule_of (shown m)) m.clock ≡ true → said (shown m) Tick ≡ ToTick Over
-  over_answer over = (tick_over (shown m) over).1
-
-  pub moved_fits : is_at_end (schedule_of (shown m)) m.clock ≡ false → length m.history < m.room.history
-  moved_fits more =
-      let before : m.clock < m.ticks + longest_delay (get_or (delays_of_each m.plans) m.plan []) = grind (arith, nat_tests) in
-      let most = greatest-most (delays_of_each m.plans) m.plan in
+  pub note-moved : is_over s ≡ false → length s.history < room.history
+  note-moved more =
+      let before = before-end h more in
+      let most = greatest-most s.plans s.plan in
       let left = h.room_left.to_note in
       omega arith
 
-  pub moved_state : is_at_end (schedule_of (shown m)) m.clock ≡ false → shown (record m { clock = m.clock + 1; history = m.history ++ Tick ∷ [] }) ≡ next (shown m) Tick
-  moved_state more = sym (tick_moved (shown m) more).0
-
-  pub moved_answer : is_at_end (schedule_of (shown m)) m.clock ≡ false → said (shown m) Tick ≡ ToTick Moved
-  moved_answer more = (tick_moved (shown m) more).1
-
   -- an arrival
-  pub late_at : (x : Command) → x.time < m.run_clock → is_late (shown m) x ≡ true
-  late_at x late = (let clock = h.clock_of_run in let last = last_clock-one m in grind (arith, nat_tests))
+  pub late-at : (x : Command) (bound : ℕ) → bound ≡ last_clock s.runs → x.time < bound → is_late s x ≡ true
+  late-at x bound is late = lt-ltb x.time (last_clock s.runs) (omega arith)
 
-  pub on_time : (x : Command) → m.run_clock ≤ x.time → is_late (shown m) x ≡ false
-  on_time x due = (let clock = h.clock_of_run in let last = last_clock-one m in grind (arith, nat_tests))
+  pub on-time : (x : Command) (bound : ℕ) → bound ≡ last_clock s.runs → bound ≤ x.time → is_late s x ≡ false
+  on-time x bound is due = le-ltb x.time (last_clock s.runs) (omega arith)
 
-  pub repeat_state : (x : Command) → list_any (same_name x) m.accepted ≡ true → shown m ≡ next (shown m) (Arrive x)
-  repeat_state x again = sym (arrive_repeat (shown m) x again).0
-
-  pub repeat_answer : (x : Command) → list_any (same_name x) m.accepted ≡ true → said (shown m) (Arrive x) ≡ ToArrive Repeat
-  repeat_answer x again = (arrive_repeat (shown m) x again).1
-
-  last_is : last_clock (shown m).runs ≡ m.run_clock
-  last_is = last_clock-one m ∙ sym h.clock_of_run
-
-  pub late_state :
-      (x : Command) → list_any (same_name x) m.accepted ≡ false → x.time < m.run_clock
-      → shown (record m { turned = m.turned ++ refused m x ∷ []; history = m.history ++ Arrive x ∷ []; spare = m.spare - 1 }) ≡ next (shown m) (Arrive x)
-  late_state x new late =
-      ap (λ (n : ℕ). shown (record m { turned = m.turned ++ record { from = x.from; number = x.number; bound = n } ∷ []; history = m.history ++ Arrive x ∷ []; spare = m.spare - 1 })) (sym last_is)
-      ∙ sym (arrive_late (shown m) x new (late_at x late)).0
-
-  pub late_answer :
-      (x : Command) → list_any (same_name x) m.accepted ≡ false → x.time < m.run_clock
-      → said (shown m) (Arrive x) ≡ ToArrive (Late m.run_clock)
-  late_answer x new late = (arrive_late (shown m) x new (late_at x late)).1 ∙ ap (λ (n : ℕ). ToArrive (Late n)) last_is
-
-  pub taken_state :
-      (x : Command) → list_any (same_name x) m.accepted ≡ false → m.run_clock ≤ x.time
-      → shown (with_command m x) ≡ next (shown m) (Arrive x)
-  taken_state x new due = sym (arrive_taken m x new (on_time x due)).0
-
-  pub taken_answer :
-      (x : Command) → list_any (same_name x) m.accepted ≡ false → m.run_clock ≤ x.time
-      → said (shown m) (Arrive x) ≡ ToArrive (Taken 0)
-  taken_answer x new due = (arrive_taken m x new (on_time x due)).1
-
-  pub in_order_rises : KeysRise m.in_order
-  in_order_rises = subst KeysRise (sym h.key_order) (KeysRise-in_key_order m.accepted h.consistent.staggered.in_bounds.names)
-
-  pub new_in_order : (x : Command) → list_any (same_name x) m.accepted ≡ false → list_any (same_name x) m.in_order ≡ false
-  new_in_order x new =
-      ap (list_any (same_name x)) h.key_order
-      ∙ no_name (in_key_order m.accepted) x (all-in_key_order (λ y. same_name x y ≡ false) m.accepted (new_name m.accepted x new))
-
-  pub place_fits : 0 < m.spare → length m.in_order < m.room.in_order
-  place_fits spare = (let left = h.room_left.to_place in let same = ap (λ (xs : List Command). length xs) h.key_order ∙ length-in_key_order m.accepted in omega arith)
-
-  -- a step
-  idle_test : (copy : ℕ) → copy < 1 → limit_at (schedule_of (shown m)) copy m.clock 0 ≤ m.run_clock → is_idle (shown m) copy ≡ true
-  unfolding limit_at step_limit
-  idle_test zero there idle = (let clock = h.clock_of_run in grind (arith, nat_tests))
-  idle_test (suc copy) there idle = absurd (omega arith)
-
-  pub idle_state : (copy : ℕ) → copy < 1 → limit_at (schedule_of (shown m)) copy m.clock 0 ≤ m.run_clock → shown m ≡ next (shown m) (Step copy)
-  idle_state copy there idle = sym (step_idle (shown m) copy (idle_test copy there idle)).0
-
-  pub idle_answer : (copy : ℕ) → copy < 1 → limit_at (schedule_of (shown m)) copy m.clock 0 ≤ m.run_clock → said (shown m) (Step copy) ≡ ToStep Idle
-  idle_answer copy there idle = (step_idle (shown m) copy (idle_test copy there idle)).1
-
-  pub runs_on : (copy : ℕ) → copy < 1 → m.run_clock < limit_at (schedule_of (shown m)) copy m.clock 0 → is_idle (shown m) 0 ≡ false
-  unfolding limit_at step_limit
-  runs_on zero there more = (let clock = h.clock_of_run in grind (arith, nat_tests))
-  runs_on (suc copy) there more = absurd (omega arith)
-
-  pub ran_state :
-      (copy : ℕ) → copy < 1 → is_idle (shown m) 0 ≡ false
-      → shown (record (with_one_tick m) { history = m.history ++ Step copy ∷ [] }) ≡ next (shown m) (Step copy)
-  ran_state zero there more = sym (step_ran m more).0
-  ran_state (suc copy) there more = absurd (omega arith)
-
-  pub ran_answer : (copy : ℕ) → copy < 1 → is_idle (shown m) 0 ≡ false → said (shown m) (Step copy) ≡ ToStep (Ran 0)
-  ran_answer zero there more = (step_ran m more).1
-  ran_answer (suc copy) there more = absurd (omega arith)
-
-  -- what the accepted commands in key order give at the run's clock
-  pub due_now : map Cmd (filter (λ x. eqb x.time m.run_clock) m.in_order) ++ Beat ∷ [] ≡ tick_of m.accepted (beats m.run)
-  due_now =
-      ap (λ (xs : List Command). map Cmd (filter (λ x. eqb x.time m.run_clock) xs) ++ Beat ∷ []) h.key_order
-      ∙ ap (λ (t : ℕ). map Cmd (filter (λ x. eqb x.time t) (in_key_order m.accepted)) ++ Beat ∷ []) h.clock_of_run
-      ∙ ap (λ (xs : List Command). map Cmd xs ++ Beat ∷ []) (due_at-filter m.accepted (beats m.run) h.consistent.staggered.in_bounds.names)
-
-  pub due_fits : is_idle (shown m) 0 ≡ false → length m.run + times (λ x. eqb x.time m.run_clock) m.in_order < m.room.run
-  due_fits more =
-      let below = before_end m more in
-      let left = h.room_left.to_run in
-      let from_now = times-from m.accepted (beats m.run) in
-      let due : times (λ x. eqb x.time m.run_clock) m.in_order ≡ times (λ x. eqb x.time (beats m.run)) m.accepted =
-      ap (λ (xs : List Command). times (λ x. eqb x.time m.run_clock) xs) h.key_order
-      ∙ times-in_key_order (λ x. eqb x.time m.run_clock) m.accepted
-      ∙ ap (λ (t : ℕ). times (λ x. eqb x.time t) m.accepted) h.clock_of_run
-      in
+  -- no more repairs than fit
+  pub repairs-fit : (n : ℕ) → n ≤ 8 → repairs_now + n < 2 ^ 64
+  repairs-fit n few =
+      let upto = h.few_repairs in
+      let left = h.room_left.to_note in
+      let short = h.room_left.short_history in
       omega arith
 
-  pub note_fits : is_idle (shown m) 0 ≡ false → length m.history < m.room.history
-  note_fits more = (let below = before_end m more in let left = h.room_left.to_note in omega arith)
+  -- a step
+  pub idle-at : (copy clock limit : ℕ) → clock ≡ copy_clock s.runs copy → limit ≡ step_limit s copy → limit ≤ clock → is_idle s copy ≡ true
+  idle-at copy clock limit at upto idle = grind (arith, nat_tests)
 
-  pub kept_step :
-      (copy : ℕ) → copy < 1 → is_idle (shown m) 0 ≡ false
-      → IsKept rules
-      (record (with_one_tick m) {
-        history = m.history ++ Step copy ∷ [];
-        world = world_of rules m.world (tick_of m.accepted (beats m.run));
-        run_clock = m.run_clock + 1;
-      })
-  kept_step zero there more = kept_ran rules m h more
-  kept_step (suc copy) there more = absurd (omega arith)
+  pub runs-on : (copy clock limit : ℕ) → clock ≡ copy_clock s.runs copy → limit ≡ step_limit s copy → clock < limit → is_idle s copy ≡ false
+  runs-on copy clock limit at upto more = grind (arith, nat_tests)
 
-  -- another plan
-  pub restaggered_state :
-      (p : ℕ) → shown (record m { plan = p; history = m.history ++ Restagger p ∷ []; plan_spare = m.plan_spare - 1 }) ≡ next (shown m) (Restagger p)
-  restaggered_state p = sym (restagger_one (shown m) p).0
+  pub below-end : (copy : ℕ) → is_idle s copy ≡ false → copy_clock s.runs copy < s.length
+  below-end copy more = (let room = (below_limit s copy more).1 in omega arith)
 
-  pub restaggered_answer : (p : ℕ) → said (shown m) (Restagger p) ≡ Restaggered
-  restaggered_answer p = (restagger_one (shown m) p).1
+  pub behind-ahead : (copy : ℕ) → is_idle s copy ≡ false → 0 < copy → copy_clock s.runs copy < copy_clock s.runs (copy - 1)
+  unfolding IsBehindAhead
+  behind-ahead zero more some = absurd (omega arith)
+  behind-ahead (suc copy) more some = (let back : suc copy - 1 ≡ copy = omega arith in rw back (below_limit s (suc copy) more).0)
+
+  -- the last copy
+  pub last-is : (copies : ℕ) → copies ≡ length s.runs → copy_clock s.runs (copies - 1) ≡ last_clock s.runs
+  last-is copies many =
+      ap (λ (n : ℕ). copy_clock s.runs (n - 1)) many ∙ sym (last_clock-at s.runs (some-copies h).0)
+
+  pub drained-is : eqb (last_clock s.runs) s.length ≡ is_drained s
+  unfolding last_of
+  drained-is = by-runs s.runs (some-copies h).0 h.consistent.staggered.trailing.chained h.consistent.staggered.in_bounds.within_match
+    where
+      by-runs : (runs : List (List Item)) → 0 < length runs → IsChained runs → AllByRecursion (λ run. beats run ≤ s.length) runs → eqb (last_clock runs) s.length ≡ list_all (λ run. eqb (beats run) s.length) runs
+      by-runs [] some chained within = absurd (omega arith)
+      by-runs (run ∷ runs) some chained within = drained-last s.length run runs chained within
+
+-- the limits of a copy
+pub limit-first : {W : Type 0} (s : MirrorState W) (copy : ℕ) → copy ≡ 0 → limit_at (schedule_of s) copy s.clock 0 ≡ step_limit s copy
+unfolding step_limit
+limit-first s zero first = refl
+limit-first s (suc copy) first = absurd (omega arith)
+
+pub limit-behind : {W : Type 0} (s : MirrorState W) (copy ahead : ℕ) → (copy ≡ 0 → ⊥) → ahead ≡ copy_clock s.runs (copy - 1) → limit_at (schedule_of s) copy s.clock ahead ≡ step_limit s copy
+unfolding step_limit
+limit-behind s zero ahead behind is = absurd (behind refl)
+limit-behind s (suc copy) ahead behind is =
+    let back : suc copy - 1 ≡ copy = omega arith in
+    ap (limit_at (schedule_of s) (suc copy) s.clock) (is ∙ ap (copy_clock s.runs) back)

@@ -1,15 +1,14 @@
 -- What always holds of a mirror holds at the opening of a match, and every event keeps it.
-use Rattle.std.proofs.Common.{◌≡◌, refl, ◌∙◌, ap, ℕ, List, arith}
+use Rattle.std.proofs.Common.{◌≡◌, refl, ℕ, List}
 use Rattle.game_trait.specs.declared.event.Event.{Event}
-use Rattle.game_trait.specs.declared.event.Reply.{Reply}
 use Rattle.sync_model.specs.State.{MirrorState, opening_state}
 use Rattle.sync_model.specs.WellFormed.{IsWellFormed}
-use Rattle.sync_model.specs.Change.{next, said, answers, Fits}
+use Rattle.sync_model.specs.Change.{next, answers, Fits}
 use Rattle.sync_model.specs.Consistent.{IsConsistent}
-use Rattle.sync_model.specs.History.{HasRoom, EachChanges, repairs, repairs_in, repaired_in}
+use Rattle.sync_model.specs.History.{HasRoom, EachChanges, repairs, repairs_in}
 use Rattle.sync_model.proofs.Staggered.{staggered_kept, opening_staggered}
 use Rattle.sync_model.proofs.Along.{well_formed_kept}
-use Rattle.sync_model.proofs.Room.{from_history_kept, opening_from_history, from_history_reached, history_of_changes, repairs_add_up}
+use Rattle.sync_model.proofs.Room.{from_history_kept, opening_from_history, from_history_reached, history_of_changes}
 
 -- every event that may be made keeps it
 pub consistent-next : {W : Type 0} (s : MirrorState W) (e : Event) → Fits s e → HasRoom s e → IsConsistent s → IsConsistent (next s e)
@@ -19,15 +18,6 @@ consistent-next s e fits room here = record {
   from_history = from_history_kept s e room here.from_history;
   each_changes = history_of_changes s e (from_history_reached s here.from_history) here.each_changes;
 }
-
--- an event that repairs no copy leaves a mirror without repairs so
-pub no_repair-next :
-    {W : Type 0} (s : MirrorState W) (e : Event) (r : Reply)
-    → IsConsistent s → said s e ≡ r → repaired_in r ≡ 0 → repairs s ≡ 0 → repairs (next s e) ≡ 0
-no_repair-next s e r here answer none before =
-    let sum = repairs_add_up s e (from_history_reached s here.from_history) in
-    let this : repaired_in (said s e) ≡ 0 = ap repaired_in answer ∙ none in
-    omega arith
 
 -- it holds at the opening of a match whose mirrors are well formed
 pub consistent-opening :

@@ -1,5 +1,7 @@
 mod PlanLaws
 mod Consistent
-mod OneCopy
+mod Answered
+mod Clocks
 mod Kept
+mod Opened
 mod Calls

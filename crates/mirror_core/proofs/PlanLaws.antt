@@ -1,15 +1,15 @@
 -- The plans of a match: their delays, their greatest delay, and the one in force.
-use Rattle.std.proofs.Common.{◌≡◌, refl, ℕ, ◌+◌, ◌≤◌, ◌<◌, max, List, [], ◌∷◌, length, map, get_or, drop, drop-cons, add-one, arith}
+use Rattle.std.proofs.Common.{◌≡◌, refl, ap, ℕ, ◌+◌, ◌≤◌, ◌<◌, max, List, [], ◌∷◌, length, map, replicate, get_or, drop, drop-cons, add-one, arith}
 use Rattle.std.proofs.lemmas.List.{length-map, drop_all}
 use Rattle.std.specs.List.{AllByRecursion}
-use Rattle.game_trait.specs.declared.limits.TheConstants.{LONGEST_MATCH, MOST_PLANS, LONGEST_DELAY}
+use Rattle.game_trait.specs.declared.limits.TheConstants.{LONGEST_MATCH, MOST_PLANS, MOST_COPIES, LONGEST_DELAY}
 use Rattle.game_trait.specs.declared.command.Item.{Item}
 use Rattle.game_trait.proofs.Lists.{all-at}
 use Rattle.sync_model.specs.Schedule.{Schedule, IsSchedule, longest_delay}
 use Rattle.sync_model.specs.Staggered.{greatest_delay}
 use Rattle.sync_model.specs.WellFormed.{ArePlans}
 use Rattle.stagger_clock.proofs.Limits.{longest_delay-short}
-use Rattle.mirror_core.specs.Kept.{delays_of_each, ticks_of_first}
+use Rattle.mirror_core.specs.Kept.{delays_of_each, ticks_of_first, copies_of_first}
 
 pub as_many : (plans : List Schedule) → length (delays_of_each plans) ≡ length plans
 as_many plans = length-map plans (λ (plan : Schedule). plan.delays)
@@ -36,28 +36,28 @@ copies-each : (plans : List Schedule) (copies : ℕ) → AllByRecursion (λ plan
 copies-each [] copies each = tt
 copies-each (plan ∷ plans) copies each = (each.0, copies-each plans copies each.1)
 
--- a first plan of one copy has one run
-pub one_run : (plans : List Schedule) → 0 < length plans → AllByRecursion (λ plan. length plan.delays ≡ 1) plans → map {B = List Item} (λ delay. []) (get_or (delays_of_each plans) 0 []) ≡ [] ∷ []
-one_run [] some each = absurd (omega arith)
-one_run (plan ∷ plans) some each = one plan.delays each.0
-  where
-    one : (delays : List ℕ) → length delays ≡ 1 → map {B = List Item} (λ delay. []) delays ≡ [] ∷ []
-    one [] h = absurd (omega arith)
-    one (d ∷ []) h = refl
-    one (d ∷ e ∷ ds) h = absurd (omega arith)
+-- a run for each delay of a plan
+runs-each : (delays : List ℕ) → map {B = List Item} (λ delay. []) delays ≡ replicate (length delays) []
+runs-each [] = refl
+runs-each (delay ∷ delays) = ap (λ (runs : List (List Item)). [] ∷ runs) (runs-each delays)
 
--- plans of one match, each with one copy
+-- and so for each copy of the first plan
+pub first-runs : (plans : List Schedule) → map {B = List Item} (λ delay. []) (get_or (delays_of_each plans) 0 []) ≡ replicate (copies_of_first plans) []
+first-runs [] = refl
+first-runs (plan ∷ plans) = runs-each plan.delays
+
+-- plans of one match
 pub are_plans :
-    (plans : List Schedule) (ticks : ℕ) → 0 < length plans → length plans ≤ MOST_PLANS → AllByRecursion IsSchedule plans
-    → AllByRecursion (λ plan. plan.length ≡ ticks) plans → AllByRecursion (λ plan. length plan.delays ≡ 1) plans
-    → ArePlans (delays_of_each plans) ticks 1
-are_plans plans ticks some few are same one =
+    (plans : List Schedule) (ticks copies : ℕ) → 0 < length plans → length plans ≤ MOST_PLANS → AllByRecursion IsSchedule plans
+    → AllByRecursion (λ plan. plan.length ≡ ticks) plans → AllByRecursion (λ plan. length plan.delays ≡ copies) plans
+    → ArePlans (delays_of_each plans) ticks copies
+are_plans plans ticks copies some few are same each =
     let many = as_many plans in
     record {
       some_plan = omega arith;
       few_plans = omega arith;
       schedules = schedules-each plans ticks are same;
-      equal_copies = copies-each plans 1 one;
+      equal_copies = copies-each plans copies each;
     }
 
 -- no delay of a plan is longer than may be
@@ -76,10 +76,19 @@ pub ticks-few : (plans : List (List ℕ)) (ticks copies : ℕ) → ArePlans plan
 ticks-few plans ticks copies are =
     (all-at (λ delays. IsSchedule (record { delays = delays; length = ticks })) plans 0 [] are.schedules are.some_plan).few_ticks
 
--- the first plan's ticks
+-- the first plan's ticks and copies
 pub first-ticks : (plans : List Schedule) (d : Schedule) → 0 < length plans → (get_or plans 0 d).length ≡ ticks_of_first plans
 first-ticks [] d some = absurd (omega arith)
 first-ticks (plan ∷ plans) d some = refl
+
+pub first-copies : (plans : List Schedule) (d : Schedule) → 0 < length plans → length (get_or plans 0 d).delays ≡ copies_of_first plans
+first-copies [] d some = absurd (omega arith)
+first-copies (plan ∷ plans) d some = refl
+
+-- both are those of a schedule
+pub first-few : (plans : List Schedule) → 0 < length plans → AllByRecursion IsSchedule plans → (copies_of_first plans ≤ MOST_COPIES) × (ticks_of_first plans ≤ LONGEST_MATCH)
+first-few [] some are = absurd (omega arith)
+first-few (plan ∷ plans) some are = (are.0.few_copies, are.0.few_ticks)
 
 -- the greatest delay, one plan more
 pub greatest-more :

@@ -1,14 +1,9 @@
--- What a mirror of one copy holds, and what is always true of it.
-use Rattle.std.specs.Prelude.{◌≡◌, ℕ, ◌+◌, ◌-◌, ◌≤◌, ◌^◌, nat_le, List, [], ◌∷◌, length, map}
+-- What a mirror holds beside the parts of its state, and what is always true of it.
+use Rattle.std.specs.Prelude.{◌≡◌, ℕ, ◌+◌, ◌-◌, ◌*◌, ◌≤◌, ◌^◌, Bool, List, [], ◌∷◌, length, map}
 use Rattle.std.specs.List.{AllByRecursion}
-use Rattle.game_trait.specs.declared.command.Command.{Command}
-use Rattle.game_trait.specs.declared.command.Item.{Item}
-use Rattle.game_trait.specs.declared.event.Event.{Event}
-use Rattle.game_trait.specs.Game.{Rules}
-use Rattle.game_trait.specs.Run.{beats, world_of}
-use Rattle.game_trait.specs.Keys.{in_key_order}
-use Rattle.game_trait.specs.Count.{times}
-use Rattle.sync_model.specs.declared.turned.Turned.{Turned}
+use Rattle.game_trait.specs.declared.limits.TheConstants.{MOST_COPIES}
+use Rattle.game_trait.specs.Run.{beats}
+use Rattle.game_trait.specs.CommandList.{has_command}
 use Rattle.sync_model.specs.Schedule.{Schedule}
 use Rattle.sync_model.specs.State.{MirrorState}
 use Rattle.sync_model.specs.Staggered.{greatest_delay}
@@ -24,71 +19,41 @@ abbrev pub ticks_of_first : List Schedule → ℕ
 ticks_of_first [] = 0
 ticks_of_first (plan ∷ plans) = plan.length
 
--- how much the lists of a mirror may hold
+-- the copies of the first plan
+abbrev pub copies_of_first : List Schedule → ℕ
+copies_of_first [] = 0
+copies_of_first (plan ∷ plans) = length plan.delays
+
+-- for how many more commands the copies have room, and the names; and how much the lists of what was turned away and of events
+-- may hold
 pub record Room : Type 0 where
-  pub accepted : ℕ
-  pub in_order : ℕ
+  pub copies : ℕ
+  pub names : ℕ
   pub turned : ℕ
-  pub run : ℕ
   pub history : ℕ
 
--- what a mirror of one copy holds: the parts of its state, and beside them
-pub record Parts (W : Type 0) : Type 0 where
-  pub opening : W
-  -- the match's length, its plans, and the number of the one in force
-  pub ticks : ℕ
-  pub plans : List Schedule
-  pub plan : ℕ
-  pub clock : ℕ
-  pub accepted : List Command
-  pub turned : List Turned
-  pub run : List Item
-  pub history : List Event
-  pub spare : ℕ
-  pub plan_spare : ℕ
-  -- the copy's live world and its clock
-  pub world : W
-  pub run_clock : ℕ
-  -- the accepted commands in key order
-  pub in_order : List Command
-  pub room : Room
+-- how many ticks copies with these clocks have still to run, in all
+unfoldable pub steps_left : ℕ → List ℕ → ℕ
+steps_left ticks [] = 0
+steps_left ticks (clock ∷ clocks) = (ticks - clock) + steps_left ticks clocks
 
--- the state of a mirror that holds these parts
-abbrev pub shown : {W : Type 0} → Parts W → MirrorState W
-shown m =
-    record {
-      opening = m.opening;
-      length = m.ticks;
-      plans = delays_of_each m.plans;
-      plan = m.plan;
-      clock = m.clock;
-      accepted = m.accepted;
-      turned = m.turned;
-      runs = m.run ∷ [];
-      history = m.history;
-      spare = m.spare;
-      plan_spare = m.plan_spare;
-    }
+-- how many events may still change a mirror
+abbrev pub events_left : {W : Type 0} → MirrorState W → ℕ
+events_left s = ((s.length + greatest_delay s.plans) - s.clock) + steps_left s.length (map beats s.runs) + s.spare + s.plan_spare
 
 -- there is room for all that may still come
-pub record HasRoomLeft {W : Type 0} (m : Parts W) : Type 0 where
-  pub to_accept : length m.accepted + m.spare ≤ m.room.accepted
-  pub to_place : length m.accepted + m.spare ≤ m.room.in_order
-  pub to_turn_away : length m.turned + m.spare ≤ m.room.turned
-  pub to_run :
-      length m.run + (m.ticks - beats m.run) + times (λ x. nat_le (beats m.run) x.time) m.accepted + m.spare
-      ≤ m.room.run
-  pub short_runs : m.room.run ≤ 2 ^ 21
-  pub to_note :
-      length m.history + (m.ticks + greatest_delay (delays_of_each m.plans) - m.clock) + (m.ticks - beats m.run) + m.spare + m.plan_spare
-      ≤ m.room.history
+pub record HasRoomLeft {W : Type 0} (s : MirrorState W) (room : Room) : Type 0 where
+  pub to_accept : s.spare ≤ room.copies
+  pub to_name : s.spare ≤ room.names
+  pub to_turn_away : length s.turned + s.spare ≤ room.turned
+  pub to_note : length s.history + events_left s ≤ room.history
+  pub short_history : room.history ≤ 2 ^ 22
 
--- what is always true of a mirror that holds these parts
-pub record IsKept {W : Type 0} (rules : Rules W) (m : Parts W) : Type 0 where
-  pub consistent : IsConsistent (shown m)
-  pub ticks_each : AllByRecursion (λ plan. plan.length ≡ m.ticks) m.plans
-  pub world_of_run : m.world ≡ world_of rules m.opening m.run
-  pub clock_of_run : m.run_clock ≡ beats m.run
-  pub key_order : m.in_order ≡ in_key_order m.accepted
-  pub no_repair : repairs (shown m) ≡ 0
-  pub room_left : HasRoomLeft m
+-- what is always true of a mirror with these plans, this test of a mirror and a number, this number of repairs, and this room
+pub record IsKept {W : Type 0} (s : MirrorState W) (plans : List Schedule) (is_taken : ℕ × ℕ → Bool) (repaired : ℕ) (room : Room) : Type 0 where
+  pub consistent : IsConsistent s
+  pub ticks_each : AllByRecursion (λ plan. plan.length ≡ s.length) plans
+  pub names : (from number : ℕ) → is_taken (from, number) ≡ has_command s.accepted from number
+  pub repairs_are : repaired ≡ repairs s
+  pub few_repairs : repaired ≤ MOST_COPIES * length s.history
+  pub room_left : HasRoomLeft s room

@@ -2,7 +2,6 @@
 //! `sync_model`.
 #![tactic(auto)]
 
-mod commands;
 mod lists;
 mod mirror;
 mod plans;

@@ -3,101 +3,97 @@
 ghost use Rattle.std.specs.Prelude.{◌≡◌, ◌<◌, ◌≤◌, IfOk, [], length, slice_get, slice_index_or};
 ghost use Rattle.std.specs.List.{AllByRecursion};
 ghost use Rattle.game_trait.specs.Run.{world_of};
-ghost use Rattle.sync_model.specs.State.{opening_state, schedule_of, copy_clock as clock_of};
+ghost use Rattle.sync_model.specs.State.{opening_state, schedule_of, step_limit, copy_clock as clock_of, last_clock as last_clock_of};
 ghost use Rattle.sync_model.specs.Change.{next, said, Fits};
 ghost use Rattle.sync_model.specs.Consistent.{IsConsistent};
 ghost use Rattle.sync_model.specs.History.{HasRoom, repairs as repairs_of};
 ghost use Rattle.sync_model.specs.Turns.{is_drained, drain_bound};
-ghost use Rattle.mirror_core.specs.Kept.{delays_of_each, ticks_of_first};
+ghost use Rattle.mirror_core.specs.Kept.{delays_of_each, ticks_of_first, copies_of_first};
 
-use crate::commands::{place, run_tick};
 use crate::lists::Lists;
 use crate::plans::greatest;
 use game_trait::limits::{MOST_PLANS, MOST_ROOM};
-use game_trait::{Arrived, Command, CommandList, Event, Game, Item, Reply, Stepped, Tick, Ticked};
+use game_trait::{
+    Arrived, Command, Event, Game, Item, MirrorId, Number, Reply, Stepped, Tick, Ticked,
+};
 use stagger_clock::Stagger;
 use std::alloc::Global;
+use std::collections::HashSet;
 use std::marker::Model;
 use sync_model::Turned;
+use trailing_copy::CopyStack;
 use tss_io::NoMemory;
 
-/// A mirror of a match. Contracts see it as a state of the model, which says what each event changes and what is
-/// answered. Only `new` takes memory. A mirror has one copy of the world, which its run tells.
+/// A mirror of a match, with 1 to 8 copies of the world: the mirror of the paper of 2002. Contracts see it as a state of the
+/// model, which says what each event changes and what is answered. Only `new` takes memory.
 #[derive(Drop)]
 pub struct Mirror<G: Game> {
-    opening: G,
-    // the match's length
-    ticks: Tick,
+    // the opening, the match's length, the accepted commands and the copies
+    stack: CopyStack<G>,
     plans: Vec<Stagger>,
     // the number of the plan in force
     plan: u8,
     clock: Tick,
-    accepted: CommandList,
+    // the mirror and the number of each accepted command
+    names: HashSet<(MirrorId, Number)>,
     turned: Vec<Turned>,
     history: Vec<Event>,
+    // how many copies were repaired, in all
+    repairs: u64,
     spare: u32,
     plan_spare: u32,
-    world: G,
-    run: Vec<Item>,
-    // the beats of the run
-    run_clock: Tick,
-    // the accepted commands in key order
-    in_order: Vec<Command>,
 }
 
 impl<G: Game> Model for Mirror<G> {
-    ghost use Rattle.std.specs.Prelude.{[], ◌∷◌, vec_capacity};
+    ghost use Rattle.std.specs.Prelude.{vec_capacity};
+    ghost use Rattle.std.specs.HashSet as set;
+    ghost use Rattle.game_trait.specs.CommandList.{same_pair};
     ghost use Rattle.sync_model.specs.State.{MirrorState};
-    ghost use Rattle.mirror_core.specs.Kept.{delays_of_each, Room, Parts, IsKept};
+    ghost use Rattle.mirror_core.specs.Kept.{delays_of_each, Room, IsKept};
 
     ghost Value = { MirrorState G };
 
     ghost view = { λ m. record {
-      opening = m.opening;
-      length = m.ticks;
+      opening = m.stack.opening;
+      length = m.stack.ticks;
       plans = delays_of_each m.plans.items;
       plan = m.plan;
       clock = m.clock;
-      accepted = m.accepted.items;
+      accepted = m.stack.accepted;
       turned = m.turned.items;
-      runs = m.run.items ∷ [];
+      runs = m.stack.runs;
       history = m.history.items;
       spare = m.spare;
       plan_spare = m.plan_spare;
     } };
 
     ghost invariant = { λ m.
-        let room : Room = record {
-          accepted = m.accepted.room;
-          in_order = vec_capacity m.in_order;
-          turned = vec_capacity m.turned;
-          run = vec_capacity m.run;
-          history = vec_capacity m.history;
-        } in
-        let parts : Parts G = record {
-          opening = m.opening;
-          ticks = m.ticks;
-          plans = m.plans.items;
+        let state : MirrorState G = record {
+          opening = m.stack.opening;
+          length = m.stack.ticks;
+          plans = delays_of_each m.plans.items;
           plan = m.plan;
           clock = m.clock;
-          accepted = m.accepted.items;
+          accepted = m.stack.accepted;
           turned = m.turned.items;
-          run = m.run.items;
+          runs = m.stack.runs;
           history = m.history.items;
           spare = m.spare;
           plan_spare = m.plan_spare;
-          world = m.world;
-          run_clock = m.run_clock;
-          in_order = m.in_order.items;
-          room = room;
         } in
-        IsKept G.rules parts };
+        let room : Room = record {
+          copies = m.stack.spare;
+          names = set.spare m.names;
+          turned = vec_capacity m.turned;
+          history = vec_capacity m.history;
+        } in
+        IsKept state m.plans.items (set.contains same_pair m.names) m.repairs room };
 }
 
 impl<G: Game> Mirror<G> {
-    /// A mirror before any event, with 1 to 8 plans of as many ticks each, of which the first is in force, and each of one
-    /// copy; with room for so many arrivals that are taken or turned away, and so many changes of the plan, each at most
-    /// 1,048,576. It takes all the memory that the mirror ever needs, and keeps a twin of the opening. Want of memory makes
+    /// A mirror before any event, with 1 to 8 plans of as many ticks each, of which the first is in force, and each of as many
+    /// copies; with room for so many arrivals that are taken or turned away, and so many changes of the plan, each at most
+    /// 1,048,576. It takes all the memory that the mirror ever needs, and keeps twins of the opening. Want of memory makes
     /// nothing.
     pub fn new(
         alloc: Global,
@@ -110,37 +106,31 @@ impl<G: Game> Mirror<G> {
         requires few_plans { length plans.now ≤ MOST_PLANS }
         requires equal_ticks { AllByRecursion (λ plan. plan.length ≡ ticks_of_first plans.now)
             plans.now }
-        requires one_copy { AllByRecursion (λ plan. length plan.delays ≡ 1) plans.now }
+        requires equal_copies { AllByRecursion (λ plan. length plan.delays ≡ copies_of_first plans.now)
+            plans.now }
         requires room { room ≤ MOST_ROOM }
         requires restaggers { restaggers ≤ MOST_ROOM }
         ensures { IfOk result (λ m. m
             ≡ opening_state opening.now (ticks_of_first plans.now) (delays_of_each plans.now) room restaggers) }
     {
         let ticks = plans[0].length();
-        let length = ticks as usize;
+        let copies = plans[0].copies();
         let arrivals = room as usize;
-        let lists = Lists::new(
-            alloc,
-            plans,
-            arrivals,
-            length + arrivals,
-            length + greatest(plans) as usize + length + arrivals + restaggers as usize,
-        )?;
+        let length = ticks as usize;
+        let steps = copies as usize * length;
+        let events = length + greatest(plans) as usize + steps + arrivals + restaggers as usize;
+        let lists = Lists::new(alloc, plans, arrivals, events)?;
         Ok(Mirror {
-            opening: opening.twin(),
-            ticks,
+            stack: CopyStack::new(alloc, opening, copies, ticks, room)?,
             plans: lists.plans,
             plan: 0,
             clock: 0,
-            accepted: lists.accepted,
+            names: lists.names,
             turned: lists.turned,
             history: lists.history,
+            repairs: 0,
             spare: room,
             plan_spare: restaggers,
-            world: opening.twin(),
-            run: lists.run,
-            run_clock: 0,
-            in_order: lists.in_order,
         })
     }
 
@@ -158,6 +148,25 @@ impl<G: Game> Mirror<G> {
         ensures copies { length result.delays ≡ length self.now.runs }
     {
         self.plans[self.plan as usize]
+    }
+
+    // How far the copy, which is there, may go now.
+    fn limit(&self, copy: u8) -> Tick
+        requires { copy < length self.now.runs }
+        ensures { result ≡ step_limit self.now copy }
+    {
+        if copy == 0 {
+            return self.stagger().limit(copy, self.clock, 0);
+        }
+        let ahead = self.stack.clock(copy - 1);
+        self.stagger().limit(copy, self.clock, ahead)
+    }
+
+    // The last copy's clock.
+    fn last_clock(&self) -> Tick
+        ensures { result ≡ last_clock_of self.now.runs }
+    {
+        self.stack.clock(self.stagger().copies() - 1)
     }
 
     /// The clock goes on by one tick, answered Moved. Where it stands at its end or past it, the match's length plus the
@@ -188,19 +197,21 @@ impl<G: Game> Mirror<G> {
 
     /// A command that is due within the match arrives. Where one with the same mirror and number was accepted before,
     /// nothing changes, and the answer is Repeat. Where it is older than the last copy's clock it is turned away, answered
-    /// Late with that clock. Else it is accepted, answered Taken. Taken and Late each use up room for one arrival.
+    /// Late with that clock. Else it is accepted: the copies whose clocks are past its time execute it at once, and those that
+    /// were ahead of the last of these are repaired. The answer is Taken, with how many were. Taken and Late each use up room
+    /// for one arrival.
     pub fn arrive(&mut self, x: &Command) -> Arrived
         requires within_match { x.now.time < self.old.length }
         requires room { 0 < self.old.spare }
         ensures state { self.new ≡ next self.old (Event.Arrive x.now) }
         ensures answer { said self.old (Event.Arrive x.now) ≡ Reply.Arrive result }
     {
-        if self.accepted.has(x.from, x.number) {
+        if self.names.contains(&(x.from, x.number)) {
             return Arrived::Repeat;
         }
+        let bound = self.last_clock();
         self.spare -= 1;
         self.history.push_reserved(Event::Arrive(*x));
-        let bound = self.run_clock;
         if x.time < bound {
             self.turned.push_reserved(Turned {
                 from: x.from,
@@ -209,30 +220,30 @@ impl<G: Game> Mirror<G> {
             });
             return Arrived::Late { bound };
         }
-        self.accepted.push_reserved(x);
-        place(&mut self.in_order, x);
-        Arrived::Taken { repaired: 0 }
+        match self.names.insert((x.from, x.number)) {
+            Ok(_) => {}
+            Err(_) => unreachable!(),
+        }
+        let repaired = self.stack.accept(x);
+        self.repairs += u64::from(repaired);
+        Arrived::Taken { repaired }
     }
 
-    /// The copy, which is there, runs one tick: the commands due then in key order, and one beat. The answer is Ran. Where
-    /// the copy stands at its limit nothing changes, and the answer is Idle.
+    /// The copy, which is there, runs one tick: the commands due then in key order, and one beat. Where the run ahead doesn't
+    /// begin with its new run, the copies ahead are repaired. The answer is Ran, with how many were. Where the copy stands at
+    /// its limit nothing changes, and the answer is Idle.
     pub fn step(&mut self, copy: u8) -> Stepped
         requires { copy < length self.old.runs }
         ensures state { self.new ≡ next self.old (Event.Step copy) }
         ensures answer { said self.old (Event.Step copy) ≡ Reply.Step result }
     {
-        if self.run_clock >= self.stagger().limit(copy, self.clock, 0) {
+        if self.stack.clock(copy) >= self.limit(copy) {
             return Stepped::Idle;
         }
-        run_tick(
-            &mut self.world,
-            &mut self.run,
-            &self.in_order,
-            self.run_clock,
-        );
-        self.run_clock += 1;
+        let repaired = self.stack.run_tick(copy);
+        self.repairs += u64::from(repaired);
         self.history.push_reserved(Event::Step(copy));
-        Stepped::Ran { repaired: 0 }
+        Stepped::Ran { repaired }
     }
 
     /// Makes the event, whichever it is, as `tick`, `arrive`, `step` and `restagger` do.
@@ -257,7 +268,7 @@ impl<G: Game> Mirror<G> {
     pub fn opening(&self) -> &G
         ensures { result.now ≡ self.now.opening }
     {
-        &self.opening
+        self.stack.opening()
     }
 
     /// The clock, in ticks.
@@ -286,8 +297,7 @@ impl<G: Game> Mirror<G> {
         requires { copy < length self.now.runs }
         ensures { result ≡ clock_of self.now.runs copy }
     {
-        let _ = copy;
-        self.run_clock
+        self.stack.clock(copy)
     }
 
     /// How many items the copy has run. The copy is there.
@@ -295,8 +305,7 @@ impl<G: Game> Mirror<G> {
         requires { copy < length self.now.runs }
         ensures { result ≡ length (slice_index_or self.now.runs copy []) }
     {
-        let _ = copy;
-        self.run.len() as u32
+        self.stack.run_len(copy)
     }
 
     /// The item at this place of the copy's run. Both are there.
@@ -305,8 +314,7 @@ impl<G: Game> Mirror<G> {
         requires place { place < length (slice_index_or self.now.runs copy []) }
         ensures { slice_get (slice_index_or self.now.runs copy []) place ≡ Some result }
     {
-        let _ = copy;
-        self.run[place as usize]
+        self.stack.run_item(copy, place)
     }
 
     /// The copy's live world: the opening after all items of its run. The copy is there.
@@ -314,15 +322,14 @@ impl<G: Game> Mirror<G> {
         requires { copy < length self.now.runs }
         ensures { result.now ≡ world_of G.rules self.now.opening (slice_index_or self.now.runs copy []) }
     {
-        let _ = copy;
-        &self.world
+        self.stack.world(copy)
     }
 
     /// The commands that were accepted, in order of arrival.
     pub fn accepted(&self) -> &[Command]
         ensures { result.now ≡ self.now.accepted }
     {
-        self.accepted.as_slice()
+        self.stack.accepted()
     }
 
     /// The arrivals that were turned away, in order.
@@ -343,9 +350,7 @@ impl<G: Game> Mirror<G> {
     pub fn repairs(&self) -> u64
         ensures { result ≡ repairs_of self.now }
     {
-        // a lone copy is never repaired
-        let _ = &self.history;
-        0
+        self.repairs
     }
 
     /// How many more arrivals there is room for.
@@ -375,6 +380,7 @@ impl<G: Game> Mirror<G> {
     pub fn drained(&self) -> bool
         ensures { result ≡ is_drained self.now }
     {
-        self.run_clock == self.ticks
+        let _ = &self.stack;
+        self.last_clock() == self.stagger().length()
     }
 }

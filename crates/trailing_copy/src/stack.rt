@@ -315,6 +315,13 @@ impl<G: Game> CopyStack<G> {
         repaired
     }
 
+    /// The opening world, a twin of the one that `new` was given.
+    pub fn opening(&self) -> &G
+        ensures { result.now ≡ self.now.opening }
+    {
+        &self.opening
+    }
+
     /// For how many more commands there is room.
     pub fn spare(&self) -> u32
         ensures { result ≡ self.now.spare }

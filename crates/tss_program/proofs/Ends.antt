@@ -1,5 +1,5 @@
 -- What was read, and how a run may end.
-use Rattle.std.proofs.Common.{◌≡◌, true, false, lit≤, Bool, ℕ, ◌+◌, ◌<◌, ◌≤◌, ◌⊎◌, List, [], ◌++◌, Option, Some, None, Result, Ok, Err, length, take, drop, inl, inr, sym, ap, subst, refl, ◌∙◌, arith}
+use Rattle.std.proofs.Common.{◌≡◌, false, lit≤, ℕ, ◌+◌, ◌<◌, ◌≤◌, ◌⊎◌, List, [], ◌++◌, Option, Some, None, Result, Ok, Err, length, take, drop, inl, inr, sym, ap, subst, refl, ◌∙◌, arith}
 use Rattle.std.specs.Prelude.{IfSome, IfErr, option_map, nat_eq}
 use Rattle.std.proofs.lemmas.Bool.Decides.{nat_tests}
 use Rattle.std.specs.Result.{IsErrAnd}
@@ -25,8 +25,9 @@ use Rattle.tss_program.specs.declared.subcommand.Subcommand.TheVariants.{Order, 
 use Rattle.tss_program.specs.declared.status.Status.{Status}
 use Rattle.tss_program.specs.declared.status.Status.TheVariants.{WrongWords, Refusal}
 use Rattle.tss_program.specs.Subcommands.{subcommand_of}
-use Rattle.tss_program.specs.Due.{Due, IsDue, usage, match, refusal, is_playable, play_due, due_of_match, usage_due, refusal_due, usage_text, refused_text, code, text_limit, IsRefused}
-use Rattle.tss_program.proofs.Headline.{played-AllPlayed}
+use Rattle.tss_program.specs.Due.{Due, IsDue, usage, match, refusal, due_of_match, usage_due, refusal_due, code, text_limit, IsRefused}
+use Rattle.report_text.specs.Ends.{usage_text, refused_text}
+use Rattle.match_hall.proofs.Headline.{played-AllPlayed}
 use Rattle.tss_io.specs.declared.faults.ReadFault.{ReadFault}
 use Rattle.tss_io.specs.declared.faults.ReadFault.TheVariants as reads
 use Rattle.tss_program.specs.declared.stop.Stop.{Stop}
@@ -174,25 +175,11 @@ due-of_match words input due subcommand m (match other n said also its is) asked
 due-of_match words input due subcommand m (refusal other refused said none is) asked sound text = absurd (none.no_match m sound text)
 
 -- playing a match keeps the logs of its mirrors
-keeps-played : (m : MatchData) → IsMatch m → Keeps m (play_due true m).kept
+keeps-played : (m : MatchData) → IsMatch m → Keeps m (due_of_match Play m).kept
 keeps-played m sound = played-AllPlayed arena_rules m (opening_world m.layout) sound
 
-match-kept : (left : Option (List ℕ)) (input : List ℕ) (m : MatchData) → IsInput left input → IsMatch m → input ≡ match_text m → KeepsAMatch left (play_due true m).kept
+match-kept : (left : Option (List ℕ)) (input : List ℕ) (m : MatchData) → IsInput left input → IsMatch m → input ≡ match_text m → KeepsAMatch left (due_of_match Play m).kept
 match-kept left input m told sound text = record { m = m; sound = sound; text = subst (IsInput left) text told; keeps = keeps-played m sound }
-
--- of a match that can be played, or can't yet
-play-logs : (left : Option (List ℕ)) (input : List ℕ) (b : Bool) (m : MatchData) → IsInput left input → IsMatch m → input ≡ match_text m
-    → ((play_due b m).kept ≡ []) ⊎ KeepsAMatch left (play_due b m).kept
-play-logs left input true m told sound text = inr (match-kept left input m told sound text)
-play-logs left input false m told sound text = inl refl
-
-play-status : (P : ℕ → Type 0) (b : Bool) (m : MatchData) → P 0 → P 5 → P (code (play_due b m).status)
-play-status P true m whole refused = whole
-play-status P false m whole refused = refused
-
-play-nothing : (b : Bool) (m : MatchData) → (code (play_due b m).status ≡ 0 → ⊥) → (play_due b m).kept ≡ []
-play-nothing true m later = absurd (later refl)
-play-nothing false m later = refl
 
 -- the logs that are due are none, or those of a match
 due-logs :
@@ -202,7 +189,7 @@ due-logs words left input due told (usage none is) = inl (ap (λ (d : Due). d.ke
 due-logs words left input due told (match Order m said sound text is) = inl (ap (λ (d : Due). d.kept) is)
 due-logs words left input due told (match Lift m said sound text is) = inl (ap (λ (d : Due). d.kept) is)
 due-logs words left input due told (match Play m said sound text is) =
-    subst (λ (l : List MirrorLog). (l ≡ []) ⊎ KeepsAMatch left l) (sym (ap (λ (d : Due). d.kept) is)) (play-logs left input (is_playable m) m told sound text)
+    subst (λ (l : List MirrorLog). (l ≡ []) ⊎ KeepsAMatch left l) (sym (ap (λ (d : Due). d.kept) is)) (inr (match-kept left input m told sound text))
 due-logs words left input due told (refusal other refused said none is) = inl (ap (λ (d : Due). d.kept) is)
 
 -- a status is that of what is due, or of a failure
@@ -225,7 +212,7 @@ due-status :
 due-status P words input due (usage none is) a b c = subst (λ (d : Due). P (code d.status)) (sym is) (a none)
 due-status P words input due (match Order m said sound text is) a b c = subst (λ (d : Due). P (code d.status)) (sym is) (b Order said)
 due-status P words input due (match Lift m said sound text is) a b c = subst (λ (d : Due). P (code d.status)) (sym is) (b Lift said)
-due-status P words input due (match Play m said sound text is) a b c = subst (λ (d : Due). P (code d.status)) (sym is) (play-status P (is_playable m) m (b Play said) (c Play said))
+due-status P words input due (match Play m said sound text is) a b c = subst (λ (d : Due). P (code d.status)) (sym is) (b Play said)
 due-status P words input due (refusal other refused said none is) a b c = subst (λ (d : Due). P (code d.status)) (sym is) (c other said)
 
 -- ---- what follows from ending as is due
@@ -247,7 +234,7 @@ due-nothing : (words : List (List ℕ)) (input : List ℕ) (due : Due) → IsDue
 due-nothing words input due (usage none is) later = ap (λ (d : Due). d.kept) is
 due-nothing words input due (match Order m said sound text is) later = ap (λ (d : Due). d.kept) is
 due-nothing words input due (match Lift m said sound text is) later = ap (λ (d : Due). d.kept) is
-due-nothing words input due (match Play m said sound text is) later = ap (λ (d : Due). d.kept) is ∙ play-nothing (is_playable m) m (λ zero. later (ap (λ (d : Due). code d.status) is ∙ zero))
+due-nothing words input due (match Play m said sound text is) later = absurd (later (ap (λ (d : Due). code d.status) is))
 due-nothing words input due (refusal other refused said none is) later = ap (λ (d : Due). d.kept) is
 
 other-nothing : (words : List (List ℕ)) (input : List ℕ) (due : Due) → IsDue words input due → (subcommand_of words ≡ Some Play → ⊥) → due.kept ≡ []
@@ -269,13 +256,15 @@ whole-play words left input due told (match Lift m said sound text is) asked zer
     two : Some Lift ≡ Some Play → ⊥
     two e = absurd cc
 whole-play words left input due told (match Play m said sound text is) asked zero =
-    subst (KeepsAMatch left) (sym (ap (λ (d : Due). d.kept) is)) (whole (is_playable m) (sym (ap (λ (d : Due). code d.status) is) ∙ zero))
-  where
-    whole : (b : Bool) → code (play_due b m).status ≡ 0 → KeepsAMatch left (play_due b m).kept
-    whole true done = match-kept left input m told sound text
-    whole false done = absurd (not 5 0 5 refl refl done)
+    subst (KeepsAMatch left) (sym (ap (λ (d : Due). d.kept) is)) (match-kept left input m told sound text)
 whole-play words left input due told (refusal other refused said none is) asked zero =
     absurd (not 5 0 (code due.status) refl (ap (λ (d : Due). code d.status) is) zero)
+
+-- a match is answered with status 0
+answered : (subcommand : Subcommand) (m : MatchData) → code (due_of_match subcommand m).status ≡ 0
+answered Order m = refl
+answered Play m = refl
+answered Lift m = refl
 
 pub ends-IsRun :
     (words : List (List ℕ)) (old new : Streams) (status : ℕ) (kept : List MirrorLog) → EndsAsDue words old new status kept
@@ -291,10 +280,12 @@ ends-IsRun words old new status kept e wrong read_steady write_steady whole fron
       ends = e;
       of_match = told-of old.left e.input _ e.told (λ subcommand m asked sound text.
           subst (λ (d : Due). EndsWith d old new status kept) (due-of_match words e.input due subcommand m is asked sound text) e.ends);
-      played = told-of old.left e.input _ e.told (λ m asked sound can text when.
+      complete = told-of old.left e.input _ e.told (λ subcommand m asked sound text no_read no_write.
+          by-status ((status ≡ 0) ⊎ (status ≡ 1)) due old new status kept e.ends (λ h. inr h.0) (λ h. absurd (no_read h.1)) (λ h. absurd (no_write h.1))
+          (λ h. inl (h.0 ∙ ap (λ (d : Due). code d.status) (due-of_match words e.input due subcommand m is asked sound text) ∙ answered subcommand m)));
+      played = told-of old.left e.input _ e.told (λ m asked sound text when.
           subst (Keeps m)
-          (sym (kept-at due old new status kept e.ends when ∙ ap (λ (d : Due). d.kept) (due-of_match words e.input due Play m is asked sound text)
-          ∙ ap (λ (b : Bool). (play_due b m).kept) can))
+          (sym (kept-at due old new status kept e.ends when ∙ ap (λ (d : Due). d.kept) (due-of_match words e.input due Play m is asked sound text)))
           (keeps-played m sound));
       played_whole = λ asked zero. by-status (KeepsAMatch old.left kept) due old new status kept e.ends
           (λ h. absurd (not 1 0 status refl h.0 zero)) (λ h. absurd (not 3 0 status refl h.0 zero)) (λ h. absurd (not 4 0 status refl h.0 zero))

@@ -1,9 +1,3 @@
-mod Named
-mod Ready
-mod Steps
-mod Events
-mod OnWay
-mod Whole
 mod Ends
-mod Headline
 mod Lifting
+mod Whole

@@ -1,11 +1,12 @@
 -- What lifting a match keeps: all but its version, which nothing of a run reads.
-use Rattle.std.proofs.Common.{◌≡◌, Bool, ℕ, zero, suc, ◌+◌, List, ◌∷◌, ◌++◌, map, refl, ap}
+use Rattle.std.proofs.Common.{◌≡◌, ℕ, zero, suc, ◌+◌, List, ◌∷◌, ◌++◌, map, refl, ap}
 use Rattle.sync_model.specs.State.{MirrorState}
 use Rattle.sync_model.specs.Turns.{drain}
 use Rattle.match_file.specs.Data.{MatchData, lifted}
-use Rattle.tss_program.specs.Hall.{opening_mirror, opening_from, after_script, scripted, played}
-use Rattle.tss_program.specs.Report.{Showing, script_text, drains_text, mirrors_text, done_line, order_text, play_text}
-use Rattle.tss_program.specs.Due.{is_playable}
+use Rattle.match_hall.specs.Script.{opening_mirror, opening_from, after_script, scripted, played}
+use Rattle.match_hall.specs.Report.{Showing, script_text, drains_text, mirrors_text, play_text}
+use Rattle.report_text.specs.Ends.{done_line}
+use Rattle.tss_program.specs.Due.{order_text}
 
 pub lifted-order : {W : Type 0} (show : Showing W) (opening : W) (m : MatchData) → order_text show opening (lifted m) ≡ order_text show opening m
 unfolding order_text
@@ -30,9 +31,5 @@ lifted-played {W} opening m = ap (λ (ss : List (MirrorState W)). map (λ s. dra
 pub lifted-text : {W : Type 0} (show : Showing W) (opening : W) (m : MatchData) → play_text show opening (lifted m) ≡ play_text show opening m
 unfolding play_text
 lifted-text {W} show opening m =
-    λ at. script_text m.commands (all-opened opening m 0 m.mirrors at) m.script
+    λ at. script_text show m.commands (all-opened opening m 0 m.mirrors at) m.script
     ++ (drains_text 0 (lifted-script opening m at) ++ (mirrors_text show 0 (lifted-played opening m at) ++ done_line))
-
-pub lifted-playable : (m : MatchData) → is_playable (lifted m) ≡ is_playable m
-unfolding is_playable
-lifted-playable m = refl

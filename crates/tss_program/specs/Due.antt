@@ -1,11 +1,6 @@
 -- What is due for words and an input, and how a run may end.
-use Rattle.std.specs.Prelude.{◌≡◌, ◌≢◌, ℕ, ◌<◌, ◌⊎◌, ◌==◌, ◌&&◌, Bool, true, false, List, [], ◌∷◌, ◌++◌, Option, Some, None, length, take, codes, if◌then◌else◌, Err}
-use Rattle.std.specs.List.{list_all}
+use Rattle.std.specs.Prelude.{◌≡◌, ◌≢◌, ℕ, ◌<◌, ◌⊎◌, ◌==◌, List, [], ◌++◌, Option, Some, None, length, take, codes, if◌then◌else◌, Err}
 use Rattle.tss_io.specs.Streams.{Gains}
-use Rattle.tss_io.specs.Lines.{as_line, spaced}
-use Rattle.tss_io.specs.Causes.{refused_words}
-use Rattle.tss_io.specs.Reading.{refused_at}
-use Rattle.tss_io.specs.declared.cause.Cause.TheVariants.{Shape}
 use Rattle.tss_io.specs.declared.fault.Refused.{Refused}
 use Rattle.tss_io.specs.declared.fault.TextFault.TheVariants as text_faults
 use Rattle.game_trait.specs.declared.limits.TheConstants.{LONGEST_MATCH_TEXT}
@@ -14,16 +9,17 @@ use Rattle.arena_rules.specs.Block.{block_of}
 use Rattle.match_file.specs.Data.{MatchData, IsMatch, lifted}
 use Rattle.match_file.specs.Reading.{read_text, IsFirst}
 use Rattle.match_file.specs.Text.{match_text}
-use Rattle.match_file.specs.declared.script_line.ScriptLine.{ScriptLine}
-use Rattle.match_file.specs.declared.script_line.ScriptLine.TheVariants as lines
+use Rattle.game_trait.specs.Ordered.{time_ordered}
+use Rattle.report_text.specs.Worlds.{block_text, order_head}
+use Rattle.report_text.specs.Ends.{done_line, refused_text, usage_text}
+use Rattle.match_hall.specs.Script.{played, logs_from}
+use Rattle.match_hall.specs.Report.{Showing, play_text}
 use Rattle.run_recorder.specs.declared.log.MirrorLog.{MirrorLog}
 use Rattle.tss_program.specs.declared.subcommand.Subcommand.{Subcommand}
 use Rattle.tss_program.specs.declared.subcommand.Subcommand.TheVariants.{Order, Play, Lift}
 use Rattle.tss_program.specs.declared.status.Status.{Status}
 use Rattle.tss_program.specs.declared.status.Status.TheVariants.{Complete, NoMemory, WrongWords, ReadFault, WriteFault, Refusal}
 use Rattle.tss_program.specs.Subcommands.{subcommand_of}
-use Rattle.tss_program.specs.Hall.{played, logs_from}
-use Rattle.tss_program.specs.Report.{Showing, order_text, play_text}
 
 -- a status, the text that goes with it, and the logs that are kept of the mirrors, mirror 0 first
 pub record Due : Type 0 where
@@ -55,53 +51,34 @@ text_limit = LONGEST_MATCH_TEXT
 -- ---- what is due
 
 -- for words that ask for nothing that is built: the usage line
-unfoldable pub usage_text : List ℕ
-usage_text = codes "usage: tss order|play|race|audit|score|lift|soak N" ++ 10 ∷ []
-
 abbrev pub usage_due : Due
 usage_due = record { status = WrongWords; text = usage_text; kept = [] }
 
 -- for a text that is refused: its line and cause
-unfoldable pub refused_text : Refused → List ℕ
-refused_text r = as_line (spaced (refused_words r))
-
 abbrev pub refusal_due : Refused → Due
 refusal_due r = record { status = Refusal; text = refused_text r; kept = [] }
+
+-- what `order` prints of a match that opens so: the world after its commands in key order and its beats
+unfoldable pub order_text : {W : Type 0} → Showing W → W → MatchData → List ℕ
+order_text show opening m =
+    block_text show.lines show.names (order_head m.length) (time_ordered show.rules opening m.commands m.length) ++ done_line
 
 -- for the match of a text: its game is the arena
 abbrev pub arena_shown : MatchData → Showing World
 arena_shown m = record { rules = arena_rules; lines = block_of; names = m.names }
 
--- a script line that is played: a tick, a turn, an arrival or a step
-abbrev pub is_played : ScriptLine → Bool
-is_played (lines.Tick mirror) = true
-is_played (lines.Turn mirror) = true
-is_played (lines.Arrive mirror from number) = true
-is_played (lines.Step mirror copy) = true
-is_played (lines.World mirror copy) = false
-is_played (lines.Run mirror copy) = false
-is_played (lines.Restagger mirror plan) = false
-
--- a match that can be played yet: of one copy and one plan, and with such lines alone
-unfoldable pub is_playable : MatchData → Bool
-is_playable m = (length m.delays == 1) && (length m.plans == 0) && list_all is_played m.script
-
--- what playing answers, where the match can be played yet, and where not
-abbrev pub play_due : Bool → MatchData → Due
-play_due true m = record {
-  status = Complete;
-  text = play_text (arena_shown m) (opening_world m.layout) m;
-  kept = logs_from 0 (played (opening_world m.layout) m);
-}
-play_due false m = refusal_due (refused_at 0 Shape)
-
+-- what a subcommand answers to a match
 abbrev pub due_of_match : Subcommand → MatchData → Due
 due_of_match Order m = record {
   status = Complete;
   text = order_text (arena_shown m) (opening_world m.layout) m;
   kept = [];
 }
-due_of_match Play m = play_due (is_playable m) m
+due_of_match Play m = record {
+  status = Complete;
+  text = play_text (arena_shown m) (opening_world m.layout) m;
+  kept = logs_from 0 (played (opening_world m.layout) m);
+}
 due_of_match Lift m = record { status = Complete; text = match_text (lifted m); kept = [] }
 
 -- a text is that of no match

@@ -1,5 +1,5 @@
 -- What a run of the program promises, of its words, its streams, its status and the logs that it keeps.
-use Rattle.std.specs.Prelude.{◌≡◌, ◌⊎◌, ◌+◌, ◌≤◌, ◌<◌, ℕ, true, List, [], Option, Some, None, IfSome, length, take, drop, option_map}
+use Rattle.std.specs.Prelude.{◌≡◌, ◌⊎◌, ◌+◌, ◌≤◌, ◌<◌, ℕ, List, [], Option, Some, None, IfSome, length, take, drop, option_map}
 use Rattle.tss_io.specs.Streams.{Rose, Yields, Gains}
 use Rattle.arena_rules.specs.World.{opening_world, arena_rules}
 use Rattle.match_file.specs.Data.{MatchData, IsMatch}
@@ -8,14 +8,14 @@ use Rattle.run_recorder.specs.declared.log.MirrorLog.{MirrorLog}
 use Rattle.tss_program.specs.declared.subcommand.Subcommand.{Subcommand}
 use Rattle.tss_program.specs.declared.subcommand.Subcommand.TheVariants.{Play}
 use Rattle.tss_program.specs.Subcommands.{subcommand_of}
-use Rattle.tss_program.specs.Hall.{played}
-use Rattle.tss_program.specs.Headline.{AllPlayed}
+use Rattle.match_hall.specs.Script.{played}
+use Rattle.match_hall.specs.Headline.{AllPlayed}
 use Rattle.tss_io.specs.declared.fault.Refused.{Refused}
 use Rattle.tss_program.specs.declared.status.Status.{Status}
 use Rattle.tss_program.specs.declared.status.Status.TheVariants.{WriteFault}
 use Rattle.tss_program.specs.declared.stop.Stop.{Stop}
 use Rattle.tss_program.specs.declared.stop.Stop.TheVariants as stops
-use Rattle.tss_program.specs.Due.{Due, IsDue, IsRefused, due_of_match, is_playable, code, text_limit, Ends}
+use Rattle.tss_program.specs.Due.{Due, IsDue, IsRefused, due_of_match, code, text_limit, Ends}
 
 -- what is seen of a source and a sink: the bytes that are left and those that were taken, where they tell them, how many
 -- calls failed, and how many calls were made to the source
@@ -97,10 +97,14 @@ pub record IsRun (words : List (List ℕ)) (old new : Streams) (status : ℕ) (k
   pub of_match : IfSome old.left (λ input. (subcommand : Subcommand) (m : MatchData)
       → subcommand_of words ≡ Some subcommand → IsMatch m → input ≡ match_text m
       → EndsWith (due_of_match subcommand m) old new status kept)
-  -- what playing promises: of a match that can be played and that the source tells, and of any logs that are kept, whatever
-  -- the source
+  -- and it is answered whole where no call failed, but for want of memory
+  pub complete : IfSome old.left (λ input. (subcommand : Subcommand) (m : MatchData)
+      → subcommand_of words ≡ Some subcommand → IsMatch m → input ≡ match_text m
+      → (Rose old.read_faults new.read_faults → ⊥) → (Rose old.write_faults new.write_faults → ⊥)
+      → (status ≡ 0) ⊎ (status ≡ 1))
+  -- what playing promises: of a match that the source tells, and of any logs that are kept, whatever the source
   pub played : IfSome old.left (λ input. (m : MatchData)
-      → subcommand_of words ≡ Some Play → IsMatch m → is_playable m ≡ true → input ≡ match_text m
+      → subcommand_of words ≡ Some Play → IsMatch m → input ≡ match_text m
       → (status ≡ 0) ⊎ (status ≡ 4) → Keeps m kept)
   pub played_whole : subcommand_of words ≡ Some Play → status ≡ 0 → KeepsAMatch old.left kept
   pub logs : (kept ≡ []) ⊎ KeepsAMatch old.left kept

@@ -1,12 +1,9 @@
 //! The program: words and bytes come in, bytes and a status go out.
 #![tactic(auto)]
 
+mod answer;
 mod done;
-mod hall;
 pub mod laws;
-mod play;
-mod refusal;
-mod report;
 mod run;
 mod status;
 mod stop;

@@ -11,23 +11,20 @@ ghost use Rattle.tss_program.specs.Subcommands.{subcommand_of};
 ghost use Rattle.tss_program.specs.Due.{due_of_match, code, text_limit};
 ghost use Rattle.tss_program.specs.Run.{Streams, IsInput, behind_limit, WhyStopped, IfRefused, IsRun, IsPut};
 
+use crate::answer::{Answer, lift_match, order, play};
 use crate::done::Done;
-use crate::play::{Answer, is_playable, lift_match, not_yet, order, play};
-use crate::refusal::refused_line;
 use crate::status::Status;
 use crate::stop::Stop;
 use crate::subcommand::Subcommand;
 use arena_rules::Arena;
 use game_trait::limits::LONGEST_MATCH_TEXT;
 use match_file::{Match, read_match};
+use report_text::{refused_line, usage_line};
 use run_recorder::MirrorLog;
 use std::alloc::Global;
 use std::io;
 use std::io::ErrorKind;
 use tss_io::{Failed, NoMemory, Seq, Sink, Source, put_all, read_all};
-
-// The line that is written where the words ask for nothing that is built.
-const USAGE: &str = "usage: tss order|play|race|audit|score|lift|soak N\n";
 
 // Reads the input to its end, or to one byte past the limit, and its match.
 fn read_input<S: Source>(alloc: Global, source: &mut S) -> Result<Match, Stop>
@@ -50,8 +47,7 @@ fn answer(alloc: Global, subcommand: Subcommand, m: Match) -> Result<Answer, NoM
     let opening = Arena::start(&m.setup);
     match subcommand {
         Subcommand::Order => order(alloc, &opening, &m),
-        Subcommand::Play if is_playable(&m) => play(alloc, &opening, &m),
-        Subcommand::Play => not_yet(alloc),
+        Subcommand::Play => play(alloc, &opening, &m),
         Subcommand::Lift => lift_match(alloc, m),
     }
 }
@@ -80,7 +76,12 @@ pub fn run_plain<S: Source, K: Sink>(
     ensures untouched { subcommand_of (map string_bytes words.now) ≡ None → source.new ≡ source.old }
 {
     let Some(subcommand) = Subcommand::of(words) else {
-        return put(sink, Status::WrongWords, USAGE.as_bytes(), Seq::new(alloc));
+        return put(
+            sink,
+            Status::WrongWords,
+            usage_line().as_bytes(),
+            Seq::new(alloc),
+        );
     };
     match read_input(alloc, source) {
         Ok(m) => match answer(alloc, subcommand, m) {

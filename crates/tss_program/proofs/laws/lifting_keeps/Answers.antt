@@ -1,4 +1,4 @@
-use Rattle.tss_program.proofs.Lifting.{lifted-order, lifted-script, lifted-played, lifted-text, lifted-playable}
+use Rattle.tss_program.proofs.Lifting.{lifted-order, lifted-script, lifted-played, lifted-text}
 use Rattle.tss_program.proofs.laws.lifting_keeps.Goals as goal
 
 pub returns-clause-order : goal.returns-clause-order
@@ -12,6 +12,3 @@ returns-clause-played g c = lifted-played
 
 pub returns-clause-text : goal.returns-clause-text
 returns-clause-text g c = lifted-text
-
-pub returns-clause-playable : goal.returns-clause-playable
-returns-clause-playable g c = lifted-playable

@@ -1,6 +1,6 @@
 use Rattle.std.proofs.Common.{[], Err, inl, inr, refl, ap, sym, ◌∙◌}
 use Rattle.tss_program.specs.declared.status.Status.TheVariants.{WrongWords, Refusal}
-use Rattle.tss_program.specs.Due.{usage_text, refused_text}
+use Rattle.report_text.specs.Ends.{usage_text, refused_text}
 use Rattle.tss_program.proofs.Ends.{run-usage, run-answered, run-refused, run-stopped, steady-ok, steady-refused, steady-memory, put-same, why-refused, why-failed, refused-at}
 use Rattle.tss_program.proofs.run.run_plain.Goals as goal
 
@@ -8,7 +8,7 @@ pub returns-in_default-clause-run : goal.returns-in_default-clause-run
 unfolding usage_text
 returns-in_default-clause-run g c =
     run-usage _ _ _ _ _ (sym c.of.ensures ∙ c.in_default.is)
-    (put-same WrongWords c.as_bytes.result.now usage_text c.new.result [] _ _ _ _ _ _ c.as_bytes.ensures.value c.new.ensures c.put.ensures) refl refl refl
+    (put-same WrongWords c.as_bytes.result.now usage_text c.new.result [] _ _ _ _ _ _ (c.as_bytes.ensures.value ∙ c.usage_line.ensures) c.new.ensures c.put.ensures) refl refl refl
 
 pub returns-in-Ok-answer-clause-run : goal.returns-in-Ok-answer-clause-run
 returns-in-Ok-answer-clause-run g c =

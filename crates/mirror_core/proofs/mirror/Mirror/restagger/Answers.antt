@@ -1,4 +1,5 @@
-use Rattle.mirror_core.proofs.Calls.{restaggered_state, restaggered_answer}
+use Rattle.std.proofs.Common.{sym}
+use Rattle.mirror_core.proofs.Answered.{restagger_one}
 use Rattle.mirror_core.proofs.Kept.{kept_restaggered}
 use Rattle.mirror_core.proofs.mirror.Mirror.restagger.Goals as goal
 
@@ -6,10 +7,10 @@ pub invariant_of-self : goal.invariant_of-self
 invariant_of-self g c =
     let there = rw (← c.self.view_is) at c.requires.there in
     let spare = rw (← c.self.view_is) at c.requires.room in
-    rw (c.push_reserved.ensures.items, c.push_reserved.ensures.capacity) (kept_restaggered _ _ c.args.plan c.self.invariant there spare)
+    rw (c.push_reserved.ensures.items, c.push_reserved.ensures.capacity) (kept_restaggered c.self.invariant c.args.plan there spare)
 
 pub returns-clause-state : goal.returns-clause-state
-returns-clause-state g c = rw (← c.self.view_is, c.push_reserved.ensures.items) (restaggered_state c.self.invariant c.args.plan)
+returns-clause-state g c = rw (← c.self.view_is, c.push_reserved.ensures.items) (sym (restagger_one _ c.args.plan).0)
 
 pub returns-clause-answer : goal.returns-clause-answer
-returns-clause-answer g c = rw (← c.self.view_is) (restaggered_answer c.self.invariant c.args.plan)
+returns-clause-answer g c = (restagger_one _ c.args.plan).1

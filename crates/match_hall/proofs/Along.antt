@@ -1,0 +1,129 @@
+-- Events made one after another, and lists of mirrors of which one is changed.
+use Rattle.std.proofs.Common.{◌≡◌, ℕ, zero, suc, ◌+◌, ◌-◌, ◌<◌, ◌≤◌, true, false, cond, List, [], ◌∷◌, ◌++◌, length, get_or, set, take, drop, map, refl, ap, sym, ◌∙◌, subst, append_assoc, arith}
+use Rattle.std.specs.List.{AllByRecursion}
+use Rattle.std.specs.Prelude.{Result, Ok, Err, OnErr}
+use Rattle.std.proofs.lemmas.List.{drop_more}
+use Rattle.game_trait.specs.declared.event.Event.{Event}
+use Rattle.game_trait.specs.declared.event.Event.TheVariants.{Tick, Arrive, Step, Restagger}
+use Rattle.game_trait.specs.Count.{times}
+use Rattle.game_trait.specs.Events.{is_arrival, is_restagger}
+use Rattle.game_trait.specs.declared.event.Reply.{Reply}
+use Rattle.sync_model.specs.State.{MirrorState}
+use Rattle.sync_model.specs.Change.{next, said, after, answers, changes, Fits}
+use Rattle.sync_model.specs.History.{HasRoom, HasRoomAlong}
+use Rattle.sync_model.proofs.Along.{all-fit-next}
+use Rattle.sync_model.proofs.Room.{spare-next, plan_spare-next}
+use Rattle.match_hall.specs.Script.{changed_at, told_at}
+
+-- ---- room
+
+pub all-append : {X : Type 0} (P : X → Type 0) (xs ys : List X) → AllByRecursion P xs → AllByRecursion P ys → AllByRecursion P (xs ++ ys)
+all-append P [] ys h k = k
+all-append P (x ∷ xs) ys h k = (h.0, all-append P xs ys h.1 k)
+
+-- an event spends at most one of the room for arrivals, and only where it is one, and the same of changes of the plan
+room-left :
+    {W : Type 0} (s : MirrorState W) (e : Event) (k j : ℕ) → cond (is_arrival e) 1 0 + k ≤ s.spare → cond (is_restagger e) 1 0 + j ≤ s.plan_spare
+    → HasRoom s e × (k ≤ (next s e).spare) × (j ≤ (next s e).plan_spare)
+room-left s Tick k j h g = (tt, (let spent = spare-next s Tick in omega arith), (let spent = plan_spare-next s Tick in omega arith))
+room-left s (Arrive x) k j h g = (
+  omega arith,
+  (let spent = spare-next s (Arrive x) in
+      elim (changes s (Arrive x)) as (λ v. (next s (Arrive x)).spare ≡ s.spare - cond v 1 0 → k ≤ (next s (Arrive x)).spare)
+      [ true ↦ λ e. omega arith | false ↦ λ e. omega arith ]
+      spent),
+  (let spent = plan_spare-next s (Arrive x) in omega arith),
+)
+room-left s (Step c) k j h g = (tt, (let spent = spare-next s (Step c) in omega arith), (let spent = plan_spare-next s (Step c) in omega arith))
+room-left s (Restagger p) k j h g =
+    (omega arith, (let spent = spare-next s (Restagger p) in omega arith), (let spent = plan_spare-next s (Restagger p) in omega arith))
+
+-- events of which no more are arrivals, and no more change the plan, than there is room all find room, and leave the rest
+pub room-along :
+    {W : Type 0} (es : List Event) (s : MirrorState W) (k j : ℕ) → times is_arrival es + k ≤ s.spare → times is_restagger es + j ≤ s.plan_spare
+    → HasRoomAlong s es × (k ≤ (after s es).spare) × (j ≤ (after s es).plan_spare)
+unfolding times HasRoomAlong after
+room-along [] s k j h g = (tt, omega arith, omega arith)
+room-along (e ∷ es) s k j h g =
+    let here = room-left s e (times is_arrival es + k) (times is_restagger es + j) (omega arith) (omega arith) in
+    let behind = room-along es (next s e) k j here.1 here.2 in
+    ((here.0, behind.0), behind.1, behind.2)
+
+-- ---- one event more
+
+pub fits-more :
+    {W : Type 0} (s t : MirrorState W) (es : List Event) (i : ℕ) (d : Event) → i < length es → t ≡ next s (get_or es i d)
+    → AllByRecursion (Fits s) (drop i es) → AllByRecursion (Fits t) (drop (i + 1) es)
+fits-more s t es i d below made fits =
+    let e = get_or es i d in
+    let all : AllByRecursion (Fits s) (e ∷ drop (i + 1) es) = subst (AllByRecursion (Fits s)) (drop_more es i d below) fits in
+    rw made (all-fit-next s e (drop (i + 1) es) all.1)
+
+pub room-more :
+    {W : Type 0} (s t : MirrorState W) (es : List Event) (i : ℕ) (d : Event) → i < length es → t ≡ next s (get_or es i d)
+    → HasRoomAlong s (drop i es) → HasRoomAlong t (drop (i + 1) es)
+unfolding HasRoomAlong
+room-more s t es i d below made room =
+    rw made ((subst (HasRoomAlong s) (drop_more es i d below) room).1)
+
+pub after-more :
+    {W : Type 0} (s t : MirrorState W) (es : List Event) (i : ℕ) (d : Event) → i < length es → t ≡ next s (get_or es i d)
+    → after t (drop (i + 1) es) ≡ after s (drop i es)
+unfolding after
+after-more s t es i d below made = rw made (sym (ap (after s) (drop_more es i d below)))
+
+pub answers-more :
+    {W : Type 0} (s t : MirrorState W) (es : List Event) (i : ℕ) (d : Event) (old new : List Reply) (reply : Reply)
+    → i < length es → t ≡ next s (get_or es i d) → reply ≡ said s (get_or es i d) → new ≡ old ++ reply ∷ []
+    → new ++ answers t (drop (i + 1) es) ≡ old ++ answers s (drop i es)
+unfolding answers
+answers-more s t es i d old new reply below made answered put =
+    let e = get_or es i d in
+    rw (put, answered, made)
+    (append_assoc old (said s e ∷ []) (answers (next s e) (drop (i + 1) es))
+    ∙ ap (λ (rs : List Reply). old ++ rs) (sym (ap (answers s) (drop_more es i d below))))
+
+-- ---- one element of a list
+
+pub changed_at-set : {X : Type 0} (f : X → X) (i : ℕ) (xs : List X) (d : X) → i < length xs → changed_at f i xs ≡ set xs i (f (get_or xs i d))
+unfolding changed_at
+changed_at-set f i [] d below = absurd (omega arith)
+changed_at-set f zero (x ∷ xs) d below = refl
+changed_at-set f (suc i) (x ∷ xs) d below = ap (λ (ys : List _). x ∷ ys) (changed_at-set f i xs d (omega arith))
+
+pub told_at-get : {X Y : Type 0} (g : X → List Y) (i : ℕ) (xs : List X) (d : X) → i < length xs → told_at g i xs ≡ g (get_or xs i d)
+unfolding told_at
+told_at-get g i [] d below = absurd (omega arith)
+told_at-get g zero (x ∷ xs) d below = refl
+told_at-get g (suc i) (x ∷ xs) d below = told_at-get g i xs d (omega arith)
+
+-- behind the element that is changed all stays
+drop-set : {X : Type 0} (xs : List X) (i : ℕ) (y : X) → drop (suc i) (set xs i y) ≡ drop (suc i) xs
+drop-set [] i y = refl
+drop-set (x ∷ xs) zero y = refl
+drop-set (x ∷ xs) (suc i) y = drop-set xs i y
+
+pub drop-set_more : {X : Type 0} (xs ys : List X) (i : ℕ) (y : X) → ys ≡ set xs i y → drop (i + 1) ys ≡ drop (i + 1) xs
+drop-set_more xs ys i y made = (let n : i + 1 ≡ suc i = omega arith in rw (made, n) (drop-set xs i y))
+
+-- one element after the other becomes what f makes of it
+map-next :
+    {X : Type 0} (f : X → X) (d : X) (xs : List X) (i : ℕ) → i < length xs
+    → take (suc i) (set xs i (f (get_or xs i d))) ++ map f (drop (suc i) xs) ≡ take i xs ++ map f (drop i xs)
+map-next f d [] i below = absurd (omega arith)
+map-next f d (x ∷ xs) zero below = refl
+map-next f d (x ∷ xs) (suc i) below = ap (λ (zs : List _). x ∷ zs) (map-next f d xs i (omega arith))
+
+pub map-more :
+    {X : Type 0} (f : X → X) (xs ys : List X) (i : ℕ) (d : X) → i < length xs → ys ≡ set xs i (f (get_or xs i d))
+    → take (i + 1) ys ++ map f (drop (i + 1) ys) ≡ take i xs ++ map f (drop i xs)
+map-more f xs ys i d below made =
+    (let n : i + 1 ≡ suc i = omega arith in
+    rw (made, n) (ap (λ (zs : List _). take (suc i) (set xs i (f (get_or xs i d))) ++ map f zs) (drop-set xs i (f (get_or xs i d))) ∙ map-next f d xs i below))
+
+-- ---- answers
+
+-- what holds anyway holds where there is an error
+pub on_err_of : {T E P : Type 0} (r : Result T E) → P → OnErr r P
+on_err_of (Ok x) p = tt
+on_err_of (Err e) p = p

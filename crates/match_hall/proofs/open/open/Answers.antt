@@ -1,0 +1,42 @@
+use Rattle.std.proofs.Common.{◌≡◌, ◌-◌, List, length, sym, ap, subst, ◌∙◌, arith}
+use Rattle.std.specs.List.{AllByRecursion}
+use Rattle.game_trait.specs.Count.{times}
+use Rattle.match_file.specs.Data.{MatchData, IsMatch}
+use Rattle.sync_model.specs.Schedule.{Schedule}
+use Rattle.mirror_core.specs.Kept.{ticks_of_first, copies_of_first}
+use Rattle.match_file.specs.declared.script_line.ScriptLine.{ScriptLine}
+use Rattle.match_hall.specs.Script.{arrives_at, restaggers_at, opening_from}
+use Rattle.match_hall.proofs.Ready.{opened-more, opened-all, equal-ticks, equal-copies}
+use Rattle.match_hall.proofs.Whole.{opened-few}
+use Rattle.match_hall.proofs.open.open.Goals as goal
+
+pub loop-number-init : goal.loop-number-init
+loop-number-init g c = rw c.new-mirrors.ensures.items (let n : c.args.m.now.mirrors - 0 ≡ c.args.m.now.mirrors = omega arith in ap (opening_from c.args.opening.now c.args.m.now 0) n)
+
+pub new-requires-clause-equal_ticks : goal.new-requires-clause-equal_ticks
+new-requires-clause-equal_ticks g c =
+    subst (λ (ps : List Schedule). AllByRecursion (λ plan. plan.length ≡ ticks_of_first ps) ps) (sym (c.as_slice-in-loop-number-2.ensures.value ∙ c.in_ok-plans.ensures))
+    (equal-ticks c.args.m.now (subst IsMatch c.m.view_is c.m.invariant))
+
+pub new-requires-clause-equal_copies : goal.new-requires-clause-equal_copies
+new-requires-clause-equal_copies g c =
+    subst (λ (ps : List Schedule). AllByRecursion (λ plan. length plan.delays ≡ copies_of_first ps) ps) (sym (c.as_slice-in-loop-number-2.ensures.value ∙ c.in_ok-plans.ensures))
+    (equal-copies c.args.m.now (subst IsMatch c.m.view_is c.m.invariant))
+
+pub loop-number-preserved : goal.loop-number-preserved
+loop-number-preserved g c =
+    let all = ap (λ (m : MatchData). m.script) c.m.view_is in
+    let room = c.arrivals_at-room.ensures.value ∙ ap (λ (ls : List ScriptLine). times (arrives_at c.loop-number.number) ls) (c.as_slice.ensures ∙ all) in
+    let changes = c.changes_at-changes.ensures.value ∙ ap (λ (ls : List ScriptLine). times (restaggers_at c.loop-number.number) ls) (c.as_slice-in-loop-number.ensures ∙ all) in
+    opened-more c.args.opening.now c.args.m.now c.loop-number.number _ _ _ _ _ _ (rw (← c.m.view_is) c.loop-number-test.true)
+    (c.as_slice-in-loop-number-2.ensures.value ∙ c.in_ok-plans.ensures) room changes c.in_ok-new.ensures c.in_ok-push.ensures.items
+    ∙ c.loop-number.invariant
+
+pub returns-clause-mirrors : goal.returns-clause-mirrors
+returns-clause-mirrors g c =
+    sym (opened-all c.args.opening.now c.args.m.now c.loop-number.number _ (rw (← c.m.view_is) c.loop-number-test.false)) ∙ c.loop-number.invariant
+
+pub returns-clause-few : goal.returns-clause-few
+returns-clause-few g c =
+    let made = sym (opened-all c.args.opening.now c.args.m.now c.loop-number.number _ (rw (← c.m.view_is) c.loop-number-test.false)) ∙ c.loop-number.invariant in
+    rw made (opened-few c.args.opening.now c.args.m.now (subst IsMatch c.m.view_is c.m.invariant))

@@ -1,0 +1,4 @@
+pub mod Script
+pub mod Report
+pub mod Stops
+pub mod Headline

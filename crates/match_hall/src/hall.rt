@@ -1,0 +1,211 @@
+//! The hall of a match: its mirrors, played along its script and drained.
+
+ghost use Rattle.std.specs.Prelude.{◌≡◌, ◌++◌, ◌<◌, ◌≤◌, Some, length, map, OnOk, OnErr, IfOk, slice_get};
+ghost use Rattle.std.specs.List.{AllByRecursion};
+ghost use Rattle.sync_model.specs.State.{MirrorState};
+ghost use Rattle.sync_model.specs.Change.{Fits};
+ghost use Rattle.sync_model.specs.History.{HasRoomAlong};
+ghost use Rattle.sync_model.specs.Turns.{drain};
+ghost use Rattle.match_file.specs.Data.{IsScriptLine};
+ghost use Rattle.match_hall.specs.Script.{events_of, after_line, after_script, opening_mirrors, logs_from};
+ghost use Rattle.match_hall.specs.Report.{Showing, line_text, script_text, drains_text, mirrors_text};
+ghost use Rattle.match_hall.specs.Stops.{IsStoppedScript, IsStoppedDraining};
+
+use crate::drain::drain_mirror;
+use crate::events::make;
+use crate::open::open;
+use crate::script::mirror_of;
+use crate::show::{push_copy, push_mirror, push_replies, push_run};
+use arena_rules::{Roster, Shown};
+use game_trait::{Game, MirrorId};
+use match_file::{Match, ScriptLine};
+use mirror_core::Mirror;
+use run_recorder::MirrorLog;
+use std::alloc::Global;
+use std::marker::Model;
+use tss_io::{NoMemory, Seq};
+
+/// The mirrors of a match. Contracts see the list of their states, mirror 0 first.
+#[derive(Drop)]
+pub struct Hall<G: Game> {
+    mirrors: Vec<Mirror<G>>,
+}
+
+impl<G: Game> Model for Hall<G> {
+    ghost use Rattle.std.specs.Prelude.{List, ◌≤◌, length};
+    ghost use Rattle.sync_model.specs.State.{MirrorState};
+
+    ghost Value = { List (MirrorState G) };
+
+    ghost view = { λ h. h.mirrors.items };
+
+    ghost invariant = { λ h. length h.mirrors.items ≤ 8 };
+}
+
+// Makes a script line at the mirror that it names, and appends what it prints. On `NoMemory` the line was made, and `out` is
+// unchanged.
+#[tactic(auto, unfolding(crate::specs::Report::line_text, crate::specs::Script::events_of, sync_model::specs::Change::after))]
+fn play_line<G: Game + Shown>(
+    mirror: &mut Mirror<G>,
+    m: &Match,
+    line: &ScriptLine,
+    out: &mut Vec<u8>,
+) -> Result<(), NoMemory>
+    requires line { IsScriptLine m.now line.now }
+    requires copies { length mirror.old.runs ≡ length m.now.delays }
+    requires fits { AllByRecursion (Fits mirror.old) (events_of m.now.commands (length mirror.old.runs) line.now) }
+    requires room { HasRoomAlong mirror.old (events_of m.now.commands (length mirror.old.runs) line.now) }
+    ensures state { mirror.new ≡ after_line m.now.commands line.now mirror.old }
+    ensures ok { let show : Showing G = record { rules = G.rules; lines = G.lines; names = m.now.names } in
+        OnOk result (out.new.items ≡ out.old.items ++ line_text show m.now.commands line.now mirror.old) }
+    ensures err { OnErr result (out.new.items ≡ out.old.items) }
+{
+    match *line {
+        ScriptLine::World {
+            mirror: number,
+            copy,
+        } => push_copy(out, number, mirror, copy, &m.roster),
+        ScriptLine::Run {
+            mirror: number,
+            copy,
+        } => push_run(out, number, mirror, copy),
+        _ => {
+            let replies = make(mirror, m, line);
+            push_replies(out, line, replies.as_slice())
+        }
+    }
+}
+
+// Makes the lines of a match's script one after another, each at the mirror that it names, and appends what they print.
+fn play_script<G: Game + Shown>(
+    mirrors: &mut Vec<Mirror<G>>,
+    m: &Match,
+    out: &mut Vec<u8>,
+) -> Result<(), NoMemory>
+    requires opening { (opening : G) × (mirrors.old.items ≡ opening_mirrors opening m.now) }
+    ensures count { length mirrors.new.items ≡ length mirrors.old.items }
+    ensures state { OnOk result (mirrors.new.items
+        ≡ after_script m.now.commands mirrors.old.items m.now.script) }
+    ensures text { let show : Showing G = record { rules = G.rules; lines = G.lines; names = m.now.names } in
+        OnOk result (out.new.items ≡ out.old.items
+        ++ script_text show m.now.commands mirrors.old.items m.now.script) }
+    ensures stopped { let show : Showing G = record { rules = G.rules; lines = G.lines; names = m.now.names } in
+        OnErr result (IsStoppedScript show m.now mirrors.old.items mirrors.new.items out.old.items out.new.items) }
+{
+    let script = m.script.as_slice();
+    for line in script {
+        let at = usize::from(mirror_of(line));
+        play_line(&mut mirrors[at], m, line, out)?;
+    }
+    Ok(())
+}
+
+// Drains mirrors one after another, and appends what that prints.
+fn drain_mirrors<G: Game>(mirrors: &mut Vec<Mirror<G>>, out: &mut Vec<u8>) -> Result<(), NoMemory>
+    requires { length mirrors.old.items ≤ 8 }
+    ensures count { length mirrors.new.items ≡ length mirrors.old.items }
+    ensures state { OnOk result (mirrors.new.items ≡ map (λ s. drain s) mirrors.old.items) }
+    ensures text { OnOk result (out.new.items ≡ out.old.items ++ drains_text 0 mirrors.old.items) }
+    ensures stopped { OnErr result (IsStoppedDraining mirrors.old.items mirrors.new.items out.old.items out.new.items) }
+{
+    for at in 0..mirrors.len() {
+        let turns = mirrors[at].turns_to_drain();
+        drain_mirror(&mut mirrors[at], at as MirrorId, turns, out)?;
+    }
+    Ok(())
+}
+
+// Appends the lines of mirrors, mirror 0 first, each with its copies' blocks.
+#[tactic(auto, unfolding(crate::specs::Report::mirrors_text))]
+fn push_mirrors<G: Game + Shown>(
+    mirrors: &[Mirror<G>],
+    roster: &Roster,
+    out: &mut Vec<u8>,
+) -> Result<(), NoMemory>
+    requires { length mirrors.now ≤ 8 }
+    ensures { let show : Showing G = record { rules = G.rules; lines = G.lines; names = roster.now } in
+        OnOk result (out.new.items ≡ out.old.items ++ mirrors_text show 0 mirrors.now) }
+{
+    let mut number: MirrorId = 0;
+    for mirror in mirrors {
+        push_mirror(out, number, mirror, roster)?;
+        number += 1;
+    }
+    Ok(())
+}
+
+// The logs of mirrors, mirror 0 first.
+#[tactic(auto, unfolding(crate::specs::Script::logs_from))]
+fn logs_of<G: Game>(alloc: Global, mirrors: &[Mirror<G>]) -> Result<Seq<MirrorLog>, NoMemory>
+    requires { length mirrors.now ≤ 8 }
+    ensures { IfOk result (λ kept. kept ≡ logs_from 0 mirrors.now) }
+{
+    let mut kept = Seq::new(alloc);
+    let mut number: MirrorId = 0;
+    for mirror in mirrors {
+        let events = Vec::from_slice(alloc, mirror.events())?;
+        kept.push(MirrorLog::new(number, events))?;
+        number += 1;
+    }
+    Ok(kept)
+}
+
+impl<G: Game + Shown> Hall<G> {
+    /// The mirrors of a match as it begins with this world. Each has room for the script's arrivals at it, and for the script's
+    /// changes of its plan. Want of memory makes nothing.
+    pub fn new(alloc: Global, m: &Match, opening: &G) -> Result<Hall<G>, NoMemory>
+        ensures { IfOk result (λ hall. hall ≡ opening_mirrors opening.now m.now) }
+    {
+        let mirrors = open(alloc, opening, m)?;
+        Ok(Hall { mirrors })
+    }
+
+    /// Makes the lines of the match's script one after another, each at the mirror that it names, and appends what they print.
+    /// The hall is as `new` made it of this match. On `NoMemory` it stopped at one of the lines, which was made and whose text
+    /// wasn't appended; each mirror is the state after its history, as always.
+    pub fn play(&mut self, m: &Match, out: &mut Vec<u8>) -> Result<(), NoMemory>
+        requires opened { (opening : G) × (self.old ≡ opening_mirrors opening m.now) }
+        ensures state { OnOk result (self.new ≡ after_script m.now.commands self.old m.now.script) }
+        ensures text { let show : Showing G = record { rules = G.rules; lines = G.lines; names = m.now.names } in
+            OnOk result (out.new.items ≡ out.old.items ++ script_text show m.now.commands self.old m.now.script) }
+        ensures stopped { let show : Showing G = record { rules = G.rules; lines = G.lines; names = m.now.names } in
+            OnErr result (IsStoppedScript show m.now self.old self.new out.old.items out.new.items) }
+    {
+        play_script(&mut self.mirrors, m, out)
+    }
+
+    /// Drains the mirrors, mirror 0 first: turns of each until each of its copies has run the whole match. It appends what these
+    /// print, which is their repairs. On `NoMemory` it stopped at a turn of one of the mirrors, which was made and whose text
+    /// wasn't appended.
+    pub fn drain(&mut self, out: &mut Vec<u8>) -> Result<(), NoMemory>
+        ensures state { OnOk result (self.new ≡ map (λ s. drain s) self.old) }
+        ensures text { OnOk result (out.new.items ≡ out.old.items ++ drains_text 0 self.old) }
+        ensures stopped { OnErr result (IsStoppedDraining self.old self.new out.old.items out.new.items) }
+    {
+        drain_mirrors(&mut self.mirrors, out)
+    }
+
+    /// Appends the line of each mirror, mirror 0 first, and behind it the blocks of its copies, copy 0 first. On `NoMemory`
+    /// some of it may have been appended.
+    pub fn show(&self, roster: &Roster, out: &mut Vec<u8>) -> Result<(), NoMemory>
+        ensures { let show : Showing G = record { rules = G.rules; lines = G.lines; names = roster.now } in
+            OnOk result (out.new.items ≡ out.old.items ++ mirrors_text show 0 self.now) }
+    {
+        push_mirrors(self.mirrors.as_slice(), roster, out)
+    }
+
+    /// The mirror of this number, which is there.
+    pub fn mirror(&self, mirror: MirrorId) -> &Mirror<G>
+        requires { mirror < length self.now }
+        ensures { slice_get self.now mirror ≡ Some result.now }
+    {
+        &self.mirrors[usize::from(mirror)]
+    }
+
+    /// The logs of the mirrors, mirror 0 first: of each the events that changed it, in order. Want of memory makes none.
+    pub fn logs(&self, alloc: Global) -> Result<Seq<MirrorLog>, NoMemory>
+        ensures { IfOk result (λ kept. kept ≡ logs_from 0 self.now) }
+    {
+        logs_of(alloc, self.mirrors.as_slice())
+    }
+}

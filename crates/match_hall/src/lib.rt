@@ -1,0 +1,12 @@
+//! All mirrors of a match: they are played along its script and drained, and what that prints is appended as it happens.
+#![tactic(auto)]
+
+mod drain;
+mod events;
+mod hall;
+pub mod laws;
+mod open;
+mod script;
+mod show;
+
+pub use hall::Hall;

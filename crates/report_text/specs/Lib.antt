@@ -1,0 +1,4 @@
+pub mod Replies
+pub mod Mirrors
+pub mod Worlds
+pub mod Ends

@@ -1,0 +1,42 @@
+//! The last line of a text, and the texts that are one line.
+
+ghost use Rattle.std.specs.Prelude.{◌≡◌, ◌++◌, OnOk, OnErr};
+ghost use Rattle.report_text.specs.Ends.{done_line, refused_text, usage_text};
+
+use arrayvec::ArrayString;
+use itoa::Buffer;
+use tss_io::{NoMemory, Refused, Word, push_line};
+
+/// Appends the last line, `done`. On `NoMemory` `out` is unchanged.
+#[tactic(auto, unfolding(crate::specs::Ends::done_line))]
+pub fn push_done(out: &mut Vec<u8>) -> Result<(), NoMemory>
+    ensures ok { OnOk result (out.new.items ≡ out.old.items ++ done_line) }
+    ensures err { OnErr result (out.new.items ≡ out.old.items) }
+{
+    push_line(out, &[Word::Text(b"done")])
+}
+
+/// The line that tells of a refused text, `refused line L cause C WORD`. It takes no memory, so that a fault that was found
+/// can't come out as want of it.
+#[tactic(auto, unfolding(crate::specs::Ends::refused_text))]
+pub fn refused_line(refused: Refused) -> ArrayString<64>
+    ensures { result.bytes ≡ refused_text refused }
+{
+    let mut line = ArrayString::new();
+    line.push_str("refused line ");
+    line.push_str(Buffer::new().format(refused.line));
+    line.push_str(" cause ");
+    line.push_str(Buffer::new().format(refused.cause.number()));
+    line.push_str(" ");
+    line.push_str(refused.cause.word());
+    line.push_str("\n");
+    line
+}
+
+/// The line for words that ask for nothing that is built. It takes no memory.
+#[tactic(auto, unfolding(crate::specs::Ends::usage_text))]
+pub fn usage_line() -> &'static str
+    ensures { result.now ≡ usage_text }
+{
+    "usage: tss order|play|race|audit|score|lift|soak N\n"
+}
