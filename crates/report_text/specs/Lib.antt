@@ -2,3 +2,4 @@ pub mod Replies
 pub mod Mirrors
 pub mod Worlds
 pub mod Ends
+pub mod Score
