@@ -205,7 +205,10 @@ fn equal_clocks_and_no_passing(rt: HostRuntime) -> Result<(), Fail> {
 fn command_for_later(rt: HostRuntime) -> Result<(), Fail> {
     let worked = Worked {
         turns: 0,
-        answers: &[(arrival(7, 7), taken(0)), (arrival(7, 7), Reply::Arrive(Arrived::Repeat))],
+        answers: &[
+            (arrival(7, 7), taken(0)),
+            (arrival(7, 7), Reply::Arrive(Arrived::Repeat)),
+        ],
         repairs: 0,
         run: &in_order(go(7, 7)),
     };
@@ -282,7 +285,10 @@ impl Draws {
         requires { 0 < bound }
         ensures { result < bound }
     {
-        self.state = self.state.wrapping_mul(1_664_525).wrapping_add(1_013_904_223);
+        self.state = self
+            .state
+            .wrapping_mul(1_664_525)
+            .wrapping_add(1_013_904_223);
         (self.state >> 16) % bound
     }
 
@@ -322,14 +328,77 @@ fn opened<G: Game>(alloc: Global, opening: &G, copies: u8) -> Result<Mirror<G>, 
     ensures { IfOk result (λ m. (m.length ≡ 8) × (length m.plans ≡ 2)) }
 {
     match copies {
-        1 => Mirror::new(alloc, opening, &[Stagger::new(&[0], 8), Stagger::new(&[1], 8)], 400, 400),
-        2 => Mirror::new(alloc, opening, &[Stagger::new(&[0, 1], 8), Stagger::new(&[1, 2], 8)], 400, 400),
-        3 => Mirror::new(alloc, opening, &[Stagger::new(&[0, 1, 2], 8), Stagger::new(&[1, 2, 4], 8)], 400, 400),
-        4 => Mirror::new(alloc, opening, &[Stagger::new(&[0, 1, 2, 3], 8), Stagger::new(&[1, 2, 4, 6], 8)], 400, 400),
-        5 => Mirror::new(alloc, opening, &[Stagger::new(&[0, 1, 2, 3, 5], 8), Stagger::new(&[1, 2, 4, 6, 7], 8)], 400, 400),
-        6 => Mirror::new(alloc, opening, &[Stagger::new(&[0, 1, 2, 3, 5, 6], 8), Stagger::new(&[1, 2, 4, 6, 7, 9], 8)], 400, 400),
-        7 => Mirror::new(alloc, opening, &[Stagger::new(&[0, 1, 2, 3, 5, 6, 8], 8), Stagger::new(&[1, 2, 4, 6, 7, 9, 11], 8)], 400, 400),
-        _ => Mirror::new(alloc, opening, &[Stagger::new(&[0, 1, 2, 3, 5, 6, 8, 9], 8), Stagger::new(&[1, 2, 4, 6, 7, 9, 11, 12], 8)], 400, 400),
+        1 => Mirror::new(
+            alloc,
+            opening,
+            &[Stagger::new(&[0], 8), Stagger::new(&[1], 8)],
+            400,
+            400,
+        ),
+        2 => Mirror::new(
+            alloc,
+            opening,
+            &[Stagger::new(&[0, 1], 8), Stagger::new(&[1, 2], 8)],
+            400,
+            400,
+        ),
+        3 => Mirror::new(
+            alloc,
+            opening,
+            &[Stagger::new(&[0, 1, 2], 8), Stagger::new(&[1, 2, 4], 8)],
+            400,
+            400,
+        ),
+        4 => Mirror::new(
+            alloc,
+            opening,
+            &[
+                Stagger::new(&[0, 1, 2, 3], 8),
+                Stagger::new(&[1, 2, 4, 6], 8),
+            ],
+            400,
+            400,
+        ),
+        5 => Mirror::new(
+            alloc,
+            opening,
+            &[
+                Stagger::new(&[0, 1, 2, 3, 5], 8),
+                Stagger::new(&[1, 2, 4, 6, 7], 8),
+            ],
+            400,
+            400,
+        ),
+        6 => Mirror::new(
+            alloc,
+            opening,
+            &[
+                Stagger::new(&[0, 1, 2, 3, 5, 6], 8),
+                Stagger::new(&[1, 2, 4, 6, 7, 9], 8),
+            ],
+            400,
+            400,
+        ),
+        7 => Mirror::new(
+            alloc,
+            opening,
+            &[
+                Stagger::new(&[0, 1, 2, 3, 5, 6, 8], 8),
+                Stagger::new(&[1, 2, 4, 6, 7, 9, 11], 8),
+            ],
+            400,
+            400,
+        ),
+        _ => Mirror::new(
+            alloc,
+            opening,
+            &[
+                Stagger::new(&[0, 1, 2, 3, 5, 6, 8, 9], 8),
+                Stagger::new(&[1, 2, 4, 6, 7, 9, 11, 12], 8),
+            ],
+            400,
+            400,
+        ),
     }
 }
 
@@ -374,7 +443,11 @@ fn goes_like_slow<G: Compared>(
     true
 }
 
-fn seeds_go_like_slow<G: Compared>(rt: &impl Abort, alloc: Global, opening: &G) -> Result<(), NoMemory> {
+fn seeds_go_like_slow<G: Compared>(
+    rt: &impl Abort,
+    alloc: Global,
+    opening: &G,
+) -> Result<(), NoMemory> {
     for copies in 1..9 {
         for seed in 0..12 {
             let mut mirror = opened(alloc, opening, copies)?;

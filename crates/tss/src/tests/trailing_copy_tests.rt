@@ -4,8 +4,8 @@ use super::counting_game::{OPENING, go};
 use game_trait::{Game, Item};
 use std::alloc::Global;
 use std::test::Fail;
-use tss_io::NoMemory;
 use trailing_copy::CopyStack;
+use tss_io::NoMemory;
 
 // Whether two copies are opened and take a command that is due later.
 #[tactic(auto, unfolding(game_trait::specs::Run::beats, sync_model::specs::Lists::last_of))]
@@ -28,10 +28,12 @@ fn does_commit(alloc: Global) -> Result<bool, NoMemory> {
     let mut stack = CopyStack::new(alloc, &OPENING, 1, 8, 2)?;
     let mut world = OPENING;
     world.beat();
-    Ok(stack.commit_tick(0, &world) == 0
-        && stack.clock(0) == 1
-        && *stack.world(0) == world
-        && stack.run_item(0, 0) == Item::Beat)
+    Ok(
+        stack.commit_tick(0, &world) == 0
+            && stack.clock(0) == 1
+            && *stack.world(0) == world
+            && stack.run_item(0, 0) == Item::Beat,
+    )
 }
 
 #[test]
