@@ -4,11 +4,14 @@
 mod arena;
 mod counting_game;
 mod game_trait_tests;
+mod match_hall_tests;
 mod match_texts;
 mod mirror_core_tests;
 mod mirror_lock_tests;
 mod plain_arena;
+mod plays;
 mod program;
+mod report_text_tests;
 mod stagger_clock_tests;
 mod tss_io_tests;
 mod turn_lock_tests;
