@@ -1,17 +1,20 @@
 #!/usr/bin/env python3
 """Times the built program on the largest plain match, and shows how time grows with the commands.
 
-    python3 tools/bench.py PROGRAM [--word order|play] [--text plain|script|late|copies|falling|arena|large] [--runs N]
+    python3 tools/bench.py PROGRAM [--word order|play] [--text KIND] [--runs N]
 
 PROGRAM is the built program `tss`. The match has 8,192 ticks and 2,048 to 16,384 commands of one mirror, in a mixed
 order of lines. A plain text has no script. In a `script` text there is one turn a tick, and each command arrives at a lag
 of 0 to 40 ticks behind its time, so that some are in time and some are late. In a `late` text all commands arrive after
 the last turn, so each is found, turned away and printed, and none is executed: that measures reading, finding and
-printing apart. `order` on a `script` text measures reading and executing without a mirror. A `copies` text is a script
-text with four copies at delays of 0, 10, 40 and 100 ticks and lags of 0 to 100 ticks, so that every command is taken and most
-are repaired. In a `falling` text all commands are of one tick, and arrive at each of eight mirrors in falling key order. An
-`arena` text has 4,096 ticks, eight players who shoot a third of the time, walls and pickups, so it measures the arena's rules. A `large` text has 300 walls,
-16 script lines for each command, all arrivals at one mirror, and up to 262,144 of them. Without --text it is plain
+printing apart. `order` on a `script` text measures reading and executing without a mirror. A `copies` text is a script text
+with four copies at delays of 0, 10, 40 and 100 ticks and lags of 0 to 100 ticks, so that every command is taken and most are
+repaired. In a `falling` text all commands are of one tick, and arrive at each of eight mirrors in falling key order. An `arena`
+text has 4,096 ticks, eight players who shoot a third of the time, walls and pickups, so it measures the arena's rules. A `large`
+text has 300 walls, 16 script lines for each command, all arrivals at one mirror, and up to 262,144 of them. The kinds `four`,
+`eight` and `largest` have several mirrors, as many copies, eight players and one turn a tick of each mirror, and each command
+arrives at every mirror: 4 mirrors, 4,096 ticks and lags up to 100 ticks; 8 mirrors, 2,048 ticks and lags up to 400; 8 mirrors,
+8,192 ticks and lags up to 1,024. The other kinds are plain, script and late. Without --text it is plain
 for `order` and script for `play`. Each match is run N times (default 15); the least wall time, the start of the process
 included, and the greatest peak memory are printed, and by how much each doubling multiplies the time.
 """
@@ -98,6 +101,36 @@ def large_text(count):
     return "".join(line + "\n" for line in lines).encode()
 
 
+HALLS = {
+    "four": (4, (0, 25, 50, 100), 4096, 100),
+    "eight": (8, (0, 50, 100, 150, 200, 250, 300, 400), 2048, 400),
+    "largest": (8, (0, 128, 256, 384, 512, 640, 768, 1024), 8192, 1024),
+}
+
+
+def hall_text(count, kind):
+    mirrors, delays, length, lag = HALLS[kind]
+    draws = Draws(7)
+    lines = ["tss match 1", f"length {length}", "grid 64 64", f"mirrors {mirrors}", "delays " + " ".join(map(str, delays)), "pace 0"]
+    lines += [f"player p{i} {8 * i + 1} 2 {'nesw'[i % 4]}" for i in range(8)]
+    arrivals = {}
+    for number in range(count):
+        tick, sender = draws.below(length), number % mirrors
+        lines.append(f"cmd {tick} {sender} {number} {draws.below(8)} {('go', 'go', 'left', 'right', 'shoot')[draws.below(5)]}")
+        for mirror in range(mirrors):
+            clock = tick if mirror == sender else tick + draws.below(lag + 1)
+            arrivals.setdefault((clock, mirror), []).append(f"arrive {mirror} {sender} {number}")
+    lines.append("script")
+    for clock in range(length):
+        for mirror in range(mirrors):
+            lines += arrivals.pop((clock, mirror), [])
+            lines.append(f"turn {mirror}")
+    for key in sorted(arrivals):
+        lines += arrivals[key]
+    lines.append("end")
+    return "".join(line + "\n" for line in lines).encode()
+
+
 def run_once(program, word, text):
     """The wall time in seconds and the peak memory in KiB of one run."""
     read_end, write_end = os.pipe()
@@ -132,7 +165,7 @@ def main():
     parser = argparse.ArgumentParser()
     parser.add_argument("program")
     parser.add_argument("--word", choices=("order", "play"), default="order")
-    parser.add_argument("--text", choices=("plain", "script", "late", "copies", "falling", "arena", "large"))
+    parser.add_argument("--text", choices=("plain", "script", "late", "copies", "falling", "arena", "large", *HALLS))
     parser.add_argument("--runs", type=int, default=15)
     given = parser.parse_args()
     kind = given.text or ("script" if given.word == "play" else "plain")
@@ -140,7 +173,8 @@ def main():
     print(f"processor: {processor()}, {os.cpu_count()} cores")
     before = None
     for count in COUNTS:
-        text = {"arena": arena_text, "large": large_text, "falling": falling_text}.get(kind, lambda n: match_text(n, kind))(count)
+        own = {"arena": arena_text, "large": large_text, "falling": falling_text}
+        text = own.get(kind, lambda n: (hall_text if kind in HALLS else match_text)(n, kind))(count)
         runs = [run_once(program, given.word, text) for _ in range(given.runs)]
         least = min(seconds for seconds, _ in runs)
         peak = max(memory for _, memory in runs)

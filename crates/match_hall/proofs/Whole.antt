@@ -23,6 +23,9 @@ after_script-count commands [] mirrors = refl
 after_script-count commands (l ∷ ls) mirrors =
     after_script-count commands ls (changed_at (after_line commands l) (mirror_of l) mirrors) ∙ changed_at-count (after_line commands l) (mirror_of l) mirrors
 
+pub opened-count : {W : Type 0} (opening : W) (m : MatchData) → length (opening_mirrors opening m) ≡ m.mirrors
+opened-count opening m = (all-opening m opening).count
+
 pub opened-few : {W : Type 0} (opening : W) (m : MatchData) → IsMatch m → length (opening_mirrors opening m) ≤ 8
 opened-few opening m sound = (let count = (all-opening m opening).count in let few = sound.mirrors.1 in omega arith)
 

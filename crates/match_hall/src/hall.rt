@@ -154,7 +154,8 @@ impl<G: Game + Shown> Hall<G> {
     /// The mirrors of a match as it begins with this world. Each has room for the script's arrivals at it, and for the script's
     /// changes of its plan. Want of memory makes nothing.
     pub fn new(alloc: Global, m: &Match, opening: &G) -> Result<Hall<G>, NoMemory>
-        ensures { IfOk result (λ hall. hall ≡ opening_mirrors opening.now m.now) }
+        ensures mirrors { IfOk result (λ hall. hall ≡ opening_mirrors opening.now m.now) }
+        ensures count { IfOk result (λ hall. length hall ≡ m.now.mirrors) }
     {
         let mirrors = open(alloc, opening, m)?;
         Ok(Hall { mirrors })
@@ -165,6 +166,7 @@ impl<G: Game + Shown> Hall<G> {
     /// wasn't appended; each mirror is the state after its history, as always.
     pub fn play(&mut self, m: &Match, out: &mut Vec<u8>) -> Result<(), NoMemory>
         requires opened { (opening : G) × (self.old ≡ opening_mirrors opening m.now) }
+        ensures count { length self.new ≡ length self.old }
         ensures state { OnOk result (self.new ≡ after_script m.now.commands self.old m.now.script) }
         ensures text { let show : Showing G = record { rules = G.rules; lines = G.lines; names = m.now.names } in
             OnOk result (out.new.items ≡ out.old.items ++ script_text show m.now.commands self.old m.now.script) }
@@ -178,6 +180,7 @@ impl<G: Game + Shown> Hall<G> {
     /// print, which is their repairs. On `NoMemory` it stopped at a turn of one of the mirrors, which was made and whose text
     /// wasn't appended.
     pub fn drain(&mut self, out: &mut Vec<u8>) -> Result<(), NoMemory>
+        ensures count { length self.new ≡ length self.old }
         ensures state { OnOk result (self.new ≡ map (λ s. drain s) self.old) }
         ensures text { OnOk result (out.new.items ≡ out.old.items ++ drains_text 0 self.old) }
         ensures stopped { OnErr result (IsStoppedDraining self.old self.new out.old.items out.new.items) }

@@ -27,6 +27,7 @@ fn plans(alloc: Global, m: &Match) -> Result<Vec<Stagger>, NoMemory>
 #[tactic(auto, unfolding(crate::specs::Script::opening_from))]
 pub fn open<G: Game>(alloc: Global, opening: &G, m: &Match) -> Result<Vec<Mirror<G>>, NoMemory>
     ensures mirrors { IfOk result (λ mirrors. mirrors.items ≡ opening_mirrors opening.now m.now) }
+    ensures count { IfOk result (λ mirrors. length mirrors.items ≡ m.now.mirrors) }
     ensures few { IfOk result (λ mirrors. length mirrors.items ≤ 8) }
 {
     let plans = plans(alloc, m)?;

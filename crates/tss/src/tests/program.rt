@@ -9,8 +9,6 @@ use tss_program::{Done, run_arguments, run_plain};
 
 const USAGE: &str = "usage: tss order|play|race|audit|score|lift|soak N\n";
 
-const NOT_YET: &str = "refused line 0 cause 2 shape\n";
-
 const OPENING: &str =
     "tss match 1\nlength 1\ngrid 3 1\nmirrors 1\ndelays 0\npace 0\nplayer ann 0 0 e\nend\n";
 
@@ -21,6 +19,9 @@ const TWO_COPIES: &str =
 
 const TWO_COPIES_LIFTED: &str =
     "tss match 2\nlength 1\ngrid 3 1\nmirrors 2\ndelays 0 2\npace 0\nplayer ann 0 0 e\nend\n";
+
+const TWO_COPIES_TEXT: &str =
+    "mirror 0 accepted 0 turned 0 repairs 0\nworld 0 0 1\nlive ann 0 0 e 3 5 0\nworld 0 1 1\nlive ann 0 0 e 3 5 0\nmirror 1 accepted 0 turned 0 repairs 0\nworld 1 0 1\nlive ann 0 0 e 3 5 0\nworld 1 1 1\nlive ann 0 0 e 3 5 0\ndone\n";
 
 // Two commands of one tick in the wrong order of lines: the turn has the smaller key, so the move is blocked.
 const TURN_BEFORE_MOVE: &str =
@@ -144,6 +145,14 @@ const IN_TIME_LOG: [Event; 9] = [
     Event::Step(0),
 ];
 
+const DRAINED_LOG: [Event; 5] = [
+    Event::Tick,
+    Event::Step(0),
+    Event::Tick,
+    Event::Tick,
+    Event::Step(1),
+];
+
 // What a run is given, and how it has to end. A read gives at most 16 bytes, a put takes at most 8.
 #[derive(Clone, Copy)]
 struct Case {
@@ -154,8 +163,8 @@ struct Case {
     failing_put: Option<u32>,
     status: u8,
     written: &'static str,
-    // the events that are kept of mirror 0, where a log is kept
-    log: Option<&'static [Event]>,
+    // the events that are kept of each mirror, mirror 0 first
+    logs: &'static [&'static [Event]],
 }
 
 const ORDERED: Case = Case {
@@ -166,7 +175,7 @@ const ORDERED: Case = Case {
     failing_put: None,
     status: 0,
     written: OPENING_WORLD,
-    log: None,
+    logs: &[],
 };
 
 const USED_WRONG: Case = Case {
@@ -190,7 +199,7 @@ const PLAYED: Case = Case {
     words: &["play"],
     input: LATE,
     written: LATE_PLAYED,
-    log: Some(&LATE_LOG),
+    logs: &[&LATE_LOG],
     ..ORDERED
 };
 
@@ -252,11 +261,11 @@ const CASES: [Case; 19] = [
         ..REFUSED
     },
     Case {
-        name: "several copies aren't played yet",
-        words: &["play"],
+        name: "several mirrors and copies, played",
         input: TWO_COPIES,
-        written: NOT_YET,
-        ..REFUSED
+        written: TWO_COPIES_TEXT,
+        logs: &[&DRAINED_LOG, &DRAINED_LOG],
+        ..PLAYED
     },
     Case {
         name: "several copies, ordered",
@@ -282,14 +291,14 @@ const CASES: [Case; 19] = [
         name: "late by one tick, twice",
         input: LATE_BY_ONE,
         written: LATE_TEXT,
-        log: Some(&LATE_BY_ONE_LOG),
+        logs: &[&LATE_BY_ONE_LOG],
         ..PLAYED
     },
     Case {
         name: "just in time, and again",
         input: JUST_IN_TIME,
         written: IN_TIME_TEXT,
-        log: Some(&IN_TIME_LOG),
+        logs: &[&IN_TIME_LOG],
         ..PLAYED
     },
 ];
@@ -304,7 +313,7 @@ struct Outcome {
     events: Vec<Event>,
 }
 
-fn words_of(alloc: Global, words: &[&str]) -> Result<Vec<String>, NoMemory> {
+pub(super) fn words_of(alloc: Global, words: &[&str]) -> Result<Vec<String>, NoMemory> {
     let mut owned = Vec::new(alloc);
     for word in words {
         owned.push(String::from_str(alloc, word)?)?;
@@ -312,7 +321,7 @@ fn words_of(alloc: Global, words: &[&str]) -> Result<Vec<String>, NoMemory> {
     Ok(owned)
 }
 
-fn calls(alloc: Global, failing: Option<u32>) -> Result<Vec<u32>, NoMemory> {
+pub(super) fn calls(alloc: Global, failing: Option<u32>) -> Result<Vec<u32>, NoMemory> {
     let mut calls = Vec::new(alloc);
     if let Some(call) = failing {
         calls.push(call)?;
@@ -357,13 +366,16 @@ fn ended(alloc: Global, case: &Case) -> Result<Outcome, NoMemory> {
 }
 
 fn due(alloc: Global, case: &Case) -> Result<Outcome, NoMemory> {
-    let log = case.log.unwrap_or(&[]);
+    let mut events = Vec::new(alloc);
+    for log in case.logs {
+        events.extend_from_slice(log)?;
+    }
     Ok(Outcome {
         name: case.name,
         status: case.status,
         written: String::from_str(alloc, case.written)?,
-        logs: usize::from(case.log.is_some()),
-        events: Vec::from_slice(alloc, log)?,
+        logs: case.logs.len(),
+        events,
     })
 }
 

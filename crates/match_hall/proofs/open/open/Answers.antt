@@ -7,7 +7,7 @@ use Rattle.mirror_core.specs.Kept.{ticks_of_first, copies_of_first}
 use Rattle.match_file.specs.declared.script_line.ScriptLine.{ScriptLine}
 use Rattle.match_hall.specs.Script.{arrives_at, restaggers_at, opening_from}
 use Rattle.match_hall.proofs.Ready.{opened-more, opened-all, equal-ticks, equal-copies}
-use Rattle.match_hall.proofs.Whole.{opened-few}
+use Rattle.match_hall.proofs.Whole.{opened-count, opened-few}
 use Rattle.match_hall.proofs.open.open.Goals as goal
 
 pub loop-number-init : goal.loop-number-init
@@ -35,6 +35,11 @@ loop-number-preserved g c =
 pub returns-clause-mirrors : goal.returns-clause-mirrors
 returns-clause-mirrors g c =
     sym (opened-all c.args.opening.now c.args.m.now c.loop-number.number _ (rw (← c.m.view_is) c.loop-number-test.false)) ∙ c.loop-number.invariant
+
+pub returns-clause-count : goal.returns-clause-count
+returns-clause-count g c =
+    let made = sym (opened-all c.args.opening.now c.args.m.now c.loop-number.number _ (rw (← c.m.view_is) c.loop-number-test.false)) ∙ c.loop-number.invariant in
+    rw made (opened-count c.args.opening.now c.args.m.now)
 
 pub returns-clause-few : goal.returns-clause-few
 returns-clause-few g c =

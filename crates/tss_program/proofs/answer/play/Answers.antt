@@ -8,7 +8,7 @@ use Rattle.tss_program.proofs.answer.play.Goals as goal
 pub returns : goal.returns
 returns g c =
     let m = c.args.m.now in
-    let opened = c.in_ok-hall.ensures in
+    let opened = c.in_ok-hall.ensures.mirrors in
     let made = c.in_ok-play.ensures.state in
     let drained = c.in_ok-drain.ensures.state in (
       refl,
