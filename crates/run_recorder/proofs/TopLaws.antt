@@ -146,15 +146,17 @@ pub record_found : (text : List ℕ) (m : MatchData) (n : ℕ) (rest : List ℕ)
 record_found text m n rest t short front e =
     let f = tail_found m n rest t front.sound e in
     let whole : text ≡ record_text (record_of m t) = front.whole ∙ ap (λ (x : List ℕ). as_line head_line ++ (match_text m ++ x)) f.text in
-    let count = f.is.whole f.ended in
-    (record {
-      game = front.sound;
-      log_count = count;
-      logs = f.is.logs;
-      world_count = f.is.level ∙ count;
-      worlds = f.is.worlds;
-      short = subst (λ (x : List ℕ). length x ≤ LONGEST_RECORD_TEXT) whole short;
-    }, whole)
+    let count = f.is.whole f.ended in (
+      record {
+        game = front.sound;
+        log_count = count;
+        logs = f.is.logs;
+        world_count = f.is.level ∙ count;
+        worlds = f.is.worlds;
+        short = subst (λ (x : List ℕ). length x ≤ LONGEST_RECORD_TEXT) whole short;
+      },
+      whole,
+    )
 
 same_game : (a b : MatchData) → ◌≡◌ {A = Result MatchData Refused} (Ok a) (Ok b) → a ≡ b
 same_game a b e = cc
@@ -194,13 +196,16 @@ fault_only text m n k rest (line_faults.Refused cause) r is e front same h =
 pub tail_refused : (text : List ℕ) (m : MatchData) (n k : ℕ) (rest : List ℕ) (fault : LineFault) → length text ≤ LONGEST_RECORD_TEXT → IsFront text m n rest → FailsAt k fault (tail_at m n (lines_of rest)) → IsFirst text (fault_at k fault)
 tail_refused text m n k rest line_faults.NoMemory short front h = tt
 tail_refused text m n k rest (line_faults.Refused cause) short front h =
-    inr (short, inr (record {
-      game = m;
-      rest = rest;
-      sound = front.sound;
-      front = front.whole;
-      first = rw front.counted at (tail_first m (small_match m front.sound) n (lines_of rest) (refused_at k cause) (run_is (take_line m) is_last n no_tail (lines_of rest) ∙ h));
-    }))
+    inr (
+      short,
+      inr (record {
+        game = m;
+        rest = rest;
+        sound = front.sound;
+        front = front.whole;
+        first = rw front.counted at (tail_first m (small_match m front.sound) n (lines_of rest) (refused_at k cause) (run_is (take_line m) is_last n no_tail (lines_of rest) ∙ h));
+      }),
+    )
 
 pub front_refused : (text : List ℕ) (fault : TextFault) → length text ≤ LONGEST_RECORD_TEXT → IsFrontFault text fault → IsFirst text fault
 front_refused text text_faults.NoMemory short h = tt

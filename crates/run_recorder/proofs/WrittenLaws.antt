@@ -306,7 +306,7 @@ mirror_written m is small t logs worlds log blocks ready room of_mirror stated =
     let written = more m t all u (log_text n count log.events) (blocks_text blocks) both shown.1 in
     let this : record { mirror = length u.logs; events = u.events } ≡ log = λ i. record { mirror = (ap length s.logs ∙ sym of_mirror.mirror) i; events = s.events i } in
     let closes : closed u ≡ record no_tail { logs = logs ++ log ∷ []; worlds = worlds ++ blocks ∷ [] } =
-        under_closed u under ∙ (λ i. record no_tail { logs = s.logs i ++ this i ∷ []; worlds = s.worlds i ++ s.blocks_are i ∷ [] }) in
+    under_closed u under ∙ (λ i. record no_tail { logs = s.logs i ++ this i ∷ []; worlds = s.worlds i ++ s.blocks_are i ∷ [] }) in
     let whole : eqb (length (blocks_of u)) (length m.delays) ≡ true = eq-eqb _ _ (ap length s.blocks_are ∙ copies) in
     let all_shown : has_worlds m u ≡ true = rw (past_events m u s.shows, whole) refl in
     record {
