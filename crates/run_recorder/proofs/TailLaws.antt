@@ -1,5 +1,5 @@
 -- What the lines behind a match say, line by line.
-use Rattle.std.proofs.Common.{◌≡◌, ◌⊎◌, inl, inr, ℕ, ◌+◌, ◌-◌, ◌^◌, ◌<◌, ◌≤◌, Bool, true, false, cond, ◌&&◌, ◌||◌, eqb, ltb, List, [], ◌∷◌, ◌++◌, length, map, Option, Some, None, Result, Ok, Err, refl, sym, ap, subst, ◌∙◌, append_assoc, append-nil, length-append, arith}
+use Rattle.std.proofs.Common.{◌≡◌, ◌⊎◌, inl, inr, ℕ, ◌+◌, ◌-◌, ◌^◌, ◌<◌, ◌≤◌, true, false, cond, ◌||◌, eqb, List, [], ◌∷◌, ◌++◌, length, map, Option, Some, None, Result, Ok, refl, sym, ap, subst, ◌∙◌, append_assoc, append-nil, length-append, arith}
 use Rattle.std.specs.Prelude.{bytes_eq, codes, decimal}
 use Rattle.std.specs.List.{AllByRecursion}
 use Rattle.std.proofs.lemmas.Bool.{and_parts, or_cases, eqb-true, ltb-true}
@@ -19,7 +19,7 @@ use Rattle.tss_io.specs.Runs.{Follows, line_step}
 use Rattle.tss_io.proofs.Results.{guard_ok, unless_ok}
 use Rattle.tss_io.proofs.EachLaws.{all_push}
 use Rattle.tss_io.proofs.FormLaws.{through, same_words}
-use Rattle.tss_io.proofs.KindLaws.{ExactKind, Took, step_takes, line_text, line_is}
+use Rattle.tss_io.proofs.KindLaws.{Took, step_takes, line_text, line_is}
 use Rattle.tss_io.proofs.Printing.{lines_text-append}
 use Rattle.tss_io.proofs.RunLaws.{either}
 use Rattle.match_file.specs.Data.{MatchData}
@@ -28,10 +28,10 @@ use Rattle.run_recorder.specs.declared.tail.Stage.{Stage}
 use Rattle.run_recorder.specs.declared.tail.Stage.TheVariants.{Between, InLog, InWorld, Ended}
 use Rattle.run_recorder.specs.declared.tail.Tail.{Tail}
 use Rattle.run_recorder.specs.Data.{EachNumbered, IsEventOf, IsLogOf, IsBlockLine, IsBlock, AreWorldsOf}
-use Rattle.run_recorder.specs.Kinds.{is_under_way, is_between, is_in_log, is_in_world, is_ended, begun, blocks_of, is_event_due, is_past_events, is_world_due, has_worlds, is_log_due, is_end_due, closed, with_event, with_arrival, is_there, log_kind, arrive_kind, step_kind, restagger_kind, world_kind}
+use Rattle.run_recorder.specs.Kinds.{is_under_way, is_between, is_in_log, is_in_world, is_ended, begun, blocks_of, is_event_due, is_past_events, has_worlds, is_end_due, closed, with_event, with_arrival, is_there, log_kind, arrive_kind, world_kind}
 use Rattle.run_recorder.specs.Reading.{by_word, take, is_last, no_tail}
 use Rattle.run_recorder.specs.Text.{last_line, event_line, log_line, world_line, is_block_line, log_text, blocks_text, mirrors_text}
-use Rattle.run_recorder.proofs.ExactKinds.{IsSmall, LogFits, ArriveFits, StepFits, RestaggerFits, WorldFits, log_exact, arrive_exact, step_exact, restagger_exact, world_exact}
+use Rattle.run_recorder.proofs.ExactKinds.{IsSmall, LogFits, ArriveFits, WorldFits, log_exact, arrive_exact, step_exact, restagger_exact, world_exact}
 use Rattle.run_recorder.proofs.NumberedLaws.{numbered_push, numbered_last}
 use Rattle.run_recorder.proofs.PrintLaws.{blocks_text-append, one_block, mirrors_text-append}
 
