@@ -1,2 +1,3 @@
-pub mod Walks
 pub mod Audit
+pub mod Verdicts
+pub mod Walks

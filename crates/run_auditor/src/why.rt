@@ -4,7 +4,6 @@ ghost use Rattle.std.specs.Prelude.{◌≡◌};
 ghost use Rattle.run_auditor.specs.Walks.{why_of};
 
 use game_trait::{Arrived, Reply, Stepped, Ticked};
-use std::fmt::{self, Display, Formatter, Write};
 
 /// Why a record isn't legal.
 #[derive(Clone, Copy, Debug, PartialEq, Eq)]
@@ -26,18 +25,6 @@ pub struct Fault {
     pub place: u32,
     /// What is wrong there.
     pub why: Why,
-}
-
-impl Display for Why {
-    fn fmt<W: Write>(&self, f: &mut Formatter<W>) -> fmt::Result {
-        let word = match self {
-            Why::Over => "over",
-            Why::Repeat => "repeat",
-            Why::Idle => "idle",
-            Why::World => "world",
-        };
-        f.write_str(word)
-    }
 }
 
 /// Why the answer tells of no change, where it does.

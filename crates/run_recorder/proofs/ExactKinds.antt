@@ -1,5 +1,5 @@
 -- Each kind of line is exact: what is read by it is written so, and what it writes is read.
-use Rattle.std.proofs.Common.{◌≡◌, ℕ, ◌+◌, ◌-◌, ◌^◌, ◌<◌, ◌≤◌, true, List, length, refl, arith, lit<, lit≤}
+use Rattle.std.proofs.Common.{ℕ, ◌-◌, ◌^◌, ◌<◌, ◌≤◌, length, refl, arith, lit<, lit≤}
 use Rattle.game_trait.specs.declared.limits.TheConstants.{GREATEST_NUMBER, MOST_LOGGED_EVENTS}
 use Rattle.tss_io.specs.Forms.{is_word, InRange, number}
 use Rattle.tss_io.proofs.FormLaws.{ExactField, number_exact, only_exact, then_exact}

@@ -8,7 +8,7 @@ use Rattle.tss_io.specs.declared.fault.Refused.{Refused}
 use Rattle.tss_io.specs.Lines.{Lines, words_of}
 use Rattle.tss_io.specs.Forms.{front_at}
 use Rattle.tss_io.specs.Kinds.{first_failing, fault_of}
-use Rattle.tss_io.specs.Runs.{Follows, run, FirstFault}
+use Rattle.tss_io.specs.Runs.{run, FirstFault}
 use Rattle.tss_io.proofs.FormLaws.{front_err}
 use Rattle.tss_io.proofs.KindLaws.{step_fault}
 use Rattle.tss_io.proofs.RunLaws.{run_fault}

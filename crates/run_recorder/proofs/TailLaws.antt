@@ -1,5 +1,5 @@
 -- What the lines behind a match say, line by line.
-use Rattle.std.proofs.Common.{◌≡◌, ◌⊎◌, inl, inr, ℕ, ◌+◌, ◌-◌, ◌^◌, ◌<◌, ◌≤◌, Bool, true, false, cond, ◌&&◌, ◌||◌, eqb, ltb, List, [], ◌∷◌, ◌++◌, length, map, Option, Some, None, Result, Ok, Err, refl, sym, ap, subst, ◌∙◌, append_assoc, append-nil, length-append, arith}
+use Rattle.std.proofs.Common.{◌≡◌, ◌⊎◌, inl, inr, ℕ, ◌+◌, ◌-◌, ◌^◌, ◌<◌, ◌≤◌, true, false, cond, ◌||◌, eqb, List, [], ◌∷◌, ◌++◌, length, map, Option, Some, None, Result, Ok, refl, sym, ap, subst, ◌∙◌, append_assoc, append-nil, length-append, arith}
 use Rattle.std.specs.Prelude.{bytes_eq, codes, decimal}
 use Rattle.std.specs.List.{AllByRecursion}
 use Rattle.std.proofs.lemmas.Bool.{and_parts, or_cases, eqb-true, ltb-true}
@@ -19,7 +19,7 @@ use Rattle.tss_io.specs.Runs.{Follows, line_step}
 use Rattle.tss_io.proofs.Results.{guard_ok, unless_ok}
 use Rattle.tss_io.proofs.EachLaws.{all_push}
 use Rattle.tss_io.proofs.FormLaws.{through, same_words}
-use Rattle.tss_io.proofs.KindLaws.{ExactKind, Took, step_takes, line_text, line_is}
+use Rattle.tss_io.proofs.KindLaws.{Took, step_takes, line_text, line_is}
 use Rattle.tss_io.proofs.Printing.{lines_text-append}
 use Rattle.tss_io.proofs.RunLaws.{either}
 use Rattle.match_file.specs.Data.{MatchData}
@@ -28,10 +28,10 @@ use Rattle.run_recorder.specs.declared.tail.Stage.{Stage}
 use Rattle.run_recorder.specs.declared.tail.Stage.TheVariants.{Between, InLog, InWorld, Ended}
 use Rattle.run_recorder.specs.declared.tail.Tail.{Tail}
 use Rattle.run_recorder.specs.Data.{EachNumbered, IsEventOf, IsLogOf, IsBlockLine, IsBlock, AreWorldsOf}
-use Rattle.run_recorder.specs.Kinds.{is_under_way, is_between, is_in_log, is_in_world, is_ended, begun, blocks_of, is_event_due, is_past_events, is_world_due, has_worlds, is_log_due, is_end_due, closed, with_event, with_arrival, is_there, log_kind, arrive_kind, step_kind, restagger_kind, world_kind}
+use Rattle.run_recorder.specs.Kinds.{is_under_way, is_between, is_in_log, is_in_world, is_ended, begun, blocks_of, is_event_due, is_past_events, has_worlds, is_end_due, closed, with_event, with_arrival, is_there, log_kind, arrive_kind, world_kind}
 use Rattle.run_recorder.specs.Reading.{by_word, take, is_last, no_tail}
 use Rattle.run_recorder.specs.Text.{last_line, event_line, log_line, world_line, is_block_line, log_text, blocks_text, mirrors_text}
-use Rattle.run_recorder.proofs.ExactKinds.{IsSmall, LogFits, ArriveFits, StepFits, RestaggerFits, WorldFits, log_exact, arrive_exact, step_exact, restagger_exact, world_exact}
+use Rattle.run_recorder.proofs.ExactKinds.{IsSmall, LogFits, ArriveFits, WorldFits, log_exact, arrive_exact, step_exact, restagger_exact, world_exact}
 use Rattle.run_recorder.proofs.NumberedLaws.{numbered_push, numbered_last}
 use Rattle.run_recorder.proofs.PrintLaws.{blocks_text-append, one_block, mirrors_text-append}
 
@@ -120,21 +120,23 @@ event_says m t e is due fit =
     let count : length (t.events ++ e ∷ []) + (t.left - 1) ≡ length t.events + t.left = omega (arith, length-append t.events (e ∷ [])) in
     let few = is.few in
     let levels : tail_text (with_event t e) ≡ tail_text t ++ as_line (event_line e) =
-        rw (stage, none, count, no_blocks, log_text-more (length t.logs) (length t.events + t.left) t.events e) (simp (append_assoc, append-nil)) in
-    (levels, record {
-      logs = is.logs;
-      worlds = is.worlds;
-      level = is.level;
-      mirrors = is.mirrors;
-      few = omega (arith, count);
-      events = all_push (IsEventOf m) t.events e is.events fit;
-      blocks = is.blocks;
-      copies = is.copies;
-      fresh = is.fresh;
-      past = λ h. absurd (let k : is_in_world t.stage ≡ false = rw stage refl in cc);
-      still = λ h. absurd (let k : is_under_way t.stage ≡ true = rw stage refl in cc);
-      whole = λ h. absurd (let k : is_ended t.stage ≡ false = rw stage refl in cc);
-    })
+    rw (stage, none, count, no_blocks, log_text-more (length t.logs) (length t.events + t.left) t.events e) (simp (append_assoc, append-nil)) in (
+      levels,
+      record {
+        logs = is.logs;
+        worlds = is.worlds;
+        level = is.level;
+        mirrors = is.mirrors;
+        few = omega (arith, count);
+        events = all_push (IsEventOf m) t.events e is.events fit;
+        blocks = is.blocks;
+        copies = is.copies;
+        fresh = is.fresh;
+        past = λ h. absurd (let k : is_in_world t.stage ≡ false = rw stage refl in cc);
+        still = λ h. absurd (let k : is_under_way t.stage ≡ true = rw stage refl in cc);
+        whole = λ h. absurd (let k : is_ended t.stage ≡ false = rw stage refl in cc);
+      },
+    )
 
 -- ---- a block
 
@@ -169,21 +171,23 @@ block_says m t l is inside fit =
     let count : length (t.blocks ++ (t.block ++ as_line l) ∷ []) ≡ length (t.blocks ++ t.block ∷ []) = omega (arith, length-append t.blocks ((t.block ++ as_line l) ∷ []), length-append t.blocks (t.block ∷ [])) in
     let copies : length (t.blocks ++ t.block ∷ []) ≤ length m.delays = rw stage at is.copies in
     let levels : tail_text (record t { block = t.block ++ as_line l }) ≡ tail_text t ++ as_line l =
-        rw (stage, last_block t.blocks (t.block ++ as_line l), last_block t.blocks t.block) (simp append_assoc) in
-    (levels, record {
-      logs = is.logs;
-      worlds = is.worlds;
-      level = is.level;
-      mirrors = is.mirrors;
-      few = is.few;
-      events = is.events;
-      blocks = rw stage longer;
-      copies = rw (stage, count) copies;
-      fresh = is.fresh;
-      past = is.past;
-      still = is.still;
-      whole = is.whole;
-    })
+    rw (stage, last_block t.blocks (t.block ++ as_line l), last_block t.blocks t.block) (simp append_assoc) in (
+      levels,
+      record {
+        logs = is.logs;
+        worlds = is.worlds;
+        level = is.level;
+        mirrors = is.mirrors;
+        few = is.few;
+        events = is.events;
+        blocks = rw stage longer;
+        copies = rw (stage, count) copies;
+        fresh = is.fresh;
+        past = is.past;
+        still = is.still;
+        whole = is.whole;
+      },
+    )
 
 -- the text of the mirror under way
 under_text : (t : Tail) → is_under_way t.stage ≡ true → tail_text t ≡ mirrors_text t.logs t.worlds ++ under_way_text t
@@ -213,21 +217,23 @@ world_says m t u ws is took =
     let begun_in : begun t ≡ length t.logs + 1 = under_begun t past.0 in
     let mirrors = is.mirrors in
     let levels : tail_text u ≡ tail_text t ++ as_line (line_text (world_kind m) t took.a) =
-        rw (took.put, under_text t past.0, last_block (blocks_of t) (as_line (world_line took.a.0 took.a.1.0 took.a.1.1))) (simp append_assoc) in
-    (levels, rw took.put (record {
-      logs = is.logs;
-      worlds = is.worlds;
-      level = is.level;
-      mirrors = omega (arith, begun_in);
-      few = is.few;
-      events = is.events;
-      blocks = numbered_push (IsBlock (length t.logs)) 0 (blocks_of t) (as_line (world_line took.a.0 took.a.1.0 took.a.1.1)) is.blocks begins;
-      copies = omega (arith, length-append (blocks_of t) (as_line (world_line took.a.0 took.a.1.0 took.a.1.1) ∷ []));
-      fresh = λ h. absurd cc;
-      past = λ _. left;
-      still = λ h. absurd cc;
-      whole = λ h. absurd cc;
-    }))
+    rw (took.put, under_text t past.0, last_block (blocks_of t) (as_line (world_line took.a.0 took.a.1.0 took.a.1.1))) (simp append_assoc) in (
+      levels,
+      rw took.put (record {
+        logs = is.logs;
+        worlds = is.worlds;
+        level = is.level;
+        mirrors = omega (arith, begun_in);
+        few = is.few;
+        events = is.events;
+        blocks = numbered_push (IsBlock (length t.logs)) 0 (blocks_of t) (as_line (world_line took.a.0 took.a.1.0 took.a.1.1)) is.blocks begins;
+        copies = omega (arith, length-append (blocks_of t) (as_line (world_line took.a.0 took.a.1.0 took.a.1.1) ∷ []));
+        fresh = λ h. absurd cc;
+        past = λ _. left;
+        still = λ h. absurd cc;
+        whole = λ h. absurd cc;
+      }),
+    )
 
 -- ---- a log, and the end
 
@@ -260,7 +266,7 @@ close_says m t is due =
     let stated : AreWorldsOf m (0 + length t.worlds) (blocks_of t) = rw here (all, is.blocks) in
     let worlds : EachNumbered (AreWorldsOf m) 0 (t.worlds ++ blocks_of t ∷ []) = numbered_push (AreWorldsOf m) 0 t.worlds (blocks_of t) is.worlds stated in
     let text : tail_text t ≡ mirrors_text (t.logs ++ log ∷ []) (t.worlds ++ blocks_of t ∷ []) =
-        under_text t past.0 ∙ rw count (sym (mirrors_text-append t.logs t.worlds log (blocks_of t) is.level)) in
+    under_text t past.0 ∙ rw count (sym (mirrors_text-append t.logs t.worlds log (blocks_of t) is.level)) in
     rw past.0 (record {
       is = record {
         logs = logs;
@@ -318,22 +324,24 @@ log_opens m t c a h mirror room few =
     let none : c.blocks ≡ [] = is.fresh (rw stage refl) in
     let begun_is = h.begun_is in
     let levels : tail_text (record c { stage = InLog; left = a.1 }) ≡ tail_text t ++ as_line (log_line a.0 a.1) =
-        rw (h.text, none, still.0) (opens_text c.logs c.worlds a.1 a.0 (mirror ∙ begun_is)) in
-    let no_event : length c.events ≡ 0 = rw still.0 refl in
-    (levels, record {
-      logs = is.logs;
-      worlds = is.worlds;
-      level = is.level;
-      mirrors = omega (arith, begun_is);
-      few = omega (arith, no_event);
-      events = is.events;
-      blocks = rw none tt;
-      copies = rw none (omega arith);
-      fresh = λ _. none;
-      past = λ h. absurd cc;
-      still = λ h. absurd cc;
-      whole = λ h. absurd cc;
-    })
+    rw (h.text, none, still.0) (opens_text c.logs c.worlds a.1 a.0 (mirror ∙ begun_is)) in
+    let no_event : length c.events ≡ 0 = rw still.0 refl in (
+      levels,
+      record {
+        logs = is.logs;
+        worlds = is.worlds;
+        level = is.level;
+        mirrors = omega (arith, begun_is);
+        few = omega (arith, no_event);
+        events = is.events;
+        blocks = rw none tt;
+        copies = rw none (omega arith);
+        fresh = λ _. none;
+        past = λ h. absurd cc;
+        still = λ h. absurd cc;
+        whole = λ h. absurd cc;
+      },
+    )
 
 log_says : (m : MatchData) (t u : Tail) (ws : List (List ℕ)) → IsTail m t → (took : Took (log_kind m) (LogFits m) t ws u) → Says m t (line_text (log_kind m) t took.a) u
 log_says m t u ws is took =
@@ -351,21 +359,23 @@ end_says m t is due =
     let begun_is = closes.begun_is in
     let stage = closes.between in
     let still = closes.is.still (rw stage refl) in
-    let levels : tail_text (record c { stage = Ended }) ≡ tail_text t ++ as_line last_line = rw closes.text refl in
-    (levels, record {
-      logs = closes.is.logs;
-      worlds = closes.is.worlds;
-      level = closes.is.level;
-      mirrors = omega (arith, begun_is, all);
-      few = closes.is.few;
-      events = closes.is.events;
-      blocks = let b : EachNumbered (IsBlock (length c.logs)) 0 c.blocks = rw stage at closes.is.blocks in b;
-      copies = let b : length c.blocks ≤ length m.delays = rw stage at closes.is.copies in b;
-      fresh = λ _. closes.is.fresh (rw stage refl);
-      past = λ h. absurd cc;
-      still = λ _. still;
-      whole = λ _. sym begun_is ∙ all;
-    })
+    let levels : tail_text (record c { stage = Ended }) ≡ tail_text t ++ as_line last_line = rw closes.text refl in (
+      levels,
+      record {
+        logs = closes.is.logs;
+        worlds = closes.is.worlds;
+        level = closes.is.level;
+        mirrors = omega (arith, begun_is, all);
+        few = closes.is.few;
+        events = closes.is.events;
+        blocks = let b : EachNumbered (IsBlock (length c.logs)) 0 c.blocks = rw stage at closes.is.blocks in b;
+        copies = let b : length c.blocks ≤ length m.delays = rw stage at closes.is.copies in b;
+        fresh = λ _. closes.is.fresh (rw stage refl);
+        past = λ h. absurd cc;
+        still = λ _. still;
+        whole = λ _. sym begun_is ∙ all;
+      },
+    )
 
 -- ---- any line
 

@@ -1,11 +1,10 @@
 -- A whole record, both ways, and its first fault.
-use Rattle.std.proofs.Common.{◌≡◌, ◌⊎◌, inl, inr, ℕ, suc, ◌+◌, ◌-◌, ◌^◌, ◌<◌, ◌≤◌, Bool, true, false, cond, eqb, List, [], ◌∷◌, ◌++◌, length, take, drop, Some, Result, Ok, Err, refl, sym, ap, subst, ◌∙◌, append_assoc, append-nil, length-append, arith}
-use Rattle.std.specs.Prelude.{IfOk, IfErr, bytes_eq, not}
-use Rattle.std.specs.List.{AllByRecursion}
-use Rattle.std.proofs.Math.Seq.{take-append_seam, drop-append_seam}
+use Rattle.std.proofs.Common.{◌≡◌, inl, inr, ℕ, ◌-◌, ◌≤◌, true, false, cond, List, [], ◌∷◌, ◌++◌, length, take, Some, Result, Ok, Err, refl, sym, ap, subst, ◌∙◌, length-append, arith}
+use Rattle.std.specs.Prelude.{bytes_eq, not}
+use Rattle.std.proofs.Math.Seq.{take-append_seam}
 use Rattle.game_trait.specs.declared.limits.TheConstants.{LONGEST_RECORD_TEXT}
 use Rattle.tss_io.specs.declared.cause.Cause.{Cause}
-use Rattle.tss_io.specs.declared.cause.Cause.TheVariants.{Head, Shape, Long, End}
+use Rattle.tss_io.specs.declared.cause.Cause.TheVariants.{Head, Long, End}
 use Rattle.tss_io.specs.declared.fault.Refused.{Refused}
 use Rattle.tss_io.specs.declared.fault.LineFault.{LineFault}
 use Rattle.tss_io.specs.declared.fault.LineFault.TheVariants as line_faults
@@ -13,15 +12,15 @@ use Rattle.tss_io.specs.declared.fault.TextFault.{TextFault}
 use Rattle.tss_io.specs.declared.fault.TextFault.TheVariants as text_faults
 use Rattle.tss_io.specs.Results.{◌>>=◌}
 use Rattle.tss_io.specs.Lines.{Lines, torn, line, lines_of, text_of, as_line, lines_text}
-use Rattle.tss_io.specs.Reading.{Gives, refused_at, Fails, FailsAt, fault_at}
+use Rattle.tss_io.specs.Reading.{refused_at, Fails, FailsAt, fault_at}
 use Rattle.tss_io.specs.Kinds.{is_long, line_at, first_failing}
-use Rattle.tss_io.specs.Runs.{run, run_to, ended, line_checks}
-use Rattle.tss_io.proofs.FormLaws.{through, same_words, bytes_eq-same}
+use Rattle.tss_io.specs.Runs.{line_checks}
+use Rattle.tss_io.proofs.FormLaws.{through, same_words}
 use Rattle.tss_io.proofs.KindLaws.{line_takes}
 use Rattle.tss_io.proofs.LineLaws.{text_of-lines_of}
 use Rattle.tss_io.proofs.Printing.{text_of-ahead}
 use Rattle.tss_io.proofs.Results.{unless_then}
-use Rattle.tss_io.proofs.RunLaws.{either, run_takes}
+use Rattle.tss_io.proofs.RunLaws.{run_takes}
 use Rattle.tss_io.proofs.RunToLaws.{run_is}
 use Rattle.tss_io.proofs.Spaced.{Lacks, lines_of-line}
 use Rattle.match_file.specs.Data.{MatchData, IsMatch}
@@ -33,7 +32,7 @@ use Rattle.run_recorder.specs.declared.tail.Stage.TheVariants.{Between, InLog, I
 use Rattle.run_recorder.specs.declared.tail.Tail.{Tail}
 use Rattle.run_recorder.specs.Data.{IsRecord}
 use Rattle.run_recorder.specs.Kinds.{is_ended}
-use Rattle.run_recorder.specs.Reading.{take as take_line, is_last, no_tail, tail_at, head_at, head_checks, newlines, IsFront, IsFrontFault, IsHeadFault, IsMatchFault, IsTailFault, IsFirst}
+use Rattle.run_recorder.specs.Reading.{take as take_line, is_last, no_tail, tail_at, head_at, head_checks, IsFront, IsFrontFault, IsFirst}
 use Rattle.run_recorder.specs.Text.{head_line, last_line, mirrors_text, record_text}
 use Rattle.run_recorder.proofs.ExactKinds.{small_match}
 use Rattle.run_recorder.proofs.FaultLaws.{tail_first}
@@ -146,15 +145,17 @@ pub record_found : (text : List ℕ) (m : MatchData) (n : ℕ) (rest : List ℕ)
 record_found text m n rest t short front e =
     let f = tail_found m n rest t front.sound e in
     let whole : text ≡ record_text (record_of m t) = front.whole ∙ ap (λ (x : List ℕ). as_line head_line ++ (match_text m ++ x)) f.text in
-    let count = f.is.whole f.ended in
-    (record {
-      game = front.sound;
-      log_count = count;
-      logs = f.is.logs;
-      world_count = f.is.level ∙ count;
-      worlds = f.is.worlds;
-      short = subst (λ (x : List ℕ). length x ≤ LONGEST_RECORD_TEXT) whole short;
-    }, whole)
+    let count = f.is.whole f.ended in (
+      record {
+        game = front.sound;
+        log_count = count;
+        logs = f.is.logs;
+        world_count = f.is.level ∙ count;
+        worlds = f.is.worlds;
+        short = subst (λ (x : List ℕ). length x ≤ LONGEST_RECORD_TEXT) whole short;
+      },
+      whole,
+    )
 
 same_game : (a b : MatchData) → ◌≡◌ {A = Result MatchData Refused} (Ok a) (Ok b) → a ≡ b
 same_game a b e = cc
@@ -194,13 +195,16 @@ fault_only text m n k rest (line_faults.Refused cause) r is e front same h =
 pub tail_refused : (text : List ℕ) (m : MatchData) (n k : ℕ) (rest : List ℕ) (fault : LineFault) → length text ≤ LONGEST_RECORD_TEXT → IsFront text m n rest → FailsAt k fault (tail_at m n (lines_of rest)) → IsFirst text (fault_at k fault)
 tail_refused text m n k rest line_faults.NoMemory short front h = tt
 tail_refused text m n k rest (line_faults.Refused cause) short front h =
-    inr (short, inr (record {
-      game = m;
-      rest = rest;
-      sound = front.sound;
-      front = front.whole;
-      first = rw front.counted at (tail_first m (small_match m front.sound) n (lines_of rest) (refused_at k cause) (run_is (take_line m) is_last n no_tail (lines_of rest) ∙ h));
-    }))
+    inr (
+      short,
+      inr (record {
+        game = m;
+        rest = rest;
+        sound = front.sound;
+        front = front.whole;
+        first = rw front.counted at (tail_first m (small_match m front.sound) n (lines_of rest) (refused_at k cause) (run_is (take_line m) is_last n no_tail (lines_of rest) ∙ h));
+      }),
+    )
 
 pub front_refused : (text : List ℕ) (fault : TextFault) → length text ≤ LONGEST_RECORD_TEXT → IsFrontFault text fault → IsFirst text fault
 front_refused text text_faults.NoMemory short h = tt

@@ -1,16 +1,16 @@
 -- What is written behind a match is read.
-use Rattle.std.proofs.Common.{◌≡◌, ◌⊎◌, inl, inr, ℕ, suc, ◌+◌, ◌-◌, ◌^◌, ◌<◌, ◌≤◌, Bool, true, false, cond, ◌&&◌, ◌||◌, eqb, ltb, List, [], ◌∷◌, ◌++◌, length, map, Option, Some, None, Ok, Err, refl, sym, ap, subst, ◌∙◌, append_assoc, append-nil, length-append, arith, lit<}
+use Rattle.std.proofs.Common.{◌≡◌, ℕ, ◌+◌, ◌-◌, ◌<◌, ◌≤◌, Bool, true, false, cond, ◌&&◌, ◌||◌, eqb, ltb, List, [], ◌∷◌, ◌++◌, length, map, Option, Some, None, Ok, Err, refl, sym, ap, subst, ◌∙◌, append_assoc, append-nil, length-append, arith, lit<}
 use Rattle.std.specs.Prelude.{bytes_eq, codes, decimal}
 use Rattle.std.specs.List.{AllByRecursion, list_all}
 use Rattle.std.proofs.lemmas.Bool.{and_parts, eq-eqb, lt-ltb}
 use Rattle.game_trait.specs.declared.event.Event.{Event}
 use Rattle.game_trait.specs.declared.event.Event.TheVariants.{Tick, Arrive, Step, Restagger}
-use Rattle.game_trait.specs.declared.limits.TheConstants.{MOST_LOGGED_EVENTS, GREATEST_NUMBER}
+use Rattle.game_trait.specs.declared.limits.TheConstants.{MOST_LOGGED_EVENTS}
 use Rattle.game_trait.specs.declared.command.Command.{Command}
 use Rattle.game_trait.specs.Keys.{is_named}
 use Rattle.game_trait.specs.CommandList.{command_named}
 use Rattle.tss_io.specs.declared.cause.Cause.TheVariants.{Shape}
-use Rattle.tss_io.specs.Lines.{torn, as_line, spaced, words_of, lines_of, lines_text}
+use Rattle.tss_io.specs.Lines.{torn, as_line, words_of, lines_of, lines_text}
 use Rattle.tss_io.specs.Forms.{is_word, front_at, last_at, InRange, at_least, number_in, is_canonical, is_missing, is_over}
 use Rattle.tss_io.specs.Decimals.{number_of}
 use Rattle.tss_io.specs.Kinds.{Kind, Sound, step, is_long}
@@ -27,10 +27,10 @@ use Rattle.run_recorder.specs.declared.tail.Stage.{Stage}
 use Rattle.run_recorder.specs.declared.tail.Stage.TheVariants.{Between, InLog, InWorld, Ended}
 use Rattle.run_recorder.specs.declared.tail.Tail.{Tail}
 use Rattle.run_recorder.specs.Data.{EachNumbered, IsEventOf, IsLogOf, IsBlockLine, IsBlock, AreWorldsOf}
-use Rattle.run_recorder.specs.Kinds.{is_under_way, is_between, is_in_log, is_in_world, is_ended, begun, blocks_of, is_event_due, is_past_events, is_world_due, has_worlds, is_log_due, is_end_due, closed, with_event, with_arrival, is_there, second_of, is_few, log_kind, arrive_kind, step_kind, restagger_kind, world_kind}
+use Rattle.run_recorder.specs.Kinds.{is_under_way, is_between, is_ended, begun, blocks_of, is_event_due, is_past_events, is_world_due, has_worlds, is_log_due, is_end_due, closed, with_event, with_arrival, is_there, second_of, is_few}
 use Rattle.run_recorder.specs.Reading.{by_word, take, is_last, no_tail}
 use Rattle.run_recorder.specs.Text.{last_line, event_line, log_line, world_line, is_shown, first_word, is_block_line, log_text, blocks_text, mirrors_text}
-use Rattle.run_recorder.proofs.ExactKinds.{IsSmall, mirror_exact, LogFits, ArriveFits, StepFits, RestaggerFits, WorldFits, log_exact, arrive_exact, step_exact, restagger_exact, world_exact}
+use Rattle.run_recorder.proofs.ExactKinds.{IsSmall, mirror_exact, LogFits, ArriveFits, WorldFits, log_exact, arrive_exact, step_exact, restagger_exact, world_exact}
 
 -- this text is lines that lead from one place to another
 pub record Written (m : MatchData) (t : Tail) (text : List ℕ) (u : Tail) : Type 0 where
@@ -306,7 +306,7 @@ mirror_written m is small t logs worlds log blocks ready room of_mirror stated =
     let written = more m t all u (log_text n count log.events) (blocks_text blocks) both shown.1 in
     let this : record { mirror = length u.logs; events = u.events } ≡ log = λ i. record { mirror = (ap length s.logs ∙ sym of_mirror.mirror) i; events = s.events i } in
     let closes : closed u ≡ record no_tail { logs = logs ++ log ∷ []; worlds = worlds ++ blocks ∷ [] } =
-        under_closed u under ∙ (λ i. record no_tail { logs = s.logs i ++ this i ∷ []; worlds = s.worlds i ++ s.blocks_are i ∷ [] }) in
+    under_closed u under ∙ (λ i. record no_tail { logs = s.logs i ++ this i ∷ []; worlds = s.worlds i ++ s.blocks_are i ∷ [] }) in
     let whole : eqb (length (blocks_of u)) (length m.delays) ≡ true = eq-eqb _ _ (ap length s.blocks_are ∙ copies) in
     let all_shown : has_worlds m u ≡ true = rw (past_events m u s.shows, whole) refl in
     record {

@@ -43,10 +43,7 @@ fn push_whole(out: &mut Vec<u8>, line: &[u8]) -> Result<(), NoMemory>
 fn push_number(out: &mut Vec<u8>, word: &[u8], number: u8) -> Result<(), NoMemory>
     ensures { OnOk result (out.new.items ≡ out.old.items ++ as_line (spaced (word.now ∷ decimal number ∷ []))) }
 {
-    push_line(
-        out,
-        &[Word::Text(word), Word::Count(u64::from(number))],
-    )
+    push_line(out, &[Word::Text(word), Word::Count(u64::from(number))])
 }
 
 #[tactic(auto, using(tss_io::proofs::Printing::lines_none))]

@@ -226,7 +226,8 @@ impl Tail {
         requires logs { length self.now.logs < 256 }
         ensures { result ≡ is_log_due game.now self.now }
     {
-        (is_between(self.stage) || self.has_worlds(game)) && self.begun() < usize::from(game.mirrors)
+        (is_between(self.stage) || self.has_worlds(game))
+            && self.begun() < usize::from(game.mirrors)
     }
 
     // Whether the end is due.
@@ -241,8 +242,8 @@ impl Tail {
     // Closes the block under way. On `NoMemory` it may be lost.
     fn close_block(&mut self, alloc: Global) -> Result<(), NoMemory>
         ensures { OnOk result (self.new ≡ record self.old {
-            blocks = blocks_of self.old;
-            block = (if is_in_world self.old.stage then [] else self.old.block)
+          blocks = blocks_of self.old;
+          block = (if is_in_world self.old.stage then [] else self.old.block);
         }) }
     {
         if !is_in_world(self.stage) {

@@ -1,6 +1,4 @@
-use Rattle.std.proofs.Common.{ap, ◌∙◌, List, ℕ, ◌++◌, length}
-use Rattle.tss_io.specs.Lines.{as_line}
-use Rattle.run_recorder.specs.Text.{log_line}
+use Rattle.std.proofs.Common.{length}
 use Rattle.run_recorder.proofs.PrintLaws.{log_puts}
 use Rattle.run_recorder.proofs.printing.push_log.Goals as goal
 

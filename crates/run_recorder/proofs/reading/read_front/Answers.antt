@@ -1,4 +1,4 @@
-use Rattle.std.proofs.Common.{refl, ap, sym, ◌∙◌, List, ℕ, ◌++◌}
+use Rattle.std.proofs.Common.{refl, ap, ◌∙◌, List, ℕ, ◌++◌}
 use Rattle.std.proofs.lemmas.Result.{err_from_is_err_and}
 use Rattle.tss_io.specs.Lines.{as_line}
 use Rattle.match_file.specs.Text.{match_text}

@@ -1,4 +1,4 @@
-use Rattle.std.proofs.Common.{arith, refl, ◌++◌}
+use Rattle.std.proofs.Common.{arith, ◌++◌}
 use Rattle.std.proofs.lemmas.Result.{err_from_is_err_and}
 use Rattle.tss_io.specs.Lines.{as_line}
 use Rattle.run_recorder.specs.Text.{last_line, mirrors_text}
