@@ -102,7 +102,7 @@ IsCommand-made seed j h = record {
 }
 
 -- the names of the commands differ
-NamesDiffer-made : (seed n : ℕ) → NamesDiffer (each_below (command_at seed) n)
+pub NamesDiffer-made : (seed n : ℕ) → NamesDiffer (each_below (command_at seed) n)
 unfolding joined_below NamesDiffer
 NamesDiffer-made seed zero = tt
 NamesDiffer-made seed (suc n) =
