@@ -1,5 +1,5 @@
 -- The commands that arrive at a mirror: each once, none twice, and in time.
-use Rattle.std.proofs.Common.{◌≡◌, ℕ, zero, suc, ◌+◌, ◌-◌, ◌*◌, ◌/◌, ◌%◌, ◌≤◌, ◌<◌, Bool, true, false, ◌==◌, ◌||◌, cond, List, [], ◌∷◌, ◌++◌, length, refl, sym, ap, subst, ◌∙◌, append_assoc, arith}
+use Rattle.std.proofs.Common.{◌≡◌, ℕ, zero, suc, ◌+◌, ◌-◌, ◌/◌, ◌≤◌, ◌<◌, Bool, true, false, ◌==◌, cond, List, [], ◌∷◌, ◌++◌, refl, sym, ap, subst, ◌∙◌, arith}
 use Rattle.std.specs.List.{AllByRecursion, list_any}
 use Rattle.std.proofs.lemmas.Bool.Decides.{nat_tests}
 use Rattle.game_trait.specs.declared.command.Command.{Command}
@@ -7,9 +7,9 @@ use Rattle.game_trait.specs.Keys.{same_name, NamesDiffer}
 use Rattle.game_trait.specs.Count.{times}
 use Rattle.game_trait.proofs.Counts.{times-append}
 use Rattle.game_trait.proofs.KeyOrder.{NamesDiffer-same, same_name-sym}
-use Rattle.match_maker.specs.Below.{joined_below, each_below}
+use Rattle.match_maker.specs.Below.{joined_below}
 use Rattle.match_maker.specs.Generator.{command_at, lag}
-use Rattle.match_maker.proofs.Lists.{joined_more, length_each, all_joined}
+use Rattle.match_maker.proofs.Lists.{joined_more, all_joined}
 use Rattle.match_maker.proofs.Bounds.{lag-below}
 use Rattle.match_maker.proofs.Sums.{sum_below, sum_swap, sum_equal}
 use Rattle.match_maker.proofs.Sound.{NamesDiffer-made}
@@ -52,15 +52,15 @@ times-arriving p seed mirror tick j =
 pub times-fed : (p : Command → Bool) (seed mirror : ℕ) → times p (all_commands seed) ≡ times p (fed_until seed mirror 544)
 times-fed p seed mirror = sym (
     times-joined p (fed_in seed mirror) 544
-        ∙ (sum_equal (λ tick. times p (fed_in seed mirror tick)) (λ tick. sum_below (λ j. times p (arriving seed mirror tick j)) 4096) 544
-            (λ tick l. times-joined p (arriving seed mirror tick) 4096)
-        ∙ (sum_swap (λ tick j. times p (arriving seed mirror tick j)) 544 4096
-        ∙ (sum_equal (λ j. sum_below (λ tick. times p (arriving seed mirror tick j)) 544) (λ j. times p (command_at seed j ∷ [])) 4096
-            (λ j l. sum_equal (λ tick. times p (arriving seed mirror tick j))
-                (λ tick. cond (j / 8 + lag seed j mirror == tick) (times p (command_at seed j ∷ [])) 0) 544
-                (λ tick m. times-arriving p seed mirror tick j)
-                ∙ weight_once (j / 8 + lag seed j mirror) (times p (command_at seed j ∷ [])) 544 (omega (arith, l, lag-below seed j mirror)))
-        ∙ sym (times-joined p (λ j. command_at seed j ∷ []) 4096)))))
+    ∙ (sum_equal (λ tick. times p (fed_in seed mirror tick)) (λ tick. sum_below (λ j. times p (arriving seed mirror tick j)) 4096) 544
+    (λ tick l. times-joined p (arriving seed mirror tick) 4096)
+    ∙ (sum_swap (λ tick j. times p (arriving seed mirror tick j)) 544 4096
+    ∙ (sum_equal (λ j. sum_below (λ tick. times p (arriving seed mirror tick j)) 544) (λ j. times p (command_at seed j ∷ [])) 4096
+    (λ j l. sum_equal (λ tick. times p (arriving seed mirror tick j))
+    (λ tick. cond (j / 8 + lag seed j mirror == tick) (times p (command_at seed j ∷ [])) 0) 544
+    (λ tick m. times-arriving p seed mirror tick j)
+    ∙ weight_once (j / 8 + lag seed j mirror) (times p (command_at seed j ∷ [])) 544 (omega (arith, l, lag-below seed j mirror)))
+    ∙ sym (times-joined p (λ j. command_at seed j ∷ []) 4096)))))
 
 -- different names, of a front
 NamesDiffer-front : (xs ys : List Command) → NamesDiffer (xs ++ ys) → NamesDiffer xs
@@ -78,15 +78,15 @@ NamesDiffer-back seed mirror ticks zero h = let e : ticks + 0 ≡ ticks = omega 
 NamesDiffer-back seed mirror ticks (suc more) h =
     let e : ticks + suc more ≡ ticks + more + 1 = omega arith in
     NamesDiffer-back seed mirror ticks more
-        (NamesDiffer-front (fed_until seed mirror (ticks + more)) (fed_in seed mirror (ticks + more))
-            (subst NamesDiffer (ap (fed_until seed mirror) e ∙ joined_more (fed_in seed mirror) (ticks + more)) h))
+    (NamesDiffer-front (fed_until seed mirror (ticks + more)) (fed_in seed mirror (ticks + more))
+    (subst NamesDiffer (ap (fed_until seed mirror) e ∙ joined_more (fed_in seed mirror) (ticks + more)) h))
 
 pub NamesDiffer-fed : (seed mirror ticks : ℕ) → ticks ≤ 544 → NamesDiffer (fed_until seed mirror ticks)
 NamesDiffer-fed seed mirror ticks h =
     let e : ticks + (544 - ticks) ≡ 544 = omega (arith, h) in
     NamesDiffer-back seed mirror ticks (544 - ticks)
-        (subst NamesDiffer (ap (fed_until seed mirror) (sym e))
-            (NamesDiffer-same (all_commands seed) (fed_until seed mirror 544) (λ p. times-fed p seed mirror) (NamesDiffer-made seed 4096)))
+    (subst NamesDiffer (ap (fed_until seed mirror) (sym e))
+    (NamesDiffer-same (all_commands seed) (fed_until seed mirror 544) (λ p. times-fed p seed mirror) (NamesDiffer-made seed 4096)))
 
 -- the name of a command isn't among those in front of it
 pub new-name : (xs : List Command) (x : Command) (ys : List Command) → NamesDiffer (xs ++ x ∷ ys) → list_any (same_name x) xs ≡ false
@@ -109,10 +109,10 @@ pub fed-in_time : (seed mirror tick : ℕ) → AllByRecursion (ComesInTime tick)
 unfolding arriving
 fed-in_time seed mirror tick = all_joined (ComesInTime tick) (arriving seed mirror tick) 4096 (λ j l.
     elim (j / 8 + lag seed j mirror == tick) as
-        (λ v. (j / 8 + lag seed j mirror == tick) ≡ v → AllByRecursion (ComesInTime tick) (cond v (command_at seed j ∷ []) [])) [
+    (λ v. (j / 8 + lag seed j mirror == tick) ≡ v → AllByRecursion (ComesInTime tick) (cond v (command_at seed j ∷ []) [])) [
       | true ↦ λ e.
-        let s : j / 8 + lag seed j mirror ≡ tick = grind (arith, nat_tests) in
-        (record { due = omega (arith, l); late = omega (arith, s, lag-below seed j mirror) }, tt)
+          let s : j / 8 + lag seed j mirror ≡ tick = grind (arith, nat_tests) in
+          (record { due = omega (arith, l); late = omega (arith, s, lag-below seed j mirror) }, tt)
       | false ↦ λ e. tt
     ]
     refl)
