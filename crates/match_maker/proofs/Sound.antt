@@ -102,14 +102,14 @@ IsCommand-made seed j h = record {
 }
 
 -- the names of the commands differ
-NamesDiffer-made : (seed n : ℕ) → NamesDiffer (each_below (command_at seed) n)
+pub NamesDiffer-made : (seed n : ℕ) → NamesDiffer (each_below (command_at seed) n)
 unfolding joined_below NamesDiffer
 NamesDiffer-made seed zero = tt
 NamesDiffer-made seed (suc n) =
     names-push (each_below (command_at seed) n) (command_at seed n) (NamesDiffer-made seed n) (command_at-new seed n n (omega arith))
 
 -- a command has its own name
-command_at-named : (seed j n : ℕ) → j ≡ n → is_named (j % 8) (j / 8) (command_at seed n) ≡ true
+pub command_at-named : (seed j n : ℕ) → j ≡ n → is_named (j % 8) (j / 8) (command_at seed n) ≡ true
 command_at-named seed j n e = grind (arith, nat_tests)
 
 -- true beside any

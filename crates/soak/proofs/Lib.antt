@@ -1,0 +1,4 @@
+pub mod Arriving
+pub mod Feeding
+pub mod Soaked
+pub mod Played

@@ -1,0 +1,30 @@
+//! The laws of the match of a number. Each is the contract of a function without parameters that does nothing.
+
+ghost use Rattle.std.specs.Prelude.{◌≡◌, ◌∷◌, [], Some, ℕ, ◌<◌, List, slice_get};
+ghost use Rattle.sync_model.specs.State.{MirrorState, opening_state};
+ghost use Rattle.sync_model.specs.Change.{after};
+ghost use Rattle.sync_model.specs.Turns.{drain};
+ghost use Rattle.match_hall.specs.Script.{played};
+ghost use Rattle.match_maker.specs.Generator.{made};
+ghost use Rattle.soak.specs.Soak.{events_until, IsSoaked};
+
+use game_trait::Game;
+use match_hall::laws::a_mirror_sees_its_own_lines;
+
+/// A mirror to which the commands of the match come as its script says accepts all of them, since each comes at a clock of at
+/// most its time plus 31, and the last copy stands 32 ticks behind the clock or more. Once it is drained, the world of each of
+/// its copies is the time-ordered execution of all commands, whatever the game.
+pub fn no_command_is_late<G: Game>()
+    ensures { (opening : G) (seed mirror spare plan_spare : ℕ)
+        → let start = opening_state opening 512 ((0 ∷ 4 ∷ 8 ∷ 16 ∷ 32 ∷ []) ∷ []) spare plan_spare in
+        IsSoaked G.rules opening seed (drain (after start (events_until seed mirror 544))) }
+{}
+
+/// Each of the 8 mirrors of a hall that plays the match of a number accepts all commands, turns none away and ends drained, with
+/// the time-ordered execution of all commands as the world of each of its copies, whatever the game and the number.
+pub fn each_mirror_takes_every_command<G: Game>()
+    ensures { (opening : G) (seed number : ℕ) → number < 8
+        → (end : MirrorState G) × (slice_get (played opening (made seed)) number ≡ Some end) × IsSoaked G.rules opening seed end }
+{
+    a_mirror_sees_its_own_lines::<G>();
+}
