@@ -67,14 +67,24 @@ fn by_seats<R: Threads + Wait + Sync>(
 ) -> Option<u64>
     requires { All (λ s. s.seat.table_id ≡ lock.now.table.shared.table_id) seats.items }
 {
-    let replies = map_vec(rt, seats, &|seat: TurnSeat<Counter>| -> u64
-        requires { seat.seat.table_id ≡ lock.now.table.shared.table_id }
-    { add_all(rt, lock, seat) }).ok()?;
+    let replies = map_vec(
+        rt,
+        seats,
+        &|seat: TurnSeat<Counter>| -> u64
+            requires { seat.seat.table_id ≡ lock.now.table.shared.table_id }
+        { add_all(rt, lock, seat) },
+    )
+    .ok()?;
     replies.iter().max().copied()
 }
 
 // So many threads that each make as many calls, under a turn lock. Tells the last count.
-fn by_turns<R: Threads + Wait + Sync>(rt: &R, alloc: Global, threads: u8, calls: u32) -> Option<u64> {
+fn by_turns<R: Threads + Wait + Sync>(
+    rt: &R,
+    alloc: Global,
+    threads: u8,
+    calls: u32,
+) -> Option<u64> {
     let mut shares = Vec::with_capacity(alloc, threads as usize).ok()?;
     for _ in 0..threads {
         shares.push_reserved(Share {
@@ -100,20 +110,33 @@ fn mutex_all<R: Wait>(rt: &R, lock: &Mutex<u64>, calls: u32) -> u64 {
 }
 
 // The same under a mutex.
-fn by_mutex<R: Threads + Wait + Sync>(rt: &R, alloc: Global, threads: u8, calls: u32) -> Option<u64> {
+fn by_mutex<R: Threads + Wait + Sync>(
+    rt: &R,
+    alloc: Global,
+    threads: u8,
+    calls: u32,
+) -> Option<u64> {
     let lock = Mutex::new(0u64);
     let mut jobs = Vec::with_capacity(alloc, threads as usize).ok()?;
     for _ in 0..threads {
         jobs.push_reserved(calls);
     }
-    let replies = map_vec(rt, jobs, &|calls: u32| -> u64 { mutex_all(rt, &lock, calls) }).ok()?;
+    let replies = map_vec(
+        rt,
+        jobs,
+        &|calls: u32| -> u64 { mutex_all(rt, &lock, calls) },
+    )
+    .ok()?;
     replies.iter().max().copied()
 }
 
 fn main(rt: HostRuntime) -> io::Result<()> {
     let words: Vec<String> = env::args(&rt)?.collect(rt.alloc())?;
     let threads = words.get(2).and_then(|w| w.parse::<u8>().ok()).unwrap_or(2);
-    let calls = words.get(3).and_then(|w| w.parse::<u32>().ok()).unwrap_or(1000);
+    let calls = words
+        .get(3)
+        .and_then(|w| w.parse::<u32>().ok())
+        .unwrap_or(1000);
     let last = match words.get(1) {
         Some(word) if word.as_str() == "mutex" => by_mutex(&rt, rt.alloc(), threads, calls),
         _ => by_turns(&rt, rt.alloc(), threads, calls),

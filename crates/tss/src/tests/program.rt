@@ -23,6 +23,13 @@ const TWO_COPIES_LIFTED: &str =
 const TWO_COPIES_TEXT: &str =
     "mirror 0 accepted 0 turned 0 repairs 0\nworld 0 0 1\nlive ann 0 0 e 3 5 0\nworld 0 1 1\nlive ann 0 0 e 3 5 0\nmirror 1 accepted 0 turned 0 repairs 0\nworld 1 0 1\nlive ann 0 0 e 3 5 0\nworld 1 1 1\nlive ann 0 0 e 3 5 0\ndone\n";
 
+// Four players who face the four ways, and each goes one cell ahead.
+const FACINGS: &str =
+    "tss match 1\nlength 1\ngrid 5 5\nmirrors 1\ndelays 0\npace 0\nplayer ann 1 3 n\nplayer bob 1 1 e\nplayer cat 3 1 s\nplayer dan 3 3 w\ncmd 0 0 0 0 go\ncmd 0 0 1 1 go\ncmd 0 0 2 2 go\ncmd 0 0 3 3 go\nend\n";
+
+const FACINGS_ORDERED: &str =
+    "order 1\nlive ann 1 2 n 3 5 0\nlive bob 2 1 e 3 5 0\nlive cat 3 2 s 3 5 0\nlive dan 2 3 w 3 5 0\ndone\n";
+
 // Two commands of one tick in the wrong order of lines: the turn has the smaller key, so the move is blocked.
 const TURN_BEFORE_MOVE: &str =
     "tss match 1\nlength 2\ngrid 3 1\nmirrors 1\ndelays 0\npace 0\nplayer ann 0 0 e\ncmd 0 0 1 0 go\ncmd 0 0 0 0 right\nend\n";
@@ -203,7 +210,7 @@ const PLAYED: Case = Case {
     ..ORDERED
 };
 
-const CASES: [Case; 19] = [
+const CASES: [Case; 20] = [
     ORDERED,
     USED_WRONG,
     Case {
@@ -266,6 +273,12 @@ const CASES: [Case; 19] = [
         written: TWO_COPIES_TEXT,
         logs: &[&DRAINED_LOG, &DRAINED_LOG],
         ..PLAYED
+    },
+    Case {
+        name: "each facing, read, gone in and shown",
+        input: FACINGS,
+        written: FACINGS_ORDERED,
+        ..ORDERED
     },
     Case {
         name: "several copies, ordered",
