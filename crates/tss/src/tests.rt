@@ -2,9 +2,12 @@
 //! whole crate once more.
 
 mod arena;
+mod copy_workers_tests;
 mod counting_game;
 mod game_trait_tests;
+mod link_ring_tests;
 mod match_texts;
+mod memory_post;
 mod mirror_core_tests;
 mod mirror_lock_tests;
 mod plain_arena;
