@@ -15,7 +15,7 @@ pub const MOST_DRAFTED: usize = 64;
 /// The due tick of a copy, to be executed away from its mirror: the copy, its epoch, its clock and its world, and the
 /// tick's commands in key order (this project's own). A mirror gives it.
 #[derive(Drop)]
-pub struct Draft<G: Game> {
+pub struct Draft<G> {
     copy: u8,
     epoch: u64,
     clock: Tick,
@@ -23,7 +23,7 @@ pub struct Draft<G: Game> {
     commands: ArrayVec<Command, 64>,
 }
 
-impl<G: Game> Model for Draft<G> {
+impl<G> Model for Draft<G> {
     ghost use Rattle.sync_model.specs.Drafts.{DraftTick};
 
     ghost Value = { DraftTick G };
@@ -104,14 +104,14 @@ fn execute<G: Game>(world: &mut G, commands: &[Command])
 
 /// A draft that was executed: its copy, its epoch and its clock as they were, and the world after the tick.
 #[derive(Drop)]
-pub struct Ready<G: Game> {
+pub struct Ready<G> {
     copy: u8,
     epoch: u64,
     clock: Tick,
     world: G,
 }
 
-impl<G: Game> Model for Ready<G> {
+impl<G> Model for Ready<G> {
     ghost use Rattle.sync_model.specs.Drafts.{ReadyTick};
 
     ghost Value = { ReadyTick G };
@@ -156,7 +156,7 @@ impl<G: Game> Ready<G> {
 
 /// What a mirror answers where a draft of a copy is asked for.
 #[derive(Drop)]
-pub enum Drafted<G: Game> {
+pub enum Drafted<G> {
     /// The copy's due tick.
     Draft(Draft<G>),
     /// The copy stands at its limit.

@@ -2,14 +2,17 @@
 //! whole crate once more.
 
 mod arena;
+mod copy_workers_tests;
 mod counting_game;
 mod divergence_check_tests;
 mod drafts_tests;
 mod executed_list_tests;
 mod game_trait_tests;
 mod limits;
+mod link_ring_tests;
 mod match_hall_tests;
 mod match_texts;
+mod memory_post;
 mod mirror_core_tests;
 mod mirror_lock_tests;
 mod pending_list_tests;
