@@ -9,6 +9,8 @@ mod mirror_core_tests;
 mod mirror_lock_tests;
 mod plain_arena;
 mod program;
+mod run_auditor_tests;
+mod run_recorder_tests;
 mod stagger_clock_tests;
 mod tss_io_tests;
 mod turn_lock_tests;
