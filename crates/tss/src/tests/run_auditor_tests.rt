@@ -6,7 +6,8 @@ use run_recorder::read_record;
 use std::alloc::Global;
 use tss_io::TextFault;
 
-const FRONT: &str = "tss record 1\ntss match 1\nlength 1\ngrid 3 1\nmirrors 1\ndelays 0 1\npace 1\nplayer ann 0 0 e\nend\n";
+const FRONT: &str =
+    "tss record 1\ntss match 1\nlength 1\ngrid 3 1\nmirrors 1\ndelays 0 1\npace 1\nplayer ann 0 0 e\nend\n";
 
 const WORLDS: &str = "world 0 0 1\nlive ann 0 0 e 3 5 0\nworld 0 1 1\nlive ann 0 0 e 3 5 0\ndone\n";
 
@@ -91,12 +92,31 @@ fn walked(alloc: Global, text: &[u8]) -> Result<(u32, bool), TextFault> {
             return Ok((made, next == walk.next()));
         }
     }
-    Ok((walk.mirror().events().len() as u32, walk.next() == Walked::End))
+    Ok((
+        walk.mirror().events().len() as u32,
+        walk.next() == Walked::End,
+    ))
 }
 
 #[test]
 fn records_are_audited(rt: HostRuntime) {
     for &(ending, worlds, verdict) in &ENDINGS {
-        assert_eq!(rt; verdict_behind_front(rt.alloc(), ending, worlds), Ok(verdict));
+        assert_eq!(rt;
+            verdict_behind_front(rt.alloc(), ending, worlds),
+            Ok(verdict)
+        );
     }
+}
+
+fn walked_behind_front(alloc: Global, ending: &str) -> Result<(u32, bool), TextFault> {
+    let text = format!(in alloc; "{FRONT}{ending}{WORLDS}")?;
+    walked(alloc, text.as_bytes())
+}
+
+#[test]
+fn walks_stop_and_stay(rt: HostRuntime) {
+    let legal = "log 0 4\ntick\nstep 0\ntick\nstep 1\n";
+    let over = "log 0 5\ntick\nstep 0\ntick\ntick\nstep 1\n";
+    assert_eq!(rt; walked_behind_front(rt.alloc(), legal), Ok((4, true)));
+    assert_eq!(rt; walked_behind_front(rt.alloc(), over), Ok((3, true)));
 }

@@ -4,14 +4,20 @@ use run_recorder::{print_record, read_record};
 use std::alloc::Global;
 use tss_io::{Cause, Refused, TextFault};
 
-const FRONT: &str = "tss record 1\ntss match 1\nlength 1\ngrid 3 1\nmirrors 1\ndelays 0 1\npace 1\nplayer ann 0 0 e\nend\n";
+const FRONT: &str =
+    "tss record 1\ntss match 1\nlength 1\ngrid 3 1\nmirrors 1\ndelays 0 1\npace 1\nplayer ann 0 0 e\nend\n";
 
-const WHOLE: &str = "tss record 1\ntss match 1\nlength 3\ngrid 3 1\nmirrors 2\ndelays 0 1\npace 1\nplan 1 2\nplayer ann 0 0 e\ncmd 0 1 7 0 go\nend\nlog 0 3\ntick\narrive 1 7\nrestagger 1\nworld 0 0 0\nlive ann 0 0 e 3 5 0\nworld 0 1 4294967295\nlog 1 2\ntick\nstep 0\nworld 1 0 1\nworld 1 1 0\nshot\nitem . . .\ndone\n";
+const WHOLE: &str =
+    "tss record 1\ntss match 1\nlength 3\ngrid 3 1\nmirrors 2\ndelays 0 1\npace 1\nplan 1 2\nplayer ann 0 0 e\ncmd 0 1 7 0 go\nend\nlog 0 3\ntick\narrive 1 7\nrestagger 1\nworld 0 0 0\nlive ann 0 0 e 3 5 0\nworld 0 1 4294967295\nlog 1 2\ntick\nstep 0\nworld 1 0 1\nworld 1 1 0\nshot\nitem . . .\ndone\n";
 
 // How many logs and how many events of the first are read of a text, or why it isn't.
 fn read_counts(alloc: Global, text: &[u8]) -> Result<(usize, usize), TextFault> {
     let record = read_record(alloc, text)?;
-    let events = record.logs.as_slice().first().map_or(0, |log| log.events.len());
+    let events = record
+        .logs
+        .as_slice()
+        .first()
+        .map_or(0, |log| log.events.len());
     Ok((record.logs.len(), events))
 }
 
@@ -23,7 +29,10 @@ fn prints_back(alloc: Global, text: &[u8]) -> Result<bool, TextFault> {
 
 // What follows the front, and what is read of the whole, or the line and the cause for which it is refused.
 const ENDINGS: [(&str, Result<(usize, usize), (u32, Cause)>); 22] = [
-    ("log 0 1\ntick\nworld 0 0 0\nworld 0 1 0\ndone\n", Ok((1, 1))),
+    (
+        "log 0 1\ntick\nworld 0 0 0\nworld 0 1 0\ndone\n",
+        Ok((1, 1)),
+    ),
     (
         "log 0 0\nworld 0 0 0\nlive\nworld 0 1 9\nitem x\ndone\n",
         Ok((1, 0)),
@@ -40,10 +49,7 @@ const ENDINGS: [(&str, Result<(usize, usize), (u32, Cause)>); 22] = [
     ("log 0 1\nworld 0 0 0\n", Err((11, Cause::Shape))),
     ("log 0 0\nworld 0 1 0\n", Err((11, Cause::Order))),
     ("log 0 0\nworld 0 2 0\n", Err((11, Cause::Number))),
-    (
-        "log 0 0\nworld 0 0 4294967296\n",
-        Err((11, Cause::Number)),
-    ),
+    ("log 0 0\nworld 0 0 4294967296\n", Err((11, Cause::Number))),
     ("log 0 0\nlive ann\n", Err((11, Cause::Shape))),
     ("log 0 0\nworld 0 0 0\nlive  ann\n", Err((12, Cause::Shape))),
     ("log 0 0\nworld 0 0 0\ndone\n", Err((12, Cause::Shape))),
@@ -102,7 +108,10 @@ fn records_are_read_or_refused(rt: HostRuntime) {
 #[test]
 fn whole_texts_are_refused(rt: HostRuntime) {
     for &(text, line, cause) in &WHOLES {
-        assert_eq!(rt; read_counts(rt.alloc(), text.as_bytes()), Err(TextFault::Refused(Refused { line, cause })));
+        assert_eq!(rt;
+            read_counts(rt.alloc(), text.as_bytes()),
+            Err(TextFault::Refused(Refused { line, cause }))
+        );
     }
 }
 
