@@ -21,6 +21,8 @@ mod plays;
 mod program;
 mod repair_copy_tests;
 mod report_text_tests;
+mod run_auditor_tests;
+mod run_recorder_tests;
 mod several_copies;
 mod slow_mirror;
 mod stagger_clock_tests;

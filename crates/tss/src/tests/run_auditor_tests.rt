@@ -1,0 +1,122 @@
+//! Audits of records.
+
+use arena_rules::Arena;
+use run_auditor::{LogWalk, Verdict, Walked, Why, audit};
+use run_recorder::read_record;
+use std::alloc::Global;
+use tss_io::TextFault;
+
+const FRONT: &str =
+    "tss record 1\ntss match 1\nlength 1\ngrid 3 1\nmirrors 1\ndelays 0 1\npace 1\nplayer ann 0 0 e\nend\n";
+
+const WORLDS: &str = "world 0 0 1\nlive ann 0 0 e 3 5 0\nworld 0 1 1\nlive ann 0 0 e 3 5 0\ndone\n";
+
+// What an audit says of the text of a record, or why that isn't read.
+fn verdict_of(alloc: Global, text: &[u8]) -> Result<Verdict, TextFault> {
+    let record = read_record(alloc, text)?;
+    let opening = Arena::start(&record.game.setup);
+    Ok(audit(alloc, &record, &opening)?)
+}
+
+// What follows the front, and whether the worlds follow that, and what an audit says.
+const ENDINGS: [(&str, bool, Verdict); 6] = [
+    (
+        "log 0 4\ntick\nstep 0\ntick\nstep 1\n",
+        true,
+        Verdict::Legal { events: 4 },
+    ),
+    (
+        "log 0 4\nstep 0\ntick\ntick\nstep 1\n",
+        true,
+        Verdict::NotLegal {
+            mirror: 0,
+            place: 0,
+            why: Why::Idle,
+        },
+    ),
+    (
+        "log 0 5\ntick\nstep 0\ntick\ntick\nstep 1\n",
+        true,
+        Verdict::NotLegal {
+            mirror: 0,
+            place: 3,
+            why: Why::Over,
+        },
+    ),
+    (
+        "log 0 2\ntick\nstep 0\n",
+        true,
+        Verdict::NotLegal {
+            mirror: 0,
+            place: 1,
+            why: Why::World,
+        },
+    ),
+    (
+        "log 0 4\ntick\nstep 0\ntick\nstep 1\nworld 0 0 1\nlive ann 0 0 e 3 5 0\nworld 0 1 1\nlive ann 1 0 e 3 5 0\ndone\n",
+        false,
+        Verdict::NotLegal {
+            mirror: 0,
+            place: 1,
+            why: Why::World,
+        },
+    ),
+    (
+        "log 0 4\ntick\nstep 0\ntick\nstep 1\nworld 0 0 0\nlive ann 0 0 e 3 5 0\nworld 0 1 1\nlive ann 0 0 e 3 5 0\ndone\n",
+        false,
+        Verdict::NotLegal {
+            mirror: 0,
+            place: 0,
+            why: Why::World,
+        },
+    ),
+];
+
+fn verdict_behind_front(alloc: Global, ending: &str, worlds: bool) -> Result<Verdict, TextFault> {
+    let behind = if worlds { WORLDS } else { "" };
+    let text = format!(in alloc; "{FRONT}{ending}{behind}")?;
+    verdict_of(alloc, text.as_bytes())
+}
+
+// How many events of the first log a walk makes before it stops, and whether it tells the same when it is asked again.
+fn walked(alloc: Global, text: &[u8]) -> Result<(u32, bool), TextFault> {
+    let record = read_record(alloc, text)?;
+    let opening = Arena::start(&record.game.setup);
+    let Some(log) = record.logs.as_slice().first() else {
+        return Ok((0, false));
+    };
+    let mut walk = LogWalk::new(alloc, &record.game, &opening, log)?;
+    for made in 0..log.events.len() as u32 {
+        let next = walk.next();
+        if !matches!(next, Walked::Note(_)) {
+            return Ok((made, next == walk.next()));
+        }
+    }
+    Ok((
+        walk.mirror().events().len() as u32,
+        walk.next() == Walked::End,
+    ))
+}
+
+#[test]
+fn records_are_audited(rt: HostRuntime) {
+    for &(ending, worlds, verdict) in &ENDINGS {
+        assert_eq!(rt;
+            verdict_behind_front(rt.alloc(), ending, worlds),
+            Ok(verdict)
+        );
+    }
+}
+
+fn walked_behind_front(alloc: Global, ending: &str) -> Result<(u32, bool), TextFault> {
+    let text = format!(in alloc; "{FRONT}{ending}{WORLDS}")?;
+    walked(alloc, text.as_bytes())
+}
+
+#[test]
+fn walks_stop_and_stay(rt: HostRuntime) {
+    let legal = "log 0 4\ntick\nstep 0\ntick\nstep 1\n";
+    let over = "log 0 5\ntick\nstep 0\ntick\ntick\nstep 1\n";
+    assert_eq!(rt; walked_behind_front(rt.alloc(), legal), Ok((4, true)));
+    assert_eq!(rt; walked_behind_front(rt.alloc(), over), Ok((3, true)));
+}
