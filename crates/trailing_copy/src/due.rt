@@ -7,7 +7,7 @@ use arrayvec::ArrayVec;
 use game_trait::{Command, Tick};
 use pending_list::Buckets;
 
-// A tick's commands in key order, of which there are no more than the list holds.
+/// A tick's commands in key order, of which there are no more than the list holds.
 pub fn due_of<const N: usize>(list: &Buckets, t: Tick) -> ArrayVec<Command, N>
     requires { length (due_at list.now.all t) ≤ N }
     ensures { result.items ≡ due_at list.now.all t }
