@@ -2,3 +2,4 @@ pub mod Arriving
 pub mod Feeding
 pub mod Soaked
 pub mod Played
+pub mod Agreed

@@ -10,7 +10,8 @@ use Rattle.sync_model.specs.Schedule.{DelaysRise}
 use Rattle.sync_model.specs.State.{MirrorState, delays_of, opening_state}
 use Rattle.sync_model.specs.Change.{after}
 use Rattle.sync_model.specs.Turns.{drain}
-use Rattle.sync_model.proofs.Drain.{draining_ends, draining_delivers_nothing, drain-ordered}
+use Rattle.sync_model.proofs.Drain.{draining_ends, draining_delivers_nothing, drain-ordered, drain-fixed}
+use Rattle.sync_model.proofs.Cases.{after-fixed}
 use Rattle.match_maker.proofs.Lists.{length_each}
 use Rattle.match_maker.specs.Generator.{command_at}
 use Rattle.match_maker.proofs.Sound.{NamesDiffer-made}
@@ -42,11 +43,12 @@ ordered-fed seed mirror =
 
 -- a mirror that was fed, drained
 fed-soaked : {W : Type 0} (rules : Rules W) (opening : W) (seed mirror : ℕ) (s : MirrorState W)
-    → IsFed s 544 (fed_until seed mirror 544) → IsSoaked rules opening seed (drain s)
-fed-soaked rules opening seed mirror s h =
+    → s.opening ≡ opening → IsFed s 544 (fed_until seed mirror 544) → IsSoaked rules opening seed (drain s)
+fed-soaked rules opening seed mirror s o h =
     let rise : DelaysRise (delays_of s) = subst DelaysRise (sym h.delays) rising in
     let same = draining_delivers_nothing s in
     record {
+      opened = (drain-fixed s).opening ∙ o;
       accepted = ap length (same.accepted ∙ h.accepted) ∙ length-fed seed mirror;
       turned = same.turned ∙ h.turned;
       drained = draining_ends s rise h.staggered;
@@ -60,4 +62,4 @@ fed-soaked rules opening seed mirror s h =
 pub soaked : {W : Type 0} (rules : Rules W) (opening : W) (seed mirror spare plan_spare : ℕ)
     → IsSoaked rules opening seed (drain (after (opening_state opening 512 (the_delays ∷ []) spare plan_spare) (events_until seed mirror 544)))
 soaked rules opening seed mirror spare plan_spare =
-    fed-soaked rules opening seed mirror _ (IsFed-script opening seed mirror spare plan_spare)
+    fed-soaked rules opening seed mirror _ (after-fixed (events_until seed mirror 544) (opening_state opening 512 (the_delays ∷ []) spare plan_spare)).opening (IsFed-script opening seed mirror spare plan_spare)

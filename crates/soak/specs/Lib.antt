@@ -1,1 +1,2 @@
 pub mod Soak
+pub mod Agree

@@ -36,9 +36,10 @@ events_until seed mirror ticks = joined_below (events_in seed mirror) ticks
 abbrev pub all_commands : ℕ → List Command
 all_commands seed = each_below (command_at seed) 4096
 
--- a mirror at the end of the match of a number: it accepted every command and turned none away, it is drained, and the world of
+-- a mirror at the end of the match of a number that opened so: it accepted every command and turned none away, it is drained, and the world of
 -- each of its copies is the time-ordered execution of all commands
 pub record IsSoaked {W : Type 0} (rules : Rules W) (opening : W) (seed : ℕ) (end : MirrorState W) : Type 0 where
+  pub opened : end.opening ≡ opening
   pub accepted : length end.accepted ≡ 4096
   pub turned : end.turned ≡ []
   pub drained : IsDrained end

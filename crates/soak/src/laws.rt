@@ -6,7 +6,9 @@ ghost use Rattle.sync_model.specs.Change.{after};
 ghost use Rattle.sync_model.specs.Turns.{drain};
 ghost use Rattle.match_hall.specs.Script.{played};
 ghost use Rattle.match_maker.specs.Generator.{made};
-ghost use Rattle.soak.specs.Soak.{events_until, IsSoaked};
+ghost use Rattle.game_trait.specs.Ordered.{time_ordered};
+ghost use Rattle.soak.specs.Soak.{all_commands, events_until, IsSoaked};
+ghost use Rattle.soak.specs.Agree.{AreAllAt};
 
 use game_trait::Game;
 use match_hall::laws::a_mirror_sees_its_own_lines;
@@ -27,4 +29,13 @@ pub fn each_mirror_takes_every_command<G: Game>()
         → (end : MirrorState G) × (slice_get (played opening (made seed)) number ≡ Some end) × IsSoaked G.rules opening seed end }
 {
     a_mirror_sees_its_own_lines::<G>();
+}
+
+/// All copies of all mirrors of a hall that plays the match of a number have one world at the end, the time-ordered execution of
+/// all commands, whatever the game and the number.
+pub fn all_copies_agree<G: Game>()
+    ensures { (opening : G) (seed : ℕ)
+        → AreAllAt G.rules (time_ordered G.rules opening (all_commands seed) 512) (played opening (made seed)) }
+{
+    each_mirror_takes_every_command::<G>();
 }
