@@ -1,0 +1,122 @@
+-- What a call of a lock tells of the seat's own entries.
+use Rattle.std.proofs.Common.{◌≡◌, ℕ, ◌<◌, true, false, cond, List, [], ◌∷◌, ◌++◌, map, length, refl, ap, sym, ◌∙◌, subst}
+use Rattle.std.specs.Prelude.{Option, Some, None, IfSome, is_some, nat_lt, flat_map}
+use Rattle.std.proofs.lemmas.Grind.{flat_map-append}
+use Rattle.std.proofs.lemmas.List.{append-nil}
+use Rattle.game_trait.specs.Game.{Rules as GameRules}
+use Rattle.game_trait.specs.declared.event.Event.{Event as AnEvent}
+use Rattle.game_trait.specs.declared.event.Event.TheVariants.{Step}
+use Rattle.game_trait.specs.declared.event.Reply.{Reply}
+use Rattle.game_trait.specs.Events.{IsOfKind}
+use Rattle.sync_model.specs.State.{MirrorState}
+use Rattle.sync_model.specs.Change.{is_idle}
+use Rattle.sync_model.specs.Drafts.{DraftTick, ready_of, draft_of}
+use Rattle.sync_model.proofs.History.{answers_in_kind}
+use Rattle.mirror_core.specs.declared.drafts.TheConstants.{MOST_DRAFTED}
+use Rattle.mirror_core.specs.declared.drafts.Drafted.{Drafted}
+use Rattle.mirror_core.specs.declared.drafts.Drafted.TheVariants.{Draft as ADraft, Idle, Wide}
+use Rattle.mirror_core.specs.Drafts.{due_len, drafted, IfDraft}
+use Rattle.mirror_lock.specs.declared.calls.LockCall.{LockCall}
+use Rattle.mirror_lock.specs.declared.calls.LockCall.TheVariants.{Event, Draft, Commit}
+use Rattle.mirror_lock.specs.declared.calls.LockReply.{LockReply}
+use Rattle.mirror_lock.specs.declared.calls.LockReply.TheVariants.{Event as ToEvent, Draft as ToDraft, Commit as ToCommit}
+use Rattle.mirror_lock.specs.Locked.{mirror_rules, FitsLocked}
+use Rattle.turn_lock.specs.declared.history.Entry.{Entry}
+use Rattle.turn_lock.specs.declared.view.View.{View}
+use Rattle.turn_lock.specs.Histories.{value, entry, own}
+use Rattle.turn_lock.specs.Views.{number_of, seen_of, FitsSeat}
+use Rattle.turn_lock.specs.Calls.{IsCall}
+use Rattle.turn_lock.proofs.Serving.{own_after_call, reply_is_said}
+use Rattle.copy_workers.specs.declared.post.Asked.{Asked}
+use Rattle.copy_workers.specs.declared.post.TrailMark.{TrailMark}
+use Rattle.copy_workers.specs.Trail.{draft_in}
+use Rattle.race_hall.specs.Posting.{event_told, draft_told, asked_in, mark_in, last_drawn, asked_by, trail_by, drawn_by, pairs_in, IsReadied}
+
+map-push : {X Y : Type 0} (f : X → Y) (xs : List X) (x : X) → map f (xs ++ x ∷ []) ≡ map f xs ++ f x ∷ []
+map-push f [] x = refl
+map-push {X} {Y} f (y ∷ xs) x = ap (λ (l : List Y). f y ∷ l) (map-push f xs x)
+
+module _ {W : Type 0} (game : GameRules W) where
+  drawn-last : (log : List (Entry (LockCall W) (LockReply W))) (e : Entry (LockCall W) (LockReply W)) → last_drawn (log ++ e ∷ []) ≡ draft_in (draft_told e.reply)
+  unfolding last_drawn
+  drawn-last [] e = refl
+  drawn-last (f ∷ []) e = refl
+  drawn-last (f ∷ g ∷ log) e = drawn-last (g ∷ log) e
+
+  -- what was asked, the marks and the draft after a call
+  pub asked-more :
+      (v w : View (MirrorState W) (LockCall W) (LockReply W)) (q : LockCall W) (r : LockReply W) → IsCall (mirror_rules game) v q r w
+      → asked_by w ≡ asked_by v ++ asked_in q r
+  asked-more v w q r call =
+      ap (λ (l : List (Entry (LockCall W) (LockReply W))). pairs_in l) (own_after_call (mirror_rules game) v w q r call)
+      ∙ flat_map-append (λ (e : Entry (LockCall W) (LockReply W)). asked_in e.call e.reply) (own (number_of v) (seen_of v)) (entry (number_of v) q r ∷ [])
+      ∙ ap (λ (l : List Asked). asked_by v ++ l) (append-nil (asked_in q r))
+
+  pub trail-more :
+      (v w : View (MirrorState W) (LockCall W) (LockReply W)) (q : LockCall W) (r : LockReply W) → IsCall (mirror_rules game) v q r w
+      → trail_by w ≡ trail_by v ++ mark_in q r ∷ []
+  trail-more v w q r call =
+      ap (λ (l : List (Entry (LockCall W) (LockReply W))). map (λ e. mark_in e.call e.reply) l) (own_after_call (mirror_rules game) v w q r call)
+      ∙ map-push (λ (e : Entry (LockCall W) (LockReply W)). mark_in e.call e.reply) (own (number_of v) (seen_of v)) (entry (number_of v) q r)
+
+  pub drawn-more :
+      (v w : View (MirrorState W) (LockCall W) (LockReply W)) (q : LockCall W) (r : LockReply W) → IsCall (mirror_rules game) v q r w
+      → drawn_by w ≡ draft_in (draft_told r)
+  drawn-more v w q r call =
+      ap (λ (l : List (Entry (LockCall W) (LockReply W))). last_drawn l) (own_after_call (mirror_rules game) v w q r call)
+      ∙ drawn-last (own (number_of v) (seen_of v)) (entry (number_of v) q r)
+
+  pub number-same :
+      (v w : View (MirrorState W) (LockCall W) (LockReply W)) (q : LockCall W) (r : LockReply W) → IsCall (mirror_rules game) v q r w
+      → number_of w ≡ number_of v
+  number-same v w q r call = ap (λ (x : View (MirrorState W) (LockCall W) (LockReply W)). number_of x) call.after_is
+
+  -- an event is answered in its kind, and a draft that is answered is of the copy
+  pub kind-told :
+      (v w : View (MirrorState W) (LockCall W) (LockReply W)) (e : AnEvent) (r : Reply) → is_some v.opening ≡ true → IsCall (mirror_rules game) v (Event e) (ToEvent r) w
+      → IsOfKind e r
+  kind-told v w e r opened call =
+      let said = reply_is_said (mirror_rules game) v w (Event e) (ToEvent r) opened call in
+      subst (IsOfKind e) (sym (ap (λ (x : LockReply W). event_told x) said.1)) (answers_in_kind said.0 e)
+
+  drafted-copy : (s : MirrorState W) (c : ℕ) → IfDraft (drafted game s c) (λ d. d.copy ≡ c)
+  drafted-copy s c =
+      elim (is_idle s c) as (λ v. IfDraft (cond v Idle (cond (nat_lt MOST_DRAFTED (due_len s c)) (Wide (due_len s c)) (ADraft (draft_of game s c)))) (λ d. d.copy ≡ c)) [
+        | true ↦ tt
+        | false ↦ elim (nat_lt MOST_DRAFTED (due_len s c)) as (λ v. IfDraft (cond v (Wide (due_len s c)) (ADraft (draft_of game s c))) (λ d. d.copy ≡ c)) [ true ↦ tt | false ↦ refl ]
+      ]
+
+  pub copy-told :
+      (v w : View (MirrorState W) (LockCall W) (LockReply W)) (c : ℕ) (d : Drafted W) → is_some v.opening ≡ true → IsCall (mirror_rules game) v (Draft c) (ToDraft d) w
+      → IfDraft d (λ t. t.copy ≡ c)
+  copy-told v w c d opened call =
+      let said = reply_is_said (mirror_rules game) v w (Draft c) (ToDraft d) opened call in
+      subst (λ (x : Drafted W). IfDraft x (λ t. t.copy ≡ c)) (sym (ap (λ (x : LockReply W). draft_told x) said.1)) (drafted-copy said.0 c)
+
+  -- where a copy's step fits a seat, so does its draft
+  pub draft-fits : (v : View (MirrorState W) (LockCall W) (LockReply W)) (c : ℕ) → FitsSeat (mirror_rules game) v (Event (Step c)) → FitsSeat (mirror_rules game) v (Draft c)
+  draft-fits v c fits = by_opening v.opening fits
+    where
+      by_opening : (x : Option (MirrorState W)) → IfSome x (λ o. FitsLocked game (value (mirror_rules game) o (seen_of v)) (Event (Step c)))
+          → IfSome x (λ o. FitsLocked game (value (mirror_rules game) o (seen_of v)) (Draft c))
+      by_opening None h = tt
+      by_opening (Some o) h = (h.0, h.1.1)
+
+  -- the draft that was answered last may be committed
+  pub readied-none :
+      (v w : View (MirrorState W) (LockCall W) (LockReply W)) (q : LockCall W) (r : LockReply W) → IsCall (mirror_rules game) v q r w
+      → draft_in (draft_told r) ≡ None → IsReadied game w
+  readied-none v w q r call none d some = absurd (let k = sym (drawn-more v w q r call ∙ none) ∙ some in cc)
+
+  pub readied-draft :
+      (v w : View (MirrorState W) (LockCall W) (LockReply W)) (c : ℕ) (a : Drafted W) → IsCall (mirror_rules game) v (Draft c) (ToDraft a) w
+      → IfDraft a (λ d. FitsSeat (mirror_rules game) w (Commit (ready_of game d))) → IsReadied game w
+  readied-draft v w c a call ready d some = by a (sym (drawn-more v w (Draft c) (ToDraft a) call) ∙ some) ready
+    where
+      inner : (x y : DraftTick W) → Some x ≡ Some y → x ≡ y
+      inner x y e = cc
+
+      by : (x : Drafted W) → draft_in x ≡ Some d → IfDraft x (λ t. FitsSeat (mirror_rules game) w (Commit (ready_of game t))) → FitsSeat (mirror_rules game) w (Commit (ready_of game d))
+      by (ADraft t) e h = subst (λ (u : DraftTick W). FitsSeat (mirror_rules game) w (Commit (ready_of game u))) (inner t d e) h
+      by Idle e h = absurd cc
+      by (Wide n) e h = absurd cc

@@ -1,0 +1,16 @@
+use Rattle.std.proofs.Common.{sym, subst}
+use Rattle.sync_model.specs.State.{MirrorState}
+use Rattle.race_hall.specs.Finish.{CanTake}
+use Rattle.race_hall.specs.Held.{left_in, unissued_in}
+use Rattle.race_hall.proofs.Deliveries.{can-later}
+use Rattle.race_hall.proofs.Pieces.{finish-state}
+use Rattle.race_hall.proofs.finish.finish_mirror.Goals as goal
+
+pub take_unissued-requires-clause-can : goal.take_unissued-requires-clause-can
+take_unissued-requires-clause-can g c =
+    subst (λ (u : MirrorState _). CanTake u (unissued_in c.args.senders.now)) (sym c.take_links.ensures) (can-later c.args.mirror.now (left_in c.args.links.now) (unissued_in c.args.senders.now) c.requires.can)
+
+pub returns : goal.returns
+returns g c =
+    finish-state c.args.mirror.now c.take_links.new.mirror c.take_unissued.new.mirror c.drain_mirror.new.mirror (left_in c.args.links.now) (unissued_in c.args.senders.now) c.turns_to_drain-turns.result
+    c.take_links.ensures c.take_unissued.ensures c.turns_to_drain-turns.ensures c.drain_mirror.ensures

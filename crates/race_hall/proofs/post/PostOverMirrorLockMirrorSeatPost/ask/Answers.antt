@@ -1,0 +1,20 @@
+use Rattle.std.proofs.Common.{refl, rules, subst, sym}
+use Rattle.mirror_lock.specs.declared.calls.LockCall.TheVariants.{Event}
+use Rattle.mirror_lock.specs.declared.calls.LockReply.TheVariants.{Event as ToEvent}
+use Rattle.turn_lock.specs.Views.{view, FitsSeat}
+use Rattle.mirror_lock.specs.Locked.{mirror_rules}
+use Rattle.race_hall.proofs.Posts.{kind-told, readied-none}
+use Rattle.race_hall.proofs.post.PostOverMirrorLockMirrorSeatPost.ask.Goals as goal
+
+pub invariant_of-self : goal.invariant_of-self
+invariant_of-self g c = (
+  search rules,
+  readied-none g.G.Game.rules (view c.self.inside.seat.seat) (view c.ask.new.seat.seat) (Event c.args.event.now) (ToEvent c.ask.result) c.ask.ensures.called refl,
+)
+
+pub returns-clause-kind : goal.returns-clause-kind
+returns-clause-kind g c =
+    kind-told g.G.Game.rules (view c.self.inside.seat.seat) (view c.ask.new.seat.seat) c.args.event.now c.ask.result c.self.inside.seat.opened c.ask.ensures.called
+
+pub returns-clause-takes : goal.returns-clause-takes
+returns-clause-takes g c = λ e h. c.ask.ensures.fits (Event e) (subst (λ s. FitsSeat (mirror_rules g.G.Game.rules) (view s.seat) (Event e)) (sym c.self.view_is) h)

@@ -1,0 +1,76 @@
+-- The jobs of a race: what each is given, when it may be done, and what it gives back.
+use Rattle.std.specs.Prelude.{◌≡◌, ℕ, ◌+◌, ◌*◌, ◌<◌, ◌≤◌, ◌^◌, Option, None, Some, List, [], length, slice_get}
+use Rattle.std.specs.List.{AllByRecursion}
+use Rattle.atomic_table.specs.Seated.{TableId}
+use Rattle.atomic_table.specs.declared.shared.Seat.{Seat}
+use Rattle.game_trait.specs.declared.event.Event.{Event as AnEvent}
+use Rattle.game_trait.specs.declared.event.Event.TheVariants.{Step}
+use Rattle.game_trait.specs.Game.{Rules as GameRules}
+use Rattle.game_trait.specs.Keys.{KeysRise}
+use Rattle.sync_model.specs.State.{MirrorState}
+use Rattle.turn_lock.specs.declared.view.View.{View}
+use Rattle.turn_lock.specs.Views.{view, FitsSeat}
+use Rattle.mirror_lock.specs.declared.calls.LockCall.{LockCall}
+use Rattle.mirror_lock.specs.declared.calls.LockCall.TheVariants.{Event}
+use Rattle.mirror_lock.specs.declared.calls.LockReply.{LockReply}
+use Rattle.mirror_lock.specs.Locked.{mirror_rules}
+use Rattle.link_ring.specs.Ends.{misses_of}
+use Rattle.copy_workers.specs.declared.copy_job.CopyJob.{CopyJob}
+use Rattle.copy_workers.specs.declared.feeder_job.FeederJob.{FeederJob}
+use Rattle.copy_workers.specs.declared.feeder_job.FeederEnd.{FeederEnd}
+use Rattle.copy_workers.specs.declared.post.Asked.{Asked}
+use Rattle.copy_workers.specs.Asking.{IsFeedingBelow}
+use Rattle.copy_workers.specs.Sending.{HasRoom}
+use Rattle.copy_workers.specs.Fed.{FeederEnds}
+use Rattle.race_hall.specs.declared.job.Work.{Work}
+use Rattle.race_hall.specs.declared.job.Work.TheVariants.{Copy, Feeder}
+use Rattle.race_hall.specs.declared.job.JobOver.{JobOver}
+use Rattle.race_hall.specs.declared.job.EndOver.{EndOver}
+use Rattle.race_hall.specs.Entries.{IsStepping}
+use Rattle.race_hall.specs.Posting.{asked_by, SameSeat, IsReadied}
+
+module _ {S W : Type 0} (game : GameRules W) where
+  -- a copy's worker may work over this seat, which has asked nothing: it may ask for the copy's drafts and steps, and has calls enough
+  pub record CanCopy (job : CopyJob) (seat : Seat S (View (MirrorState W) (LockCall W) (LockReply W))) : Type 0 where
+    pub new : asked_by (view seat) ≡ []
+    pub takes : FitsSeat (mirror_rules game) (view seat) (Event (Step job.copy))
+    pub readied : IsReadied game (view seat)
+    pub budget : job.budget < 2 ^ 63
+    pub calls : 2 * job.budget ≤ (view seat).calls
+
+  -- a feeder may work over this seat
+  pub record CanFeed (job : FeederJob) (seat : Seat S (View (MirrorState W) (LockCall W) (LockReply W))) : Type 0 where
+    pub new : asked_by (view seat) ≡ []
+    pub takes : (e : AnEvent) → IsFeedingBelow job.stagger.length e → FitsSeat (mirror_rules game) (view seat) (Event e)
+    pub readied : IsReadied game (view seat)
+    pub calls : 8 * job.budget + length job.plan.items ≤ (view seat).calls
+    pub grows : length job.plan.items + job.foreign ≤ (view seat).grows
+    pub rises : KeysRise job.plan.items
+    pub room : AllByRecursion (HasRoom (length job.plan.items + job.stagger.length)) job.sends.items
+    pub misses : AllByRecursion (λ r. misses_of r < 2 ^ 63) job.receives.items
+    pub seven : length job.receives.items ≤ 7
+    pub budget : job.budget < 2 ^ 63
+    pub short : length job.plan.items < 2 ^ 32
+
+  -- the work may be done over this seat
+  abbrev pub CanWork : Work → Seat S (View (MirrorState W) (LockCall W) (LockReply W)) → Type 0
+  CanWork (Copy job) seat = CanCopy job seat
+  CanWork (Feeder job) seat = CanFeed job seat
+
+-- what was asked: a copy's worker asked steps alone, and a feeder what a feeder asks
+abbrev pub Asks : Work → Option FeederEnd → List Asked → Type 0
+Asks (Copy job) None asked = AllByRecursion (λ p. IsStepping p.event) asked
+Asks (Copy job) (Some end) asked = ⊥
+Asks (Feeder job) None asked = ⊥
+Asks (Feeder job) (Some end) asked = FeederEnds job end [] asked
+
+-- a job and its end
+pub record Ends {T S W : Type 0} (seat_of : T → Seat S (View (MirrorState W) (LockCall W) (LockReply W))) (job : JobOver T) (end : EndOver T) : Type 0 where
+  pub mirror : end.mirror ≡ job.mirror
+  pub seat : SameSeat (seat_of job.seat) (seat_of end.seat)
+  pub asks : Asks job.work end.feeder (asked_by (view (seat_of end.seat)))
+
+-- a job may be done where the locks have these names: its seat is one of its mirror's lock
+pub record CanDo {T S W : Type 0} (game : GameRules W) (seat_of : T → Seat S (View (MirrorState W) (LockCall W) (LockReply W))) (names : List TableId) (job : JobOver T) : Type 0 where
+  pub own : slice_get names job.mirror ≡ Some (seat_of job.seat).table_id
+  pub can : CanWork game job.work (seat_of job.seat)

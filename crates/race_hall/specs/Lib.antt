@@ -1,0 +1,13 @@
+pub mod Entries
+pub mod Race
+pub mod Finish
+pub mod Joined
+pub mod Held
+pub mod Looking
+pub mod Holding
+pub mod Parting
+pub mod Making
+pub mod Posting
+pub mod Closing
+pub mod Jobs
+pub mod Begun

@@ -1,0 +1,132 @@
+//! What the caller of a race does after the joins.
+
+ghost use Rattle.std.specs.Prelude.{◌≡◌, ℕ, ◌+◌, ◌-◌, ◌<◌, ◌≤◌, [], ◌∷◌, ◌++◌, List, length, drop, map};
+ghost use Rattle.std.specs.List.{AllByRecursion};
+ghost use mathlib.Core.List.{IsPrefix};
+ghost use Rattle.game_trait.specs.declared.command.Command.{Command};
+ghost use Rattle.sync_model.specs.Change.{after};
+ghost use Rattle.sync_model.specs.Turns.{steps_from, turn, drain_within, drain_bound, drain};
+ghost use Rattle.link_ring.specs.declared.message.Message.{Message};
+ghost use Rattle.link_ring.specs.Ends.{waiting_of};
+ghost use Rattle.copy_workers.specs.Messages.{commands_in};
+ghost use Rattle.race_hall.specs.Finish.{delivered, finished, CanTake, HasNext};
+ghost use Rattle.race_hall.specs.Held.{left_in, unissued_in};
+
+use game_trait::{Command, Game};
+use link_ring::{LinkReceive, Message};
+use mirror_core::Mirror;
+
+/// Delivers what a message brings.
+fn take_message<G: Game>(mirror: &mut Mirror<G>, message: &Message)
+    requires { CanTake mirror.old (commands_in (message.now ∷ [])) }
+    ensures { mirror.new ≡ delivered mirror.old (commands_in (message.now ∷ [])) }
+{
+    match message {
+        Message::Cmd(x) => {
+            let _answer = mirror.arrive(x);
+        }
+        Message::Mark(_) => {}
+    }
+}
+
+/// Delivers the next message of a link, which is known to be there.
+fn take_next<G: Game>(mirror: &mut Mirror<G>, link: &mut LinkReceive)
+    requires { HasNext mirror.old (waiting_of link.old) }
+    ensures taken { (message : Message) (more : List Message) → IsPrefix (message ∷ more) (waiting_of link.old)
+        → (mirror.new ≡ delivered mirror.old (commands_in (message ∷ []))) × IsPrefix more (waiting_of link.new) }
+{
+    if let Some(message) = link.receive() {
+        take_message(mirror, &message);
+    }
+}
+
+/// Delivers what is left in a link, to its end.
+pub fn take_left<G: Game>(mirror: &mut Mirror<G>, link: &mut LinkReceive)
+    requires { CanTake mirror.old (commands_in (waiting_of link.old)) }
+    ensures { mirror.new ≡ delivered mirror.old (commands_in (waiting_of link.old)) }
+{
+    for _ in 0..link.known() {
+        take_next(mirror, link);
+    }
+}
+
+/// Delivers the commands of a plan from a place on.
+pub fn take_plan<G: Game>(mirror: &mut Mirror<G>, plan: &[Command], from: usize)
+    requires place { from ≤ length plan.now }
+    requires can { CanTake mirror.old (drop from plan.now) }
+    ensures { mirror.new ≡ delivered mirror.old (drop from plan.now) }
+{
+    for x in &plan[from..] {
+        let _answer = mirror.arrive(x);
+    }
+}
+
+/// Steps of each copy, from copy 0 on.
+fn make_steps<G: Game>(mirror: &mut Mirror<G>)
+    ensures { mirror.new ≡ after mirror.old (steps_from 0 (length mirror.old.runs)) }
+{
+    for copy in 0..mirror.copies() {
+        let _ran = mirror.step(copy);
+    }
+}
+
+/// One turn: a tick, and then a step of each copy.
+fn make_turn<G: Game>(mirror: &mut Mirror<G>)
+    ensures { mirror.new ≡ turn mirror.old }
+{
+    let _moved = mirror.tick();
+    make_steps(mirror);
+}
+
+/// Makes turns until the mirror is drained, at most so many.
+pub fn drain_mirror<G: Game>(mirror: &mut Mirror<G>, turns: u32)
+    ensures { mirror.new ≡ drain_within turns mirror.old }
+{
+    for _ in 0..turns {
+        if mirror.drained() {
+            return;
+        }
+        make_turn(mirror);
+    }
+}
+
+/// Delivers what is left in links, each to its end.
+pub fn take_links<G: Game>(mirror: &mut Mirror<G>, links: &mut [LinkReceive])
+    requires { CanTake mirror.old (left_in links.old) }
+    ensures { mirror.new ≡ delivered mirror.old (left_in links.old) }
+{
+    for link in links.iter_mut() {
+        take_left(mirror, link);
+    }
+}
+
+/// What the caller holds of a mirror's feeder: its plan, and how many of these commands it issued.
+#[derive(Drop)]
+pub struct Sender {
+    pub plan: Vec<Command>,
+    pub issued: u32,
+}
+
+/// Delivers what was never issued, in key order of each sender.
+pub fn take_unissued<G: Game>(mirror: &mut Mirror<G>, senders: &[Sender])
+    requires places { AllByRecursion (λ one. one.issued ≤ length one.plan.items) senders.now }
+    requires can { CanTake mirror.old (unissued_in senders.now) }
+    ensures { mirror.new ≡ delivered mirror.old (unissued_in senders.now) }
+{
+    for one in senders {
+        take_plan(mirror, &one.plan, one.issued as usize);
+    }
+}
+
+/// Finishes a mirror of a race: what is left in its links by rising sender, then what was never issued by rising sender, and then
+/// turns until it is drained.
+pub fn finish_mirror<G: Game>(mirror: &mut Mirror<G>, links: &mut [LinkReceive], senders: &[Sender])
+    requires places { AllByRecursion (λ one. one.issued ≤ length one.plan.items) senders.now }
+    requires can { CanTake mirror.old (left_in links.old ++ unissued_in senders.now) }
+    ensures { mirror.new ≡ finished mirror.old (left_in links.old ++ unissued_in senders.now) }
+{
+    take_links(mirror, links);
+    take_unissued(mirror, senders);
+    let turns = mirror.turns_to_drain();
+    drain_mirror(mirror, turns);
+}
