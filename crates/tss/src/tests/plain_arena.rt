@@ -116,7 +116,7 @@ fn pickups_ready(setup: &Setup) -> ArrayVec<PlainPickup, 32> {
 }
 
 impl PlainArena {
-    // The walls are given beside the setup, since a ground only tells which cells are free.
+    /// The walls are given beside the setup, since a ground only tells which cells are free.
     pub fn start(setup: &Setup, walls: &[(i32, i32)]) -> PlainArena {
         let mut kept = ArrayVec::new();
         for &wall in walls {
@@ -163,6 +163,7 @@ impl PlainArena {
         }
     }
 
+    /// Executes a command.
     pub fn apply(&mut self, number: usize, act: Act) {
         let Some(player) = self.live(number) else {
             return;
@@ -252,6 +253,7 @@ impl PlainArena {
         self.put(number, taken);
     }
 
+    /// Ends a tick.
     pub fn beat(&mut self) {
         self.fly_all();
         for number in 0..self.players.len() {
@@ -338,6 +340,7 @@ impl PlainArena {
         self.put(number, returned);
     }
 
+    /// The lines of the world, as they are shown.
     pub fn block(&self, roster: &Roster, out: &mut Vec<u8>) -> Result<(), NoMemory> {
         for (number, player) in self.players.iter().enumerate() {
             push_player(player, name_of(roster, number), out)?;
