@@ -304,12 +304,15 @@ drained-all {W} at begun mirrors old out past made =
 -- draining stopped at a mirror
 pub draining-stopped :
     {W : Type 0} (at turns : ℕ) (begun mirrors : List (MirrorState W)) (old out new : List ℕ) (d t : MirrorState W) → at < length begun → IsDrainedTo at begun mirrors old out
-    → d ≡ get_or mirrors at d → IsStoppedDrain at turns d t out new → IsStoppedDraining begun (set mirrors at t) old new
-draining-stopped {W} at turns begun mirrors old out new d t below made is stopped =
+    → d ≡ get_or mirrors at d → turns ≡ drain_bound d → IsStoppedDrain at turns d t out new → IsStoppedDraining begun (set mirrors at t) old new
+draining-stopped {W} at turns begun mirrors old out new d t below made is bound stopped =
     record {
       number = at;
       there = below;
       turns = stopped.at;
+      few = λ e.
+          let all : turns ≡ drain_bound (get_or begun at e) = bound ∙ ap (λ (u : MirrorState W). drain_bound u) (is ∙ drained-next at begun mirrors old out d e below made) in
+          omega (arith, stopped.there, all);
       state = λ e.
           drained-set at begun mirrors old out t below made
           ∙ ap (λ (u : MirrorState W). map (λ s. drain s) (take at begun) ++ u ∷ drop (at + 1) begun)

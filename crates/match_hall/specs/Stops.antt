@@ -1,7 +1,7 @@
 -- Where a script or a draining stops for want of memory. Every mirror is the state after its own history even so.
 use Rattle.std.specs.Prelude.{◌≡◌, ◌<◌, ℕ, ◌+◌, List, ◌∷◌, ◌++◌, length, take, drop, map, slice_index_or}
 use Rattle.sync_model.specs.State.{MirrorState}
-use Rattle.sync_model.specs.Turns.{drain, drain_within}
+use Rattle.sync_model.specs.Turns.{drain, drain_within, drain_bound}
 use Rattle.match_file.specs.Data.{MatchData}
 use Rattle.match_hall.specs.Script.{after_script}
 use Rattle.match_hall.specs.Report.{Showing, script_text, drain_text, drains_text}
@@ -28,6 +28,7 @@ pub record IsStoppedDraining {W : Type 0} (old new : List (MirrorState W)) (befo
   pub number : ℕ
   pub there : number < length old
   pub turns : ℕ
+  pub few : (d : MirrorState W) → turns < drain_bound (slice_index_or old number d)
   pub state : (d : MirrorState W)
       → new ≡ map (λ s. drain s) (take number old) ++ drain_within (turns + 1) (slice_index_or old number d) ∷ drop (number + 1) old
   pub text : (d : MirrorState W)

@@ -31,9 +31,13 @@ pub returns-in_err-drain_mirror-clause-stopped : goal.returns-in_err-drain_mirro
 returns-in_err-drain_mirror-clause-stopped g c =
     let kept = c.loop-at.invariant in
     let at = c.loop-at.at in
+    let s = c.index_mut.result.now in
     let below : at < length c.args.mirrors.now.items = omega (arith, c.loop-at-test.true, kept.end) in
+    let there : at < length c.loop-at.mirrors.items = (let many = drained-count at _ _ _ _ kept.drained in omega arith) in
+    let turns : c.turns_to_drain-turns.result ≡ drain_bound s =
+    c.turns_to_drain-turns.ensures ∙ ap (λ (u : MirrorState _). drain_bound u) (c.index.ensures ∙ get_or_default c.loop-at.mirrors.items at _ _ there ∙ sym c.index_mut.ensures.value) in
     on_err_of c.from_residual.result
-    (draining-stopped at _ _ _ _ _ _ c.index_mut.result.now _ below kept.drained c.index_mut.ensures.value c.in_err-drain_mirror.ensures.stopped)
+    (draining-stopped at _ _ _ _ _ _ s _ below kept.drained c.index_mut.ensures.value turns c.in_err-drain_mirror.ensures.stopped)
 
 pub returns-clause-state : goal.returns-clause-state
 returns-clause-state g c =
