@@ -3,7 +3,7 @@
 
     python3 tools/draw_record.py RECORD > PICTURE.svg
 
-RECORD is a legal record (docs/FORMATS.md), as `race` prints it. From left to right stands the log, one column an event; in a
+RECORD is a file with a legal record (docs/RECORDS.md). From left to right stands the log, one column an event; in a
 lane the clock rises by one tick at each step of its copy. Below a mirror's lanes stands what arrived, at its event:
 
 - a filled mark: the command was taken;
@@ -118,6 +118,16 @@ def mark(x, y, fill, edge, title):
     return f'<circle cx="{x:.1f}" cy="{y:.1f}" r="4" fill="{fill}" stroke="{edge}" stroke-width="1.5"><title>{title}</title></circle>'
 
 
+def free_row(ends, x, width):
+    """The first row in which a label of this width fits around x; `ends` has where each row's last label ends."""
+    for row, end in enumerate(ends):
+        if end <= x - width / 2:
+            ends[row] = x + width / 2
+            return row
+    ends.append(x + width / 2)
+    return len(ends) - 1
+
+
 def lanes(mirror, length, top):
     """The drawing of one mirror from this height on, and the height below it."""
     parts = [label(8, top + 14, f"mirror {mirror.number}", 14)]
@@ -143,15 +153,18 @@ def lanes(mirror, length, top):
         parts.append(f'<polyline points="{path}" fill="none" stroke="{COLOURS["clock"]}" stroke-width="1.5"/>')
     below = bottoms[-1] + 22
     parts.append(label(LEFT - 8, below + 4, "arrivals", 12, "end"))
+    ends = []
     for place, sender, number, time, turned in mirror.arrivals:
         title = f"command {sender}.{number}, due in tick {time}" + (", turned away" if turned else "")
         colour = COLOURS["late" if turned else "taken"]
         parts.append(mark(across(place), below, "white" if turned else colour, colour, title))
-        parts.append(label(across(place), below + 17, f"{sender}.{number}@{time}", 9, "middle"))
+        text = f"{sender}.{number}@{time}"
+        row = free_row(ends, across(place), 6 * len(text))
+        parts.append(label(across(place), below + 17 + 11 * row, text, 9, "middle"))
     for place, plan in mirror.restaggers:
         parts.append(line(across(place), top + 20, across(place), bottoms[-1], COLOURS["ink"], 0.7))
         parts.append(label(across(place) + 2, top + 28, f"plan {plan}", 9))
-    return parts, below + 34
+    return parts, below + 23 + 11 * max(len(ends), 1)
 
 
 def draw(length, mirrors):
@@ -163,7 +176,8 @@ def draw(length, mirrors):
         label(LEFT, top + 8, "across: the log, one column an event. Up: a copy's clock in ticks. Red: ticks that a repair ran again. "
               "Filled: taken; hollow: turned away, too old for the last copy.", 11)
     )
-    head = f'<svg xmlns="http://www.w3.org/2000/svg" width="{WIDTH}" height="{top + 20:.0f}" font-family="sans-serif">'
+    parts.append(label(LEFT, top + 24, "Under an arrival: its mirror and number, and behind the @ the tick in which it is due.", 11))
+    head = f'<svg xmlns="http://www.w3.org/2000/svg" width="{WIDTH}" height="{top + 36:.0f}" font-family="sans-serif">'
     return "\n".join([head, '<rect width="100%" height="100%" fill="white"/>', *parts, "</svg>"]) + "\n"
 
 

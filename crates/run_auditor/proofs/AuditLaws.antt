@@ -1,20 +1,19 @@
 -- What a walk, the worlds of a mirror, and all mirrors tell of a record.
-use Rattle.std.proofs.Common.{◌≡◌, ◌↔◌, ◌⊎◌, inl, inr, length, ℕ, ◌+◌, ◌-◌, ◌*◌, ◌<◌, ◌≤◌, Bool, true, false, cond, List, [], ◌∷◌, ◌++◌, Option, Some, None, refl, ap, sym, subst, ◌∙◌, append_assoc, append-nil, length-append, arith}
-use Rattle.std.specs.Prelude.{bytes_eq, slice_index_or}
+use Rattle.std.proofs.Common.{◌≡◌, ◌↔◌, inl, inr, length, ℕ, ◌+◌, ◌-◌, ◌*◌, ◌≤◌, true, false, List, [], ◌∷◌, ◌++◌, Some, None, refl, ap, sym, subst, ◌∙◌, append_assoc, append-nil, arith}
+use Rattle.std.specs.Prelude.{bytes_eq}
 use Rattle.std.specs.List.{AllByRecursion}
 use Rattle.std.proofs.lemmas.Slice.Eq.{bytes_eq-Decides}
 use Rattle.game_trait.specs.declared.event.Event.{Event}
 use Rattle.game_trait.specs.declared.event.Note.{Note as NoteOf}
-use Rattle.game_trait.specs.declared.limits.TheConstants.{MOST_LOGGED_EVENTS}
 use Rattle.sync_model.specs.State.{MirrorState, opening_state}
 use Rattle.sync_model.specs.Change.{next, said, changes, after}
 use Rattle.sync_model.specs.Consistent.{IsConsistent}
-use Rattle.sync_model.specs.History.{EachChanges, first_state, without_room, IsReached}
+use Rattle.sync_model.specs.History.{EachChanges, first_state, without_room}
 use Rattle.sync_model.specs.Legal.{IsLegal}
 use Rattle.sync_model.proofs.Cases.{next-fixed}
 use Rattle.sync_model.proofs.History.{history-next}
 use Rattle.sync_model.proofs.Room.{said-same, from_history_reached}
-use Rattle.match_file.specs.Data.{MatchData, IsMatch}
+use Rattle.match_file.specs.Data.{MatchData}
 use Rattle.run_recorder.specs.declared.log.MirrorLog.{MirrorLog}
 use Rattle.run_recorder.specs.declared.race_record.RaceRecord.{RaceRecord}
 use Rattle.run_recorder.specs.Data.{EachNumbered, IsEventOf, IsLogOf, AreWorldsOf, IsRecord}
@@ -25,8 +24,8 @@ use Rattle.run_auditor.specs.declared.walk.Walked.TheVariants.{Note, End, Stuck}
 use Rattle.run_auditor.specs.declared.why.Fault.{Fault}
 use Rattle.run_auditor.specs.declared.why.Why.{Why}
 use Rattle.run_auditor.specs.declared.why.Why.TheVariants as whys
-use Rattle.run_auditor.specs.Audit.{Showing, start, block_of, IsStated, IsRight, IsStuckAt, IsFirstWrong, IsFalseAt, IsFault, Found, FoundFalse, AllRight, IsFirstFault, events_in, IsLegalRecord, Tells, says_legal}
-use Rattle.run_auditor.specs.Walks.{why_of, all_plans, Walk, IsWalk, walk_of, told, told_next, moved, moved_on, WentOn, Stopped}
+use Rattle.run_auditor.specs.Audit.{Showing, start, block_of, IsStated, IsRight, IsStuckAt, IsFirstWrong, IsFault, Found, FoundFalse, AllRight, IsFirstFault, events_in, IsLegalRecord, Tells, says_legal}
+use Rattle.run_auditor.specs.Walks.{why_of, Walk, walk_of, told, told_next, moved, moved_on, WentOn, Stopped}
 use Rattle.run_auditor.proofs.WalkLaws.{why_changes, why_stays, events_named, opened_copies}
 
 -- ---- a walk

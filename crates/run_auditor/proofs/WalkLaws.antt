@@ -1,5 +1,5 @@
 -- What the next event of a walk finds and leaves.
-use Rattle.std.proofs.Common.{◌≡◌, length, map, ℕ, ◌+◌, ◌-◌, ◌<◌, ◌≤◌, Bool, true, false, cond, ◌&&◌, List, [], ◌∷◌, ◌++◌, Option, Some, None, refl, ap, sym, subst, ◌∙◌, length-append, arith}
+use Rattle.std.proofs.Common.{◌≡◌, length, map, ℕ, ◌+◌, ◌-◌, ◌<◌, ◌≤◌, Bool, true, false, cond, ◌&&◌, List, [], ◌∷◌, ◌++◌, Some, None, refl, ap, sym, subst, ◌∙◌, length-append, arith}
 use Rattle.std.specs.Prelude.{find}
 use Rattle.std.specs.List.{AllByRecursion, Contains}
 use Rattle.std.proofs.lemmas.List.Elements.{Contains-get_or, Contains-append_right}
@@ -29,7 +29,7 @@ use Rattle.mirror_core.specs.Kept.{delays_of_each, ticks_of_first, copies_of_fir
 use Rattle.match_file.specs.Data.{MatchData, IsMatch, IsCommand, schedule_of}
 use Rattle.run_recorder.specs.Data.{IsEventOf}
 use Rattle.run_auditor.specs.declared.why.Why.{Why}
-use Rattle.run_auditor.specs.Walks.{why_of, Walk, IsWalk, moved, moved_on, all_plans, schedules, walk_of}
+use Rattle.run_auditor.specs.Walks.{why_of, Walk, IsWalk, moved, moved_on, all_plans, schedules}
 
 -- ---- answers
 

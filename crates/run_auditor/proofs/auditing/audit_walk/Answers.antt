@@ -1,6 +1,4 @@
 use Rattle.std.proofs.Common.{None, Some, subst}
-use Rattle.run_auditor.specs.declared.why.Fault.{Fault}
-use Rattle.run_auditor.specs.Audit.{Showing}
 use Rattle.run_auditor.specs.Walks.{WentOn, Stopped}
 use Rattle.run_auditor.proofs.AuditLaws.{found_stuck, found_false, found_right}
 use Rattle.run_auditor.proofs.auditing.audit_walk.Goals as goal

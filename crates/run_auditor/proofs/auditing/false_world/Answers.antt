@@ -1,5 +1,4 @@
-use Rattle.std.proofs.Common.{arith, length, refl, sym, ap, ◌∙◌}
-use Rattle.run_auditor.proofs.AuditLaws.{items_begin, items_next, items_wrong, items_end}
+use Rattle.run_auditor.proofs.AuditLaws.{items_next, items_wrong, items_end}
 use Rattle.run_auditor.proofs.auditing.false_world.Goals as goal
 
 pub returns-then-not-branch : goal.returns-then-not-branch

@@ -1,5 +1,5 @@
 use Rattle.std.proofs.Common.{refl, sym, ◌∙◌}
-use Rattle.run_auditor.proofs.AuditLaws.{went_nowhere, note_moves, end_stays, stuck_stays}
+use Rattle.run_auditor.proofs.AuditLaws.{note_moves}
 use Rattle.run_auditor.proofs.auditing.walk_log.Goals as goal
 
 pub loop-place-preserved : goal.loop-place-preserved

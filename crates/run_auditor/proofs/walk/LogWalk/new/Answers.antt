@@ -1,10 +1,7 @@
-use Rattle.std.proofs.Common.{◌≡◌, List, ap, length, refl, sym, subst, ◌∙◌}
+use Rattle.std.proofs.Common.{◌≡◌, List, length, refl, sym, subst, ◌∙◌}
 use Rattle.std.specs.List.{AllByRecursion}
 use Rattle.sync_model.specs.Schedule.{Schedule}
-use Rattle.game_trait.specs.Count.{times}
-use Rattle.game_trait.specs.Events.{is_arrival, is_restagger}
 use Rattle.mirror_core.specs.Kept.{ticks_of_first, copies_of_first}
-use Rattle.run_auditor.specs.Walks.{schedules}
 use Rattle.run_auditor.proofs.WalkLaws.{few-plans, equal-ticks, equal-copies, opened, walk_begins}
 use Rattle.run_auditor.proofs.walk.LogWalk.new.Goals as goal
 
