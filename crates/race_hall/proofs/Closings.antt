@@ -1,6 +1,6 @@
 -- The close of a mirror's lock gives what the argument asks of the mirror.
-use Rattle.std.proofs.Common.{◌≡◌, ◌≢◌, ℕ, zero, suc, ◌+◌, ◌<◌, Bool, true, false, cond, List, [], ◌∷◌, ◌++◌, map, length, get_or, inl, inr, refl, ap, sym, ◌∙◌, subst, arith}
-use Rattle.std.specs.Prelude.{◌==◌, Contains, flat_map}
+use Rattle.std.proofs.Common.{◌≡◌, ◌≢◌, ℕ, zero, suc, ◌<◌, Bool, true, false, cond, List, [], ◌∷◌, ◌++◌, map, length, get_or, inl, inr, refl, ap, sym, ◌∙◌, subst, arith}
+use Rattle.std.specs.Prelude.{◌==◌, Contains}
 use Rattle.std.specs.List.{AllByRecursion}
 use Rattle.game_trait.specs.Game.{Rules as GameRules}
 use Rattle.game_trait.specs.declared.event.Event.TheVariants.{Step}
@@ -15,10 +15,9 @@ use Rattle.mirror_core.specs.declared.drafts.Committed.{Committed}
 use Rattle.mirror_core.specs.declared.drafts.Committed.TheVariants.{Ran, Stale}
 use Rattle.mirror_core.specs.Drafts.{is_current, committed_to, committed}
 use Rattle.turn_lock.specs.declared.history.Entry.{Entry as LockEntry}
-use Rattle.turn_lock.specs.declared.view.Member.{Member}
 use Rattle.turn_lock.specs.declared.view.View.{View}
 use Rattle.turn_lock.specs.Histories.{value, own as own_in, IsSound as IsSoundIn}
-use Rattle.turn_lock.specs.Views.{member_of, number_of, seen_of}
+use Rattle.turn_lock.specs.Views.{member_of, number_of}
 use Rattle.turn_lock.specs.Law.{KnowsMember}
 use Rattle.mirror_lock.specs.declared.calls.LockCall.{LockCall}
 use Rattle.mirror_lock.specs.declared.calls.LockCall.TheVariants.{Event, Draft, Commit}
@@ -29,7 +28,6 @@ use Rattle.copy_workers.specs.declared.post.Asked.{Asked}
 use Rattle.copy_workers.specs.Trail.{commit_asked}
 use Rattle.race_hall.specs.Entries.{Entry, pairs_of, own, events_of, IsSound, IsStepping}
 use Rattle.race_hall.specs.Race.{Course, race_opening}
-use Rattle.race_hall.specs.Joined.{IsAmong, Closed}
 use Rattle.race_hall.specs.Posting.{event_told, commit_told, asked_in, pairs_in, asked_by}
 use Rattle.race_hall.specs.Closing.{entries_in, DidAs, AllDid, ClosedWith}
 use Rattle.race_hall.proofs.Seats.{IsIn, workers-of}

@@ -16,7 +16,7 @@ use Rattle.sync_model.specs.Change.{next, after, Fits, changes}
 use Rattle.sync_model.specs.History.{changing, opening_of, HasRoomAlong}
 use Rattle.sync_model.specs.Legal.{NamesWhatIsThere, IsLegal}
 use Rattle.sync_model.specs.Turns.{steps_from, turns_of}
-use Rattle.sync_model.proofs.Cases.{arrive-cases, next-fixed}
+use Rattle.sync_model.proofs.Cases.{arrive-cases}
 use Rattle.sync_model.proofs.History.{unchanged-next, clock-next, changing-each}
 use Rattle.sync_model.proofs.Room.{opening_of-next}
 use Rattle.sync_model.proofs.Legal.{all-changing}

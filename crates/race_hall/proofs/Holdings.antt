@@ -10,14 +10,12 @@ use Rattle.link_ring.specs.declared.message.Message.{Message}
 use Rattle.link_ring.specs.declared.send.LinkSend.{LinkSend}
 use Rattle.link_ring.specs.declared.receive.LinkReceive.{LinkReceive}
 use Rattle.link_ring.specs.Ends.{sent_of, received_of, waiting_of}
-use Rattle.sync_model.specs.State.{MirrorState, opening_state}
-use Rattle.sync_model.proofs.Cases.{after-fixed}
+use Rattle.sync_model.specs.State.{MirrorState}
 use Rattle.copy_workers.specs.Messages.{messages}
 use Rattle.copy_workers.specs.Sending.{UpTo}
 use Rattle.copy_workers.proofs.Along.{up_to-same, up_to-length}
 use Rattle.game_trait.specs.Game.{Rules}
 use Rattle.race_hall.specs.declared.finish.Sender.{Sender}
-use Rattle.race_hall.specs.Entries.{events_of, pairs_of}
 use Rattle.race_hall.specs.Race.{plan_of, count_from, others, Raced}
 use Rattle.race_hall.specs.Finish.{to_deliver, finished, CanTake, EndsAtFold}
 use Rattle.race_hall.specs.Held.{left_in, unissued_in}

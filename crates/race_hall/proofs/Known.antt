@@ -6,7 +6,7 @@ use Rattle.game_trait.specs.declared.event.Event.TheVariants.{Arrive}
 use Rattle.game_trait.proofs.Counts.{times-append}
 use Rattle.game_trait.proofs.KeyOrder.{NamesDiffer-same}
 use Rattle.link_ring.specs.declared.message.Message.{Message}
-use Rattle.sync_model.specs.State.{MirrorState, opening_state}
+use Rattle.sync_model.specs.State.{MirrorState}
 use Rattle.sync_model.specs.Change.{after, Fits}
 use Rattle.sync_model.proofs.Staggered.{opening_staggered}
 use Rattle.sync_model.proofs.Cases.{after-fixed}

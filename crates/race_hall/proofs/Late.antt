@@ -9,7 +9,7 @@ use Rattle.game_trait.specs.Run.{same_command}
 use Rattle.game_trait.proofs.Counts.{times-append}
 use Rattle.game_trait.proofs.Items.{same_command-Decides}
 use Rattle.link_ring.specs.declared.message.Message.{Message}
-use Rattle.sync_model.specs.State.{MirrorState, opening_state}
+use Rattle.sync_model.specs.State.{MirrorState}
 use Rattle.copy_workers.specs.declared.post.Asked.{Asked}
 use Rattle.copy_workers.specs.Messages.{messages, commands_in}
 use Rattle.copy_workers.specs.Asking.{is_arrival_of, arrival, moves, arrivals_of}

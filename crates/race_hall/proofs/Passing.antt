@@ -2,7 +2,6 @@
 use Rattle.std.proofs.Math.ListN.{length-append}
 use Rattle.std.proofs.Common.{◌≡◌, ℕ, suc, ◌+◌, ◌<◌, ◌≤◌, List, [], ◌∷◌, ◌++◌, length, refl, ap, sym, ◌∙◌, subst, append_assoc, arith}
 use Rattle.std.specs.List.{AllByRecursion, AllZip}
-use Rattle.race_hall.proofs.Lists.{same-head, same-tail}
 
 zip-push : {X Z : Type 0} (Q : X → Z → Type 0) (xs : List X) (zs : List Z) (x : X) (z : Z) → AllZip Q xs zs → Q x z → AllZip Q (xs ++ x ∷ []) (zs ++ z ∷ [])
 zip-push Q [] [] x z h k = (k, tt)

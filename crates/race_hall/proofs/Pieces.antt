@@ -1,10 +1,8 @@
 -- Delivering what several links or senders hold, one after the other, and finishing.
 use Rattle.std.proofs.Common.{◌≡◌, ℕ, zero, suc, ◌+◌, ◌<◌, ◌≤◌, List, [], ◌∷◌, ◌++◌, map, drop, length, get_or, refl, sym, ap, ◌∙◌, subst, arith}
 use Rattle.game_trait.specs.declared.command.Command.{Command}
-use Rattle.game_trait.specs.declared.event.Event.TheVariants.{Arrive}
 use Rattle.sync_model.specs.State.{MirrorState}
 use Rattle.sync_model.specs.Turns.{drain_within, drain_bound}
-use Rattle.sync_model.proofs.Cases.{after-fixed}
 use Rattle.copy_workers.specs.Feeding.{joined}
 use Rattle.race_hall.specs.Finish.{delivered, finished, CanTake}
 use Rattle.race_hall.proofs.Deliveries.{deliver-none, deliver-append, can-first, can-later}

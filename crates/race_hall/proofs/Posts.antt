@@ -1,6 +1,6 @@
 -- What a call of a lock tells of the seat's own entries.
-use Rattle.std.proofs.Common.{◌≡◌, ℕ, ◌<◌, true, false, cond, List, [], ◌∷◌, ◌++◌, map, length, refl, ap, sym, ◌∙◌, subst}
-use Rattle.std.specs.Prelude.{Option, Some, None, IfSome, is_some, nat_lt, flat_map}
+use Rattle.std.proofs.Common.{◌≡◌, ℕ, true, false, cond, List, [], ◌∷◌, ◌++◌, map, refl, ap, sym, ◌∙◌, subst}
+use Rattle.std.specs.Prelude.{Option, Some, None, IfSome, is_some, nat_lt}
 use Rattle.std.proofs.lemmas.Grind.{flat_map-append}
 use Rattle.std.proofs.lemmas.List.{append-nil}
 use Rattle.game_trait.specs.Game.{Rules as GameRules}
@@ -19,7 +19,7 @@ use Rattle.mirror_core.specs.Drafts.{due_len, drafted, IfDraft}
 use Rattle.mirror_lock.specs.declared.calls.LockCall.{LockCall}
 use Rattle.mirror_lock.specs.declared.calls.LockCall.TheVariants.{Event, Draft, Commit}
 use Rattle.mirror_lock.specs.declared.calls.LockReply.{LockReply}
-use Rattle.mirror_lock.specs.declared.calls.LockReply.TheVariants.{Event as ToEvent, Draft as ToDraft, Commit as ToCommit}
+use Rattle.mirror_lock.specs.declared.calls.LockReply.TheVariants.{Event as ToEvent, Draft as ToDraft}
 use Rattle.mirror_lock.specs.Locked.{mirror_rules, FitsLocked}
 use Rattle.turn_lock.specs.declared.history.Entry.{Entry}
 use Rattle.turn_lock.specs.declared.view.View.{View}
@@ -28,7 +28,6 @@ use Rattle.turn_lock.specs.Views.{number_of, seen_of, FitsSeat}
 use Rattle.turn_lock.specs.Calls.{IsCall}
 use Rattle.turn_lock.proofs.Serving.{own_after_call, reply_is_said}
 use Rattle.copy_workers.specs.declared.post.Asked.{Asked}
-use Rattle.copy_workers.specs.declared.post.TrailMark.{TrailMark}
 use Rattle.copy_workers.specs.Trail.{draft_in}
 use Rattle.race_hall.specs.Posting.{event_told, draft_told, asked_in, mark_in, last_drawn, asked_by, trail_by, drawn_by, pairs_in, IsReadied}
 

@@ -6,7 +6,6 @@ use Rattle.game_trait.specs.Run.{same_command}
 use Rattle.link_ring.specs.declared.message.Message.{Message}
 use Rattle.link_ring.specs.declared.message.Message.TheVariants.{Cmd}
 use Rattle.std.proofs.Math.ListN.{length-append}
-use Rattle.sync_model.specs.State.{opening_state}
 use Rattle.copy_workers.specs.Messages.{messages, commands_in, last_mark}
 use Rattle.copy_workers.specs.Fed.{ArriveInTime}
 use Rattle.copy_workers.specs.Feed.{total}

@@ -9,7 +9,7 @@ use Rattle.game_trait.specs.Count.{times}
 use Rattle.game_trait.specs.Run.{world_of}
 use Rattle.game_trait.specs.Ordered.{time_ordered}
 use Rattle.link_ring.specs.declared.message.Message.{Message}
-use Rattle.sync_model.specs.State.{MirrorState, opening_state}
+use Rattle.sync_model.specs.State.{MirrorState}
 use Rattle.sync_model.specs.Change.{after}
 use Rattle.sync_model.specs.History.{opening_of, IsFromHistory}
 use Rattle.sync_model.specs.Legal.{IsLegal}

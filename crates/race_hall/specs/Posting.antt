@@ -1,5 +1,5 @@
 -- What was asked through a seat of a mirror's lock.
-use Rattle.std.specs.Prelude.{◌≡◌, ℕ, Option, None, Some, List, [], ◌∷◌, map, flat_map}
+use Rattle.std.specs.Prelude.{◌≡◌, Option, None, Some, List, [], ◌∷◌, map, flat_map}
 use Rattle.atomic_table.specs.declared.shared.Seat.{Seat}
 use Rattle.game_trait.specs.Game.{Rules as GameRules}
 use Rattle.game_trait.specs.declared.event.Reply.{Reply}

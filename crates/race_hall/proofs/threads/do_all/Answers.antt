@@ -1,4 +1,4 @@
-use Rattle.std.proofs.Common.{◌∙◌, rules, arith}
+use Rattle.std.proofs.Common.{arith}
 use Rattle.race_hall.proofs.Passing.{zip-length}
 use Rattle.race_hall.proofs.threads.do_all.Goals as goal
 

@@ -1,5 +1,4 @@
 use Rattle.std.proofs.Common.{refl, ap, sym, ◌∙◌, rules, subst}
-use Rattle.sync_model.specs.Drafts.{ready_of}
 use Rattle.mirror_lock.specs.declared.calls.LockCall.TheVariants.{Event, Commit}
 use Rattle.mirror_lock.specs.declared.calls.LockReply.TheVariants.{Commit as ToCommit}
 use Rattle.mirror_lock.specs.Locked.{mirror_rules}

@@ -1,4 +1,4 @@
-use Rattle.std.proofs.Common.{◌≤◌, length, refl, ap, sym, ◌∙◌, subst, rules, arith, Vec, vec_capacity}
+use Rattle.std.proofs.Common.{refl, ap, sym, ◌∙◌, subst, arith, Vec, vec_capacity}
 use Rattle.race_hall.specs.Begun.{IsBegun}
 use Rattle.race_hall.proofs.Passing.{more-room, can-here, begun-more, parts-more, length-more}
 use Rattle.race_hall.proofs.threads.fn.do_all.scope.Goals as goal

@@ -1,4 +1,4 @@
-use Rattle.std.proofs.Common.{◌≡◌, ◌≤◌, ◌++◌, ◌+◌, length, vec_len, vec_capacity}
+use Rattle.std.proofs.Common.{◌≡◌, ◌≤◌, ◌++◌, length, vec_capacity}
 use Rattle.std.specs.List.{AllZip}
 use Rattle.race_hall.specs.Begun.{IsBegun}
 use Rattle.race_hall.proofs.threads.fn.do_all.scope.Given as goal
