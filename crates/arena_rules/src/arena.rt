@@ -14,7 +14,7 @@ use crate::player::{Body, MOST_PLAYERS, Player, all_at_home, is_held};
 use crate::returning::return_all;
 use crate::roster::Roster;
 use crate::setup::Setup;
-use crate::shot::{MOST_SHOTS, Shot, fly_all};
+use crate::shot::{MOST_SHOTS, Shot, fly_shots};
 use crate::shown::Shown;
 use arrayvec::ArrayVec;
 use game_trait::{Act, Command, Game, Tick};
@@ -212,7 +212,7 @@ impl Game for Arena {
         ensures beaten { self.new ≡ beaten self.old }
         ensures sound { IsWorld self.new }
     {
-        self.shots = fly_all(&self.ground, &mut self.players, &self.shots);
+        fly_shots(&self.ground, &mut self.players, &mut self.shots);
         return_all(&mut self.players);
         wait(&mut self.pickups);
         self.time = self.time.saturating_add(1);

@@ -126,3 +126,16 @@ pub fn fly_all(
     }
     flying
 }
+
+/// The same of the shots of a world, which become those that fly on. Where no shot flies nothing changes, and no list of
+/// shots is made anew.
+#[tactic(auto, unfolding(crate::specs::Beat::flights))]
+pub fn fly_shots(ground: &Ground, players: &mut [Player], shots: &mut ArrayVec<Shot, MOST_SHOTS>)
+    requires { All (λ s. s.owner < length players.old) shots.old.items }
+    ensures { flights ground.now players.old shots.old.items ≡ record { players = players.new; shots = shots.new.items } }
+{
+    if shots.is_empty() {
+        return;
+    }
+    *shots = fly_all(ground, players, shots);
+}
