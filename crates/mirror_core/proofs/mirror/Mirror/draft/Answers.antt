@@ -1,7 +1,4 @@
-use Rattle.std.proofs.Common.{◌≡◌, ◌∙◌, ℕ, ap, sym, subst, length, arith}
-use Rattle.game_trait.specs.Ordered.{due_at}
-use Rattle.sync_model.specs.Drafts.{DraftTick, ready_of, FitsReady}
-use Rattle.sync_model.proofs.Epochs.{draft_fits}
+use Rattle.std.proofs.Common.{◌∙◌}
 use Rattle.mirror_core.proofs.Calls.{runs-on, below-end, drafted-is}
 use Rattle.mirror_core.proofs.mirror.Mirror.draft.Goals as goal
 
