@@ -3,13 +3,14 @@
 ghost use Rattle.std.specs.Prelude.{◌≡◌};
 ghost use Rattle.sync_model.specs.Consistent.{IsConsistent};
 
-use game_trait::{Event, Game, Reply};
+use crate::calls::{LockCall, LockReply};
+use game_trait::{Event, Game};
 use mirror_core::Mirror;
 use std::marker::Model;
 use turn_lock::Held;
 
-/// A mirror behind a lock. Contracts see it as the mirror's state. A call is an event other than a change of the plan, and an
-/// arrival is a growing call.
+/// A mirror behind a lock. Contracts see it as the mirror's state. A call is an event other than a change of the plan, or it takes
+/// out a draft, or commits one. An arrival is a growing call.
 #[derive(Drop)]
 pub struct HeldMirror<G: Game> {
     mirror: Mirror<G>,
@@ -43,29 +44,26 @@ impl<G: Game> HeldMirror<G> {
 }
 
 impl<G: Game> Held for HeldMirror<G> {
-    type Call = Event;
+    type Call = LockCall<G>;
 
-    type Reply = Reply;
+    type Reply = LockReply<G>;
 
     ghost use Rattle.mirror_lock.specs.Locked.{mirror_rules};
-    ghost use Rattle.sync_model.specs.Change.{next, changes};
-    ghost use Rattle.game_trait.specs.Events.{is_arrival};
-    ghost use Rattle.sync_model.proofs.Along.{fits-next};
-    ghost use Rattle.sync_model.proofs.Room.{spare-next};
-    ghost use Rattle.turn_lock.proofs.Spending.{spends_at_some};
+    ghost use Rattle.mirror_lock.specs.Laws.{stays, spends};
 
-    ghost rules = { mirror_rules };
+    ghost rules = { mirror_rules G.rules };
 
-    fn grows(call: &Event) -> bool {
-        matches!(call, Event::Arrive(_))
+    fn grows(call: &LockCall<G>) -> bool {
+        matches!(call, LockCall::Event(Event::Arrive(_)))
     }
 
-    fn answer(&mut self, call: &Event) -> Reply {
-        self.mirror.make(call)
+    fn answer(&mut self, call: &LockCall<G>) -> LockReply<G> {
+        match call {
+            LockCall::Event(event) => LockReply::Event(self.mirror.make(event)),
+            LockCall::Draft(copy) => LockReply::Draft(self.mirror.draft(*copy)),
+            LockCall::Commit(ready) => LockReply::Commit(self.mirror.commit(ready)),
+        }
     }
 
-    ghost laws = { record {
-      stays = λ s p q _ fits. (fits.0, fits-next s p q fits.1);
-      spends = λ s e _. spends_at_some (is_arrival e) (changes s e) s.spare (next s e).spare (spare-next s e);
-    } };
+    ghost laws = { record { stays = λ s p q _ fits. stays G.rules s p q fits; spends = λ s q _. spends s q } };
 }

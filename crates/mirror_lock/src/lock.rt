@@ -3,16 +3,22 @@
 ghost use Rattle.std.specs.Prelude.{◌≡◌, ℕ, ◌+◌, ◌<◌, ◌≤◌, ◌^◌, [], map, length, vec_len, IfOk, IsTrue};
 ghost use Rattle.std.specs.List.{All};
 ghost use Rattle.game_trait.specs.Events.{is_arrival};
+ghost use Rattle.sync_model.specs.Drafts.{ready_of};
+ghost use Rattle.mirror_core.specs.Drafts.{IfDraft};
 ghost use Rattle.turn_lock.specs.Rules.{one_if};
 ghost use Rattle.turn_lock.specs.Totals.{total};
 ghost use Rattle.turn_lock.specs.Views.{view, fresh_views, member_of, FitsSeat, StillFits};
 ghost use Rattle.turn_lock.specs.Calls.{IsCall};
-ghost use Rattle.mirror_lock.specs.Locked.{FitsLocked, mirror_rules, EndsAs};
-ghost use Rattle.game_trait.specs.declared.event.Event.{Event as AnEvent};
+ghost use Rattle.mirror_lock.specs.declared.calls.LockCall.{LockCall as ACall};
+ghost use Rattle.mirror_lock.specs.declared.calls.LockCall.TheVariants.{Event as AskEvent, Draft as AskDraft, Commit as AskCommit};
+ghost use Rattle.mirror_lock.specs.declared.calls.LockReply.TheVariants.{Event as ToEvent, Draft as ToDraft, Commit as ToCommit};
+ghost use Rattle.mirror_lock.specs.Locked.{FitsCall, mirror_rules};
+ghost use Rattle.mirror_lock.specs.Ending.{EndsAs};
 
+use crate::calls::{LockCall, LockReply};
 use crate::held_mirror::HeldMirror;
 use game_trait::{Event, Game, Reply};
-use mirror_core::Mirror;
+use mirror_core::{Committed, Drafted, Mirror, Ready};
 use std::alloc::Global;
 use std::sync::Wait;
 use tss_io::NoMemory;
@@ -66,9 +72,10 @@ impl<G: Game> MirrorLock<G> {
         ensures all { IfOk result (λ t. vec_len t.1 ≡ t.0.lock.seats) }
         ensures own { IfOk result (λ t. All (λ s. s.seat.table_id ≡ t.0.lock.table.shared.table_id) t.1.items) }
         ensures seats { IfOk result (λ t. map (λ s. view s.seat) t.1.items ≡ fresh_views mirror 0 shares.now) }
-        ensures fits { IfOk result (λ t. (event : AnEvent) → FitsLocked mirror event
-            → All (λ s. FitsSeat mirror_rules (view s.seat) event) t.1.items) }
+        ensures fits { IfOk result (λ t. (call : ACall G) → FitsCall G.rules mirror call
+            → All (λ s. FitsSeat (mirror_rules G.rules) (view s.seat) call) t.1.items) }
     {
+        mirror.always();
         let (lock, seats) = TurnLock::<HeldMirror<G>>::start(
             alloc,
             HeldMirror::new(mirror),
@@ -83,16 +90,58 @@ impl<G: Game> MirrorLock<G> {
     /// While it waits, it yields the processor between two looks. It takes no memory.
     pub fn ask<W: Wait>(&self, rt: &W, seat: &mut MirrorSeat<G>, event: &Event) -> Reply
         requires own { seat.old.seat.table_id ≡ self.now.lock.table.shared.table_id }
-        requires fits { FitsSeat mirror_rules (view seat.old.seat) event.now }
+        requires fits { FitsSeat (mirror_rules G.rules) (view seat.old.seat) (AskEvent event.now) }
         requires calls { 0 < seat.old.calls }
         requires arrivals { IsTrue (is_arrival event.now) → 0 < seat.old.grows }
         ensures own { seat.new.seat.table_id ≡ seat.old.seat.table_id }
-        ensures called { IsCall mirror_rules (view seat.old.seat) event.now result (view seat.new.seat) }
-        ensures fits { StillFits mirror_rules (view seat.old.seat) (view seat.new.seat) }
+        ensures called { IsCall (mirror_rules G.rules) (view seat.old.seat) (AskEvent event.now) (ToEvent result) (view seat.new.seat) }
+        ensures fits { StillFits (mirror_rules G.rules) (view seat.old.seat) (view seat.new.seat) }
         ensures calls { seat.new.calls + 1 ≡ seat.old.calls }
         ensures arrivals { seat.new.grows + one_if (is_arrival event.now) ≡ seat.old.grows }
     {
-        self.lock.call(rt, seat, event)
+        match self.lock.call(rt, seat, &LockCall::Event(*event)) {
+            LockReply::Event(reply) => reply,
+            _ => unreachable!(),
+        }
+    }
+
+    /// Waits for the seat's turn, and takes out the due tick of a copy, which is there, to be executed outside the lock. What is
+    /// answered is told by `Mirror::draft`; once it is run, a draft may be committed, whatever others ask before. It uses up one
+    /// call of the seat's share. It takes no memory.
+    pub fn draft<W: Wait>(&self, rt: &W, seat: &mut MirrorSeat<G>, copy: u8) -> Drafted<G>
+        requires own { seat.old.seat.table_id ≡ self.now.lock.table.shared.table_id }
+        requires fits { FitsSeat (mirror_rules G.rules) (view seat.old.seat) (AskDraft copy) }
+        requires calls { 0 < seat.old.calls }
+        ensures own { seat.new.seat.table_id ≡ seat.old.seat.table_id }
+        ensures called { IsCall (mirror_rules G.rules) (view seat.old.seat) (AskDraft copy) (ToDraft result) (view seat.new.seat) }
+        ensures fits { StillFits (mirror_rules G.rules) (view seat.old.seat) (view seat.new.seat) }
+        ensures ready { IfDraft result (λ d. FitsSeat (mirror_rules G.rules) (view seat.new.seat) (AskCommit (ready_of G.rules d))) }
+        ensures calls { seat.new.calls + 1 ≡ seat.old.calls }
+        ensures arrivals { seat.new.grows ≡ seat.old.grows }
+    {
+        match self.lock.call(rt, seat, &LockCall::Draft(copy)) {
+            LockReply::Draft(drafted) => drafted,
+            _ => unreachable!(),
+        }
+    }
+
+    /// Waits for the seat's turn, and commits a tick that was executed outside the lock. What is answered and changed is told by
+    /// `Mirror::commit`: where the copy was renewed since, nothing changes. It uses up one call of the seat's share. It takes no
+    /// memory.
+    pub fn commit<W: Wait>(&self, rt: &W, seat: &mut MirrorSeat<G>, r: Ready<G>) -> Committed
+        requires own { seat.old.seat.table_id ≡ self.now.lock.table.shared.table_id }
+        requires fits { FitsSeat (mirror_rules G.rules) (view seat.old.seat) (AskCommit r) }
+        requires calls { 0 < seat.old.calls }
+        ensures own { seat.new.seat.table_id ≡ seat.old.seat.table_id }
+        ensures called { IsCall (mirror_rules G.rules) (view seat.old.seat) (AskCommit r) (ToCommit result) (view seat.new.seat) }
+        ensures fits { StillFits (mirror_rules G.rules) (view seat.old.seat) (view seat.new.seat) }
+        ensures calls { seat.new.calls + 1 ≡ seat.old.calls }
+        ensures arrivals { seat.new.grows ≡ seat.old.grows }
+    {
+        match self.lock.call(rt, seat, &LockCall::Commit(r)) {
+            LockReply::Commit(committed) => committed,
+            _ => unreachable!(),
+        }
     }
 
     /// The mirror, once all seats are back, at the end of one history: the events of these seats, each once, with the answers
@@ -100,7 +149,7 @@ impl<G: Game> MirrorLock<G> {
     pub fn close(self, seats: Vec<MirrorSeat<G>>) -> Mirror<G>
         requires own { All (λ s. s.seat.table_id ≡ self.lock.table.shared.table_id) seats.items }
         requires all { vec_len seats ≡ self.lock.seats }
-        ensures { EndsAs self.lock.table.shared.key.opening.value (map (λ s. member_of (view s.seat)) seats.items) result }
+        ensures { EndsAs G.rules self.lock.table.shared.key.opening.value (map (λ s. member_of (view s.seat)) seats.items) result }
     {
         self.into_lock().close(seats).into_mirror()
     }

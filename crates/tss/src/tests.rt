@@ -3,6 +3,7 @@
 
 mod arena;
 mod counting_game;
+mod drafts_tests;
 mod game_trait_tests;
 mod match_texts;
 mod mirror_core_tests;
