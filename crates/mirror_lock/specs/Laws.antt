@@ -1,5 +1,5 @@
 -- What holds of every mirror behind a lock, whatever is asked of it.
-use Rattle.std.specs.Prelude.{◌≡◌, ℕ, ◌+◌, ◌≤◌, true, false, if◌then◌else◌}
+use Rattle.std.specs.Prelude.{◌+◌, ◌≤◌, true, false, if◌then◌else◌}
 use Rattle.game_trait.specs.Game.{Rules as GameRules}
 use Rattle.game_trait.specs.declared.event.Event.{Event as AnEvent}
 use Rattle.game_trait.specs.declared.event.Event.TheVariants.{Step}

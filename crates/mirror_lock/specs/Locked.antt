@@ -11,7 +11,9 @@ use Rattle.mirror_lock.specs.declared.calls.LockCall.{LockCall}
 use Rattle.mirror_lock.specs.declared.calls.LockCall.TheVariants.{Event, Draft, Commit}
 use Rattle.mirror_lock.specs.declared.calls.LockReply.{LockReply}
 use Rattle.mirror_lock.specs.declared.calls.LockReply.TheVariants.{Event as ToEvent, Draft as ToDraft, Commit as ToCommit}
+use Rattle.turn_lock.specs.declared.view.View.{View}
 use Rattle.turn_lock.specs.Rules.{Rules}
+use Rattle.turn_lock.specs.Views.{FitsSeat}
 
 -- the state after a call: an event is made, a draft changes nothing, and a commit is the step that it stands for, or nothing
 abbrev pub next_locked : {W : Type 0} → MirrorState W → LockCall W → MirrorState W
@@ -46,3 +48,7 @@ is_growing (Commit r) = false
 abbrev pub mirror_rules : {W : Type 0} → GameRules W → Rules (MirrorState W) (LockCall W) (LockReply W)
 mirror_rules game =
     record { next = next_locked; said = said_locked game; Fits = FitsLocked game; spare = λ s. s.spare; grows = is_growing }
+
+-- a seat takes every call that fits a mirror
+abbrev pub TakesFrom : {W : Type 0} → GameRules W → MirrorState W → View (MirrorState W) (LockCall W) (LockReply W) → Type 0
+TakesFrom {W} game s v = (call : LockCall W) → FitsCall game s call → FitsSeat (mirror_rules game) v call

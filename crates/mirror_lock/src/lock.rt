@@ -9,10 +9,9 @@ ghost use Rattle.turn_lock.specs.Rules.{one_if};
 ghost use Rattle.turn_lock.specs.Totals.{total};
 ghost use Rattle.turn_lock.specs.Views.{view, fresh_views, member_of, FitsSeat, StillFits};
 ghost use Rattle.turn_lock.specs.Calls.{IsCall};
-ghost use Rattle.mirror_lock.specs.declared.calls.LockCall.{LockCall as ACall};
 ghost use Rattle.mirror_lock.specs.declared.calls.LockCall.TheVariants.{Event as AskEvent, Draft as AskDraft, Commit as AskCommit};
 ghost use Rattle.mirror_lock.specs.declared.calls.LockReply.TheVariants.{Event as ToEvent, Draft as ToDraft, Commit as ToCommit};
-ghost use Rattle.mirror_lock.specs.Locked.{FitsCall, mirror_rules};
+ghost use Rattle.mirror_lock.specs.Locked.{mirror_rules, TakesFrom};
 ghost use Rattle.mirror_lock.specs.Ending.{EndsAs};
 
 use crate::calls::{LockCall, LockReply};
@@ -72,8 +71,7 @@ impl<G: Game> MirrorLock<G> {
         ensures all { IfOk result (λ t. vec_len t.1 ≡ t.0.lock.seats) }
         ensures own { IfOk result (λ t. All (λ s. s.seat.table_id ≡ t.0.lock.table.shared.table_id) t.1.items) }
         ensures seats { IfOk result (λ t. map (λ s. view s.seat) t.1.items ≡ fresh_views mirror 0 shares.now) }
-        ensures fits { IfOk result (λ t. (call : ACall G) → FitsCall G.rules mirror call
-            → All (λ s. FitsSeat (mirror_rules G.rules) (view s.seat) call) t.1.items) }
+        ensures fits { IfOk result (λ t. All (λ s. TakesFrom G.rules mirror (view s.seat)) t.1.items) }
     {
         mirror.always();
         let (lock, seats) = TurnLock::<HeldMirror<G>>::start(
