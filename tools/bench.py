@@ -2,6 +2,7 @@
 """Times the built program on the largest plain match, and shows how time grows with the commands.
 
     python3 tools/bench.py PROGRAM [--word order|play] [--text plain|script|late|arena|large] [--runs N]
+    python3 tools/bench.py LOCK_BENCH --word lock [--runs N]
 
 PROGRAM is the built program `tss`. The match has 8,192 ticks and 2,048 to 16,384 commands of one mirror, in a mixed
 order of lines. A plain text has no script. In a `script` text there is one turn a tick, and each command arrives at a lag
@@ -12,6 +13,9 @@ eight players who shoot a third of the time, walls and pickups, so it measures t
 16 script lines for each command, all arrivals at one mirror, and up to 262,144 of them. Without --text it is plain
 for `order` and script for `play`. Each match is run N times (default 15); the least wall time, the start of the process
 included, and the greatest peak memory are printed, and by how much each doubling multiplies the time.
+
+LOCK_BENCH is the built program `lock_bench`. With the word `lock` it makes 3,600,000 calls of a counter, of 1, 2, 4 and 9
+threads together, each with a seat of a turn lock, and then behind a mutex of std; the calls a second are printed.
 """
 
 import argparse
@@ -22,6 +26,8 @@ import time
 LENGTH = 8192
 ACTS = ("go", "left", "right")
 COUNTS = (2048, 4096, 8192, 16384)
+CALLS = 3_600_000
+THREADS = (1, 2, 4, 9)
 
 
 class Draws:
@@ -83,7 +89,7 @@ def large_text(count):
     return "".join(line + "\n" for line in lines).encode()
 
 
-def run_once(program, word, text):
+def run_once(program, words, text):
     """The wall time in seconds and the peak memory in KiB of one run."""
     read_end, write_end = os.pipe()
     child = os.fork()
@@ -93,7 +99,7 @@ def run_once(program, word, text):
         os.close(write_end)
         sink = os.open(os.devnull, os.O_WRONLY)
         os.dup2(sink, 1)
-        os.execv(program, [program, word])
+        os.execv(program, [program, *words])
     os.close(read_end)
     begun = time.perf_counter()
     with os.fdopen(write_end, "wb") as stream:
@@ -101,7 +107,7 @@ def run_once(program, word, text):
     _, status, usage = os.wait4(child, 0)
     ended = time.perf_counter()
     if os.waitstatus_to_exitcode(status) != 0:
-        sys.exit(f"{program} {word} ended with status {os.waitstatus_to_exitcode(status)}")
+        sys.exit(f"{program} {' '.join(words)} ended with status {os.waitstatus_to_exitcode(status)}")
     return ended - begun, usage.ru_maxrss
 
 
@@ -113,20 +119,33 @@ def processor():
         return "unknown"
 
 
+def time_locks(program, runs):
+    for threads in THREADS:
+        least = {}
+        for kind in ("turn", "mutex"):
+            words = [kind, str(threads), str(CALLS // threads)]
+            least[kind] = min(run_once(program, words, b"")[0] for _ in range(runs))
+            print(f"{kind:5} {threads} threads  {least[kind] * 1000:8.1f} ms  {CALLS / least[kind] / 1e6:6.2f} million calls a second")
+        print(f"      a turn takes x{least['turn'] / least['mutex']:.2f} the time of the mutex")
+
+
 def main():
     parser = argparse.ArgumentParser()
     parser.add_argument("program")
-    parser.add_argument("--word", choices=("order", "play"), default="order")
+    parser.add_argument("--word", choices=("order", "play", "lock"), default="order")
     parser.add_argument("--text", choices=("plain", "script", "late", "arena", "large"))
     parser.add_argument("--runs", type=int, default=15)
     given = parser.parse_args()
     kind = given.text or ("script" if given.word == "play" else "plain")
     program = os.path.abspath(given.program)
     print(f"processor: {processor()}, {os.cpu_count()} cores")
+    if given.word == "lock":
+        time_locks(program, given.runs)
+        return
     before = None
     for count in COUNTS:
         text = {"arena": arena_text, "large": large_text}.get(kind, lambda n: match_text(n, kind))(count)
-        runs = [run_once(program, given.word, text) for _ in range(given.runs)]
+        runs = [run_once(program, [given.word], text) for _ in range(given.runs)]
         least = min(seconds for seconds, _ in runs)
         peak = max(memory for _, memory in runs)
         growth = "" if before is None else f"  x{least / before:.2f}"

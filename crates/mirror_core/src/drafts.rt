@@ -39,7 +39,7 @@ impl<G: Game> Model for Draft<G> {
 
 impl<G: Game> Draft<G> {
     // A draft of these parts.
-    pub fn of(
+    pub(crate) fn of(
         copy: u8,
         epoch: u64,
         clock: Tick,

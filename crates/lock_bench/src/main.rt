@@ -1,0 +1,122 @@
+//! Calls of a counter by so many threads, each with a seat of a turn lock, or behind std's mutex. It measures alone: `turn` or
+//! `mutex`, how many threads, and how many calls each of them makes. What it prints is the same whatever the schedule.
+#![tactic(auto)]
+
+ghost use Rattle.std.specs.Prelude.{◌≡◌, ◌<◌, ◌^◌};
+ghost use Rattle.std.specs.List.{All};
+
+use std::alloc::Global;
+use std::rt::Env;
+use std::sync::{Mutex, Wait};
+use std::thread::{Threads, map_vec};
+use std::{env, io};
+use turn_lock::{Held, Share, TurnLock, TurnSeat};
+
+/// Counts what is added.
+#[derive(Drop)]
+struct Counter {
+    count: u64,
+}
+
+impl Held for Counter {
+    type Call = u64;
+
+    type Reply = u64;
+
+    ghost use Rattle.std.specs.Prelude.{◌+◌, ◌%◌, ◌^◌, false};
+    ghost use Rattle.std.proofs.Common.{arith};
+
+    ghost rules = { record {
+      next = λ v q. record { count = (v.count + q) % 2 ^ 64 };
+      said = λ v q. v.count;
+      Fits = λ v q. Unit {0};
+      spare = λ v. 0;
+      grows = λ q. false;
+    } };
+
+    fn grows(call: &u64) -> bool {
+        let _ = call;
+        false
+    }
+
+    fn answer(&mut self, call: &u64) -> u64 {
+        let before = self.count;
+        self.count = before.wrapping_add(*call);
+        before
+    }
+
+    ghost laws = { record { stays = λ v p q f g. tt; spends = λ v q f. Prim.omega arith } };
+}
+
+// Calls as often as the seat may, and tells the greatest reply.
+fn add_all<R: Wait>(rt: &R, lock: &TurnLock<Counter>, mut seat: TurnSeat<Counter>) -> u64
+    requires { seat.seat.table_id ≡ lock.now.table.shared.table_id }
+{
+    let mut greatest = 0;
+    'adding: while seat.calls_left() > 0 {
+        greatest = lock.call(rt, &mut seat, &1).max(greatest);
+    }
+    greatest
+}
+
+// The same with all seats, in a thread each. Tells the greatest reply of all.
+fn by_seats<R: Threads + Wait + Sync>(
+    rt: &R,
+    lock: &TurnLock<Counter>,
+    seats: Vec<TurnSeat<Counter>>,
+) -> Option<u64>
+    requires { All (λ s. s.seat.table_id ≡ lock.now.table.shared.table_id) seats.items }
+{
+    let replies = map_vec(rt, seats, &|seat: TurnSeat<Counter>| -> u64
+        requires { seat.seat.table_id ≡ lock.now.table.shared.table_id }
+    { add_all(rt, lock, seat) }).ok()?;
+    replies.iter().max().copied()
+}
+
+// So many threads that each make as many calls, under a turn lock. Tells the last count.
+fn by_turns<R: Threads + Wait + Sync>(rt: &R, alloc: Global, threads: u8, calls: u32) -> Option<u64> {
+    let mut shares = Vec::with_capacity(alloc, threads as usize).ok()?;
+    for _ in 0..threads {
+        shares.push_reserved(Share {
+            calls: u64::from(calls),
+            grows: 0,
+        });
+    }
+    if shares.is_empty() {
+        return None;
+    }
+    let (lock, seats) = TurnLock::<Counter>::start(alloc, Counter { count: 0 }, &shares).ok()?;
+    by_seats(rt, &lock, seats)
+}
+
+fn mutex_all<R: Wait>(rt: &R, lock: &Mutex<u64>, calls: u32) -> u64 {
+    let mut greatest = 0;
+    for _ in 0..calls {
+        let mut count = lock.lock(rt);
+        greatest = *count;
+        *count = (*count).wrapping_add(1);
+    }
+    greatest
+}
+
+// The same under a mutex.
+fn by_mutex<R: Threads + Wait + Sync>(rt: &R, alloc: Global, threads: u8, calls: u32) -> Option<u64> {
+    let lock = Mutex::new(0u64);
+    let mut jobs = Vec::with_capacity(alloc, threads as usize).ok()?;
+    for _ in 0..threads {
+        jobs.push_reserved(calls);
+    }
+    let replies = map_vec(rt, jobs, &|calls: u32| -> u64 { mutex_all(rt, &lock, calls) }).ok()?;
+    replies.iter().max().copied()
+}
+
+fn main(rt: HostRuntime) -> io::Result<()> {
+    let words: Vec<String> = env::args(&rt)?.collect(rt.alloc())?;
+    let threads = words.get(2).and_then(|w| w.parse::<u8>().ok()).unwrap_or(2);
+    let calls = words.get(3).and_then(|w| w.parse::<u32>().ok()).unwrap_or(1000);
+    let last = match words.get(1) {
+        Some(word) if word.as_str() == "mutex" => by_mutex(&rt, rt.alloc(), threads, calls),
+        _ => by_turns(&rt, rt.alloc(), threads, calls),
+    };
+    println!(rt; "{}", last.unwrap_or(0))
+}
