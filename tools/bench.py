@@ -1,15 +1,17 @@
 #!/usr/bin/env python3
 """Times the built program on the largest plain match, and shows how time grows with the commands.
 
-    python3 tools/bench.py PROGRAM [--word order|play] [--text plain|script|late|arena|large] [--runs N]
+    python3 tools/bench.py PROGRAM [--word order|play] [--text plain|script|late|copies|falling|arena|large] [--runs N]
     python3 tools/bench.py LOCK_BENCH --word lock [--runs N]
 
 PROGRAM is the built program `tss`. The match has 8,192 ticks and 2,048 to 16,384 commands of one mirror, in a mixed
 order of lines. A plain text has no script. In a `script` text there is one turn a tick, and each command arrives at a lag
 of 0 to 40 ticks behind its time, so that some are in time and some are late. In a `late` text all commands arrive after
 the last turn, so each is found, turned away and printed, and none is executed: that measures reading, finding and
-printing apart. `order` on a `script` text measures reading and executing without a mirror. An `arena` text has 4,096 ticks,
-eight players who shoot a third of the time, walls and pickups, so it measures the arena's rules. A `large` text has 300 walls,
+printing apart. `order` on a `script` text measures reading and executing without a mirror. A `copies` text is a script
+text with four copies at delays of 0, 10, 40 and 100 ticks and lags of 0 to 100 ticks, so that every command is taken and most
+are repaired. In a `falling` text all commands are of one tick, and arrive at each of eight mirrors in falling key order. An
+`arena` text has 4,096 ticks, eight players who shoot a third of the time, walls and pickups, so it measures the arena's rules. A `large` text has 300 walls,
 16 script lines for each command, all arrivals at one mirror, and up to 262,144 of them. Without --text it is plain
 for `order` and script for `play`. Each match is run N times (default 15); the least wall time, the start of the process
 included, and the greatest peak memory are printed, and by how much each doubling multiplies the time.
@@ -24,6 +26,9 @@ import sys
 import time
 
 LENGTH = 8192
+# The delays of a text's copies, and by how many ticks at most its commands come after their time.
+DELAYS = {"plain": "0", "copies": "0 10 40 100"}
+LAGS = {"copies": 100}
 ACTS = ("go", "left", "right")
 COUNTS = (2048, 4096, 8192, 16384)
 CALLS = 3_600_000
@@ -47,19 +52,29 @@ def match_text(count, kind):
     for at in range(count - 1, 0, -1):
         other = draws.below(at + 1)
         commands[at], commands[other] = commands[other], commands[at]
-    lines = ["tss match 1", f"length {LENGTH}", "grid 64 64", "mirrors 1", "delays 0" if kind == "plain" else "delays 20",
-             "pace 0", "player ann 32 32 e"]
+    delays = DELAYS.get(kind, "20")
+    longest = int(delays.split()[-1])
+    lines = ["tss match 1", f"length {LENGTH}", "grid 64 64", "mirrors 1", f"delays {delays}", "pace 0", "player ann 32 32 e"]
     lines += [f"cmd {tick} 0 {number} 0 {act}" for tick, number, act in commands]
     if kind != "plain":
         arrivals = {}
         for tick, number, _ in commands:
-            clock = LENGTH + 20 if kind == "late" else tick + draws.below(41)
+            clock = LENGTH + longest if kind == "late" else tick + draws.below(LAGS.get(kind, 40) + 1)
             arrivals.setdefault(clock, []).append(number)
         lines.append("script")
-        for clock in range(LENGTH + 21):
+        for clock in range(LENGTH + longest + 1):
             lines += [f"arrive 0 0 {number}" for number in arrivals.get(clock, ())]
-            if clock < LENGTH + 20:
+            if clock < LENGTH + longest:
                 lines.append("turn 0")
+    lines.append("end")
+    return "".join(line + "\n" for line in lines).encode()
+
+
+def falling_text(count):
+    lines = ["tss match 1", f"length {LENGTH}", "grid 64 64", "mirrors 8", "delays 0", "pace 0", "player ann 32 32 e"]
+    lines += [f"cmd 100 0 {number} 0 go" for number in range(count)]
+    lines.append("script")
+    lines += [f"arrive {mirror} 0 {number}" for number in range(count - 1, -1, -1) for mirror in range(8)]
     lines.append("end")
     return "".join(line + "\n" for line in lines).encode()
 
@@ -133,7 +148,7 @@ def main():
     parser = argparse.ArgumentParser()
     parser.add_argument("program")
     parser.add_argument("--word", choices=("order", "play", "lock"), default="order")
-    parser.add_argument("--text", choices=("plain", "script", "late", "arena", "large"))
+    parser.add_argument("--text", choices=("plain", "script", "late", "copies", "falling", "arena", "large"))
     parser.add_argument("--runs", type=int, default=15)
     given = parser.parse_args()
     kind = given.text or ("script" if given.word == "play" else "plain")
@@ -144,7 +159,7 @@ def main():
         return
     before = None
     for count in COUNTS:
-        text = {"arena": arena_text, "large": large_text}.get(kind, lambda n: match_text(n, kind))(count)
+        text = {"arena": arena_text, "large": large_text, "falling": falling_text}.get(kind, lambda n: match_text(n, kind))(count)
         runs = [run_once(program, [given.word], text) for _ in range(given.runs)]
         least = min(seconds for seconds, _ in runs)
         peak = max(memory for _, memory in runs)

@@ -96,7 +96,7 @@ fn opened<G: Game>(alloc: Global, opening: &G) -> Result<Mirror<G>, NoMemory>
 }
 
 // Makes the event, once it is seen that it fits and finds room.
-fn answer<G: Game>(rt: &impl Abort, mirror: &mut Mirror<G>, event: &Event) -> Reply
+pub(super) fn answer<G: Game>(rt: &impl Abort, mirror: &mut Mirror<G>, event: &Event) -> Reply
     requires ticks { mirror.old.length ≡ 8 }
     requires plans { length mirror.old.plans ≡ 2 }
     ensures ticks { mirror.new.length ≡ 8 }
