@@ -50,5 +50,5 @@ mirror_rules game =
     record { next = next_locked; said = said_locked game; Fits = FitsLocked game; spare = λ s. s.spare; grows = is_growing }
 
 -- a seat takes every call that fits a mirror
-abbrev pub TakesFrom : {W : Type 0} → GameRules W → MirrorState W → View (MirrorState W) (LockCall W) (LockReply W) → Type 0
-TakesFrom {W} game s v = (call : LockCall W) → FitsCall game s call → FitsSeat (mirror_rules game) v call
+pub record TakesFrom {W : Type 0} (game : GameRules W) (s : MirrorState W) (v : View (MirrorState W) (LockCall W) (LockReply W)) : Type 0 where
+  pub takes : (call : LockCall W) → FitsCall game s call → FitsSeat (mirror_rules game) v call

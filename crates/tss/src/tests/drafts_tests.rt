@@ -34,16 +34,25 @@ fn may_make<G: Game>(mirror: &Mirror<G>, event: &Event) -> bool
     }
 }
 
-// Makes the event as often.
+// Makes the event, where it may be made.
+fn make_once<G: Game>(mirror: &mut Mirror<G>, event: &Event)
+    requires { mirror.old.length ≡ 4 }
+    ensures { mirror.new.length ≡ 4 }
+{
+    if !may_make(mirror, event) {
+        return;
+    }
+    mirror.make(event);
+}
+
+// Makes it as often.
 fn make<G: Game>(mirror: &mut Mirror<G>, event: &Event, times: u32)
     requires { mirror.old.length ≡ 4 }
     ensures { mirror.new.length ≡ 4 }
 {
     for made in 0..times {
         let _ = made;
-        if may_make(mirror, event) {
-            mirror.make(event);
-        }
+        make_once(mirror, event);
     }
 }
 
