@@ -58,7 +58,10 @@ fn make<G: Game>(mirror: &mut Mirror<G>, event: &Event, times: u32)
 
 // Drafts copy 0's due tick, executes it, makes the event, and commits the tick. Answers the epoch and the clock that the tick
 // had, the copy's epoch before the commit, and the answer to it.
-fn commit_after<G: Game>(mirror: &mut Mirror<G>, event: &Event) -> Option<(u64, u32, u64, Committed)>
+fn commit_after<G: Game>(
+    mirror: &mut Mirror<G>,
+    event: &Event,
+) -> Option<(u64, u32, u64, Committed)>
     requires { mirror.old.length ≡ 4 }
 {
     if mirror.copies() != 1 || !may_make(mirror, event) {
@@ -75,7 +78,12 @@ fn commit_after<G: Game>(mirror: &mut Mirror<G>, event: &Event) -> Option<(u64, 
 }
 
 // The same on a fresh mirror, after so many ticks and steps.
-fn committed(alloc: Global, ticks: u32, steps: u32, event: Event) -> Option<(u64, u32, u64, Committed)> {
+fn committed(
+    alloc: Global,
+    ticks: u32,
+    steps: u32,
+    event: Event,
+) -> Option<(u64, u32, u64, Committed)> {
     let mut mirror = opened(alloc).ok()?;
     make(&mut mirror, &Event::Tick, ticks);
     make(&mut mirror, &Event::Step(0), steps);
@@ -87,7 +95,10 @@ fn drafts_are_committed(rt: HostRuntime) -> Result<(), Fail> {
     let alloc = rt.alloc();
     // made stale by a step
     let stepped = committed(alloc, 1, 0, Event::Step(0));
-    assert_eq!(rt; stepped, Some((0, 0, 1, Committed::Stale { held: 0, now: 1 })));
+    assert_eq!(rt;
+        stepped,
+        Some((0, 0, 1, Committed::Stale { held: 0, now: 1 }))
+    );
     // survives an early arrival
     let early = committed(alloc, 1, 0, arrival(2, 0));
     assert_eq!(rt; early, Some((0, 0, 0, Committed::Ran { repaired: 0 })));
