@@ -162,8 +162,7 @@ impl<G: Game> CopyStack<G> {
         let t = self.clocks[c];
         let next = t + 1;
         let _ = self.run.len();
-        let by = tick_len(&self.list, t);
-        execute_tick(&mut self.worlds[c], &self.list, t);
+        let by = execute_tick(&mut self.worlds[c], &self.list, t);
         self.run.pass(copy, by);
         self.clocks[c] = next;
     }

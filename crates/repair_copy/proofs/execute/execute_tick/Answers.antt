@@ -1,8 +1,11 @@
-use Rattle.std.proofs.Common.{◌∙◌, refl}
-use Rattle.repair_copy.proofs.Walking.{world-on, world-beat}
+use Rattle.std.proofs.Common.{◌∙◌, refl, arith}
+use Rattle.repair_copy.proofs.Walking.{world-on, world-beat, long}
 use Rattle.repair_copy.proofs.execute.execute_tick.Goals as goal
 
-pub returns : goal.returns
-returns g c =
-    world-on g.G.Game.rules c.args.world.now c.execute_commands.new.world _ _ _ _ c.execute_commands.ensures
-    (c.beat.ensures ∙ world-beat g.G.Game.rules c.execute_commands.new.world) refl
+pub returns-clause-count : goal.returns-clause-count
+returns-clause-count g c = (let count = c.execute_commands-commands.ensures.count in let same = long c.args.list.now.all c.args.t in omega arith)
+
+pub returns-clause-world : goal.returns-clause-world
+returns-clause-world g c =
+    world-on g.G.Game.rules c.args.world.now c.execute_commands-commands.new.world _ _ _ _ c.execute_commands-commands.ensures.world
+    (c.beat.ensures ∙ world-beat g.G.Game.rules c.execute_commands-commands.new.world) refl
