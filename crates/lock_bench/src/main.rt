@@ -2,13 +2,13 @@
 //! `mutex`, how many threads, and how many calls each of them makes. What it prints is the same whatever the schedule.
 #![tactic(auto)]
 
-ghost use Rattle.std.specs.Prelude.{◌≡◌, ◌<◌, ◌^◌};
+ghost use Rattle.std.specs.Prelude.{◌≡◌, ◌<◌, ◌≤◌, ◌^◌, length};
 ghost use Rattle.std.specs.List.{All};
+ghost use Rattle.turn_lock.specs.Totals.{total};
 
 use std::alloc::Global;
-use std::rt::Env;
 use std::sync::{Mutex, Wait};
-use std::thread::{Threads, map_vec};
+use std::thread::{Threads, map_indices, map_vec};
 use std::{env, io};
 use turn_lock::{Held, Share, TurnLock, TurnSeat};
 
@@ -78,25 +78,33 @@ fn by_seats<R: Threads + Wait + Sync>(
     replies.iter().max().copied()
 }
 
-// So many threads that each make as many calls, under a turn lock. Tells the last count.
+// A thread for each share. Tells the last count.
+fn by_shares<R: Threads + Wait + Sync>(rt: &R, alloc: Global, shares: &[Share]) -> Option<u64>
+    requires some_share { 0 < length shares.now }
+    requires calls { total (λ s. s.calls) shares.now < 2 ^ 63 }
+    requires grows { total (λ s. s.grows) shares.now ≤ 0 }
+{
+    let (lock, seats) = TurnLock::<Counter>::start(alloc, Counter { count: 0 }, shares).ok()?;
+    by_seats(rt, &lock, seats)
+}
+
+// 1, 2, 4 or 9 threads that each make as many calls, under a turn lock. Tells the last count.
 fn by_turns<R: Threads + Wait + Sync>(
     rt: &R,
     alloc: Global,
-    threads: u8,
+    threads: usize,
     calls: u32,
 ) -> Option<u64> {
-    let mut shares = Vec::with_capacity(alloc, threads as usize).ok()?;
-    for _ in 0..threads {
-        shares.push_reserved(Share {
-            calls: u64::from(calls),
-            grows: 0,
-        });
+    let s = Share {
+        calls: u64::from(calls),
+        grows: 0,
+    };
+    match threads {
+        1 => by_shares(rt, alloc, &[s]),
+        2 => by_shares(rt, alloc, &[s, s]),
+        4 => by_shares(rt, alloc, &[s, s, s, s]),
+        _ => by_shares(rt, alloc, &[s, s, s, s, s, s, s, s, s]),
     }
-    if shares.is_empty() {
-        return None;
-    }
-    let (lock, seats) = TurnLock::<Counter>::start(alloc, Counter { count: 0 }, &shares).ok()?;
-    by_seats(rt, &lock, seats)
 }
 
 fn mutex_all<R: Wait>(rt: &R, lock: &Mutex<u64>, calls: u32) -> u64 {
@@ -113,18 +121,15 @@ fn mutex_all<R: Wait>(rt: &R, lock: &Mutex<u64>, calls: u32) -> u64 {
 fn by_mutex<R: Threads + Wait + Sync>(
     rt: &R,
     alloc: Global,
-    threads: u8,
+    threads: usize,
     calls: u32,
 ) -> Option<u64> {
     let lock = Mutex::new(0u64);
-    let mut jobs = Vec::with_capacity(alloc, threads as usize).ok()?;
-    for _ in 0..threads {
-        jobs.push_reserved(calls);
-    }
-    let replies = map_vec(
+    let replies = map_indices(
         rt,
-        jobs,
-        &|calls: u32| -> u64 { mutex_all(rt, &lock, calls) },
+        alloc,
+        threads,
+        &|_| -> u64 { mutex_all(rt, &lock, calls) },
     )
     .ok()?;
     replies.iter().max().copied()
@@ -132,7 +137,10 @@ fn by_mutex<R: Threads + Wait + Sync>(
 
 fn main(rt: HostRuntime) -> io::Result<()> {
     let words: Vec<String> = env::args(&rt)?.collect(rt.alloc())?;
-    let threads = words.get(2).and_then(|w| w.parse::<u8>().ok()).unwrap_or(2);
+    let threads = words
+        .get(2)
+        .and_then(|w| w.parse::<usize>().ok())
+        .unwrap_or(2);
     let calls = words
         .get(3)
         .and_then(|w| w.parse::<u32>().ok())
