@@ -11,6 +11,7 @@ use Rattle.link_ring.specs.Ends.{sent_of, received_of, waiting_of, IsLink, SameS
 abbrev pub sender_at : ℕ → ℕ → ℕ
 sender_at m j = cond (nat_lt j m) j (j + 1)
 
+-- that place: a sender has no link to itself
 abbrev pub place_at : ℕ → ℕ → ℕ
 place_at m j = cond (nat_lt j m) (m - 1) m
 

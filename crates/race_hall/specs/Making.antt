@@ -7,10 +7,12 @@ use Rattle.link_ring.specs.declared.receive.LinkReceive.{LinkReceive}
 use Rattle.link_ring.specs.Ends.{sent_of, room_of, received_of, waiting_of, misses_of, IsLink}
 use Rattle.race_hall.specs.Looking.{sender_at, IsRowLinked}
 
+-- an end on which nothing was sent yet, with this room
 pub record IsNewSend (room : ℕ) (s : LinkSend) : Type 0 where
   pub sent : sent_of s ≡ []
   pub room_is : room_of s ≡ room
 
+-- an end on which nothing was received yet, and nothing waits
 pub record IsNewReceive (r : LinkReceive) : Type 0 where
   pub received : received_of r ≡ []
   pub waiting : waiting_of r ≡ []

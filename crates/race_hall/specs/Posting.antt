@@ -26,17 +26,19 @@ use Rattle.copy_workers.specs.Asking.{pair_of}
 use Rattle.copy_workers.specs.Trail.{draft_in, draft_mark, commit_mark, commit_asked}
 
 module _ {W : Type 0} where
-  -- what a lock replied to an event, to a draft and to a commit; to a call of another kind it doesn't matter
+  -- what a lock replied to an event; to a call of another kind it doesn't matter
   abbrev pub event_told : LockReply W → Reply
   event_told (ToEvent reply) = reply
   event_told (ToDraft drafted) = Restaggered
   event_told (ToCommit committed) = Restaggered
 
+  -- what it replied to a draft
   abbrev pub draft_told : LockReply W → Drafted W
   draft_told (ToEvent reply) = Idle
   draft_told (ToDraft drafted) = drafted
   draft_told (ToCommit committed) = Idle
 
+  -- what it replied to a commit
   abbrev pub commit_told : LockReply W → Committed
   commit_told (ToEvent reply) = Stale 0 0
   commit_told (ToDraft drafted) = Stale 0 0
@@ -64,14 +66,15 @@ module _ {W : Type 0} where
   abbrev pub pairs_in : List (Entry (LockCall W) (LockReply W)) → List Asked
   pairs_in log = flat_map (λ e. asked_in e.call e.reply) log
 
-  -- what was asked through a seat with this view, by its own entries in what it has seen; the marks of these calls; and the
-  -- draft that the last of them answered
+  -- what was asked through a seat with this view, by its own entries in what it has seen
   abbrev pub asked_by : View (MirrorState W) (LockCall W) (LockReply W) → List Asked
   asked_by v = pairs_in (own (number_of v) (seen_of v))
 
+  -- the marks of these calls
   abbrev pub trail_by : View (MirrorState W) (LockCall W) (LockReply W) → List TrailMark
   trail_by v = map (λ e. mark_in e.call e.reply) (own (number_of v) (seen_of v))
 
+  -- the draft that the last of them answered
   abbrev pub drawn_by : View (MirrorState W) (LockCall W) (LockReply W) → Option (DraftTick W)
   drawn_by v = last_drawn (own (number_of v) (seen_of v))
 

@@ -16,7 +16,7 @@ use game_trait::{Command, Game};
 use link_ring::{LinkReceive, Message};
 use mirror_core::Mirror;
 
-/// Delivers what a message brings.
+// Delivers what a message brings.
 fn take_message<G: Game>(mirror: &mut Mirror<G>, message: &Message)
     requires { CanTake mirror.old (commands_in (message.now ∷ [])) }
     ensures { mirror.new ≡ delivered mirror.old (commands_in (message.now ∷ [])) }
@@ -29,18 +29,22 @@ fn take_message<G: Game>(mirror: &mut Mirror<G>, message: &Message)
     }
 }
 
-/// Delivers the next message of a link, which is known to be there.
+// Delivers the next message of a link, which is known to be there.
 fn take_next<G: Game>(mirror: &mut Mirror<G>, link: &mut LinkReceive)
     requires { HasNext mirror.old (waiting_of link.old) }
-    ensures taken { (message : Message) (more : List Message) → IsPrefix (message ∷ more) (waiting_of link.old)
-        → (mirror.new ≡ delivered mirror.old (commands_in (message ∷ []))) × IsPrefix more (waiting_of link.new) }
+    ensures taken { (message : Message) (more : List Message)
+        → IsPrefix (message ∷ more) (waiting_of link.old)
+        → (mirror.new ≡ delivered mirror.old (commands_in (message ∷ [])))
+        × IsPrefix more (waiting_of link.new) }
 {
     if let Some(message) = link.receive() {
         take_message(mirror, &message);
     }
 }
 
-/// Delivers what is left in a link, to its end.
+/// Delivers the commands that are left in a link, in the order in which they were sent. It takes as many messages as the
+/// link's last look knew of; marks are passed over. The mirror must have room for each command, which must be due
+/// within the match.
 pub fn take_left<G: Game>(mirror: &mut Mirror<G>, link: &mut LinkReceive)
     requires { CanTake mirror.old (commands_in (waiting_of link.old)) }
     ensures { mirror.new ≡ delivered mirror.old (commands_in (waiting_of link.old)) }
@@ -50,7 +54,7 @@ pub fn take_left<G: Game>(mirror: &mut Mirror<G>, link: &mut LinkReceive)
     }
 }
 
-/// Delivers the commands of a plan from a place on.
+/// Delivers the commands of a plan from a place on, counted from 0, in the plan's order.
 pub fn take_plan<G: Game>(mirror: &mut Mirror<G>, plan: &[Command], from: usize)
     requires place { from ≤ length plan.now }
     requires can { CanTake mirror.old (drop from plan.now) }
@@ -61,7 +65,7 @@ pub fn take_plan<G: Game>(mirror: &mut Mirror<G>, plan: &[Command], from: usize)
     }
 }
 
-/// Steps of each copy, from copy 0 on.
+// A step of each copy, from copy 0 on.
 fn make_steps<G: Game>(mirror: &mut Mirror<G>)
     ensures { mirror.new ≡ after mirror.old (steps_from 0 (length mirror.old.runs)) }
 {
@@ -70,7 +74,7 @@ fn make_steps<G: Game>(mirror: &mut Mirror<G>)
     }
 }
 
-/// One turn: a tick, and then a step of each copy.
+// One turn: a tick, and then a step of each copy.
 fn make_turn<G: Game>(mirror: &mut Mirror<G>)
     ensures { mirror.new ≡ turn mirror.old }
 {
@@ -78,7 +82,7 @@ fn make_turn<G: Game>(mirror: &mut Mirror<G>)
     make_steps(mirror);
 }
 
-/// Makes turns until the mirror is drained, at most so many.
+/// Makes turns until the mirror is drained, at most so many. A turn is a tick and then a step of each copy, from copy 0 on.
 pub fn drain_mirror<G: Game>(mirror: &mut Mirror<G>, turns: u32)
     ensures { mirror.new ≡ drain_within turns mirror.old }
 {
@@ -90,7 +94,7 @@ pub fn drain_mirror<G: Game>(mirror: &mut Mirror<G>, turns: u32)
     }
 }
 
-/// Delivers what is left in links, each to its end.
+/// Delivers what is left in a mirror's links, each to its end, from the first link on.
 pub fn take_links<G: Game>(mirror: &mut Mirror<G>, links: &mut [LinkReceive])
     requires { CanTake mirror.old (left_in links.old) }
     ensures { mirror.new ≡ delivered mirror.old (left_in links.old) }
@@ -100,14 +104,17 @@ pub fn take_links<G: Game>(mirror: &mut Mirror<G>, links: &mut [LinkReceive])
     }
 }
 
-/// What the caller holds of a mirror's feeder: its plan, and how many of these commands it issued.
+/// What the caller holds of a mirror's feeder.
 #[derive(Drop)]
 pub struct Sender {
+    /// The mirror's own commands, in key order.
     pub plan: Vec<Command>,
+    /// How many of them the feeder issued: always the first ones.
     pub issued: u32,
 }
 
-/// Delivers what was never issued, in key order of each sender.
+/// Delivers what the feeders never issued, from the first sender on, each one's commands in key order. This is this project's
+/// own: a feeder whose budget runs out leaves commands that no mirror has seen.
 pub fn take_unissued<G: Game>(mirror: &mut Mirror<G>, senders: &[Sender])
     requires places { AllByRecursion (λ one. one.issued ≤ length one.plan.items) senders.now }
     requires can { CanTake mirror.old (unissued_in senders.now) }
@@ -118,8 +125,8 @@ pub fn take_unissued<G: Game>(mirror: &mut Mirror<G>, senders: &[Sender])
     }
 }
 
-/// Finishes a mirror of a race: what is left in its links by rising sender, then what was never issued by rising sender, and then
-/// turns until it is drained.
+/// Finishes a mirror of a race, in three parts: it delivers what is left in the links to it, by rising sender, then what was
+/// never issued, by rising sender, and makes turns until it is drained. The order is this project's own.
 pub fn finish_mirror<G: Game>(mirror: &mut Mirror<G>, links: &mut [LinkReceive], senders: &[Sender])
     requires places { AllByRecursion (λ one. one.issued ≤ length one.plan.items) senders.now }
     requires can { CanTake mirror.old (left_in links.old ++ unissued_in senders.now) }

@@ -9,7 +9,7 @@ use link_ring::{LinkReceive, LinkSend, link};
 use std::alloc::Global;
 use tss_io::NoMemory;
 
-/// Makes one more link, and puts its ends behind the others.
+// Makes one more link, and puts its ends behind the others.
 fn join_mirrors(
     alloc: Global,
     room: u32,
@@ -25,7 +25,7 @@ fn join_mirrors(
     Ok(())
 }
 
-/// Makes the links to one mirror, where those to the mirrors below it are made.
+// Makes the links to one mirror, where those to the mirrors below it are made.
 fn make_row(
     alloc: Global,
     mirror: usize,
@@ -37,7 +37,8 @@ fn make_row(
     requires rooms { AllByRecursion (λ room. 1 ≤ room) rooms.now }
     requires count { length sends.old ≡ length rooms.now }
     requires made { AreMade rooms.now (long_at mirror) sends.old }
-    ensures { IfOk result (λ row. IsRowMade mirror (length rooms.now - 1) rooms.now sends.old sends.new row.items) }
+    ensures { IfOk result (λ row.
+        IsRowMade mirror (length rooms.now - 1) rooms.now sends.old sends.new row.items) }
 {
     let mut row = Vec::new(alloc);
     for link in 0..rooms.len() - 1 {
@@ -47,7 +48,7 @@ fn make_row(
     Ok(row)
 }
 
-/// So many empty lists.
+// So many empty lists.
 fn empty_sends(alloc: Global, mirrors: usize) -> Result<Vec<Vec<LinkSend>>, NoMemory>
     ensures { IfOk result (λ sends. AreEmpty mirrors sends.items) }
 {
@@ -58,8 +59,9 @@ fn empty_sends(alloc: Global, mirrors: usize) -> Result<Vec<Vec<LinkSend>>, NoMe
     Ok(sends)
 }
 
-/// Makes the links of a race: from each mirror to each other, with room for so many messages of each sender. The first list holds
-/// the ends that each mirror sends on, the second those that it receives on, both by rising other mirror.
+/// Makes the links of a race, from each mirror to each other: `rooms` has, mirror by mirror, how many messages a link of this
+/// sender has room for. The first list holds the ends that each mirror sends on, the second those that it receives on, both by
+/// rising other mirror. `NoMemory` where there isn't memory for them; then all that was made is let go.
 pub fn make_links(
     alloc: Global,
     rooms: &[u32],
