@@ -16,6 +16,9 @@ const PRINTED: &[u8] =
 
 // Whether the hall of a match prints so, and keeps two logs.
 fn prints_so(alloc: Global, m: &Match) -> Result<bool, NoMemory> {
+    if m.mirrors == 0 {
+        return Ok(false);
+    }
     let mut out = Vec::new(alloc);
     let mut hall = Hall::new(alloc, m, &OPENING)?;
     let opens = hall.mirror(0).accepted().is_empty();

@@ -1,17 +1,10 @@
 //! Audits of records.
 
-ghost use Rattle.std.specs.Prelude.{◌<◌, length};
-
-use arena_rules::{Arena, Roster};
-use game_trait::MirrorId;
-use match_file::read_match;
-use match_hall::Hall;
-use mirror_core::Mirror;
-use report_text::push_copy_block;
+use arena_rules::Arena;
 use run_auditor::{LogWalk, Verdict, Walked, Why, audit};
-use run_recorder::{Block, RaceRecord, print_record, read_record};
+use run_recorder::read_record;
 use std::alloc::Global;
-use tss_io::{NoMemory, Seq, TextFault};
+use tss_io::TextFault;
 
 const FRONT: &str =
     "tss record 1\ntss match 1\nlength 1\ngrid 3 1\nmirrors 1\ndelays 0 1\npace 1\nplayer ann 0 0 e\nend\n";
@@ -21,10 +14,6 @@ const WORLDS: &str = "world 0 0 1\nlive ann 0 0 e 3 5 0\nworld 0 1 1\nlive ann 0
 // The whole text of examples/two_mirrors.record.
 const SAMPLE: &str =
     "tss record 1\ntss match 1\nlength 10\ngrid 9 1\nmirrors 2\ndelays 0 2 4\npace 4\nplayer ann 0 0 e\ncmd 1 0 0 0 go\ncmd 4 0 1 0 go\ncmd 3 0 2 0 go\ncmd 5 0 3 0 go\ncmd 0 0 4 0 go\nend\nlog 0 49\ntick\nstep 0\narrive 0 0\ntick\nstep 0\ntick\nstep 0\nstep 1\ntick\nstep 0\nstep 1\narrive 0 1\ntick\nstep 0\nstep 1\nstep 2\narrive 0 2\ntick\nstep 0\nstep 1\nstep 2\ntick\nstep 0\nstep 1\nstep 2\ntick\nstep 0\nstep 1\nstep 2\narrive 0 3\ntick\nstep 0\nstep 1\nstep 2\narrive 0 4\ntick\nstep 0\nstep 1\nstep 2\ntick\nstep 1\nstep 2\ntick\nstep 1\nstep 2\ntick\nstep 2\ntick\nstep 2\nworld 0 0 10\nlive ann 4 0 e 3 5 0\nworld 0 1 10\nlive ann 4 0 e 3 5 0\nworld 0 2 10\nlive ann 4 0 e 3 5 0\nlog 1 48\ntick\nstep 0\ntick\nstep 0\ntick\nstep 0\nstep 1\narrive 0 0\narrive 0 4\ntick\nstep 0\nstep 1\ntick\nstep 0\nstep 1\nstep 2\ntick\nstep 0\nstep 1\nstep 2\narrive 0 2\ntick\nstep 0\nstep 1\nstep 2\narrive 0 1\ntick\nstep 0\nstep 1\nstep 2\ntick\nstep 0\nstep 1\nstep 2\ntick\nstep 0\nstep 1\nstep 2\ntick\nstep 1\nstep 2\ntick\nstep 1\nstep 2\ntick\nstep 2\ntick\nstep 2\nworld 1 0 10\nlive ann 4 0 e 3 5 0\nworld 1 1 10\nlive ann 4 0 e 3 5 0\nworld 1 2 10\nlive ann 4 0 e 3 5 0\ndone\n";
-
-// Two mirrors see two commands of one tick in opposite orders. Each has 6 ticks, 4 steps of either copy and 2 arrivals.
-const PLAYED: &str =
-    "tss match 1\nlength 4\ngrid 3 1\nmirrors 2\ndelays 0 2\npace 0\nplayer ann 0 0 e\nplayer bob 2 0 w\ncmd 0 0 0 0 go\ncmd 0 1 0 1 go\nscript\narrive 0 0 0\narrive 0 1 0\narrive 1 1 0\nturn 1\narrive 1 0 0\nend\n";
 
 // What an audit says of the text of a record, or why that isn't read.
 fn verdict_of(alloc: Global, text: &[u8]) -> Result<Verdict, TextFault> {
@@ -141,73 +130,5 @@ fn the_sample_is_legal(rt: HostRuntime) {
     assert_eq!(rt;
         verdict_of(rt.alloc(), SAMPLE.as_bytes()),
         Ok(Verdict::Legal { events: 97 })
-    );
-}
-
-// The block of a copy, which is there.
-fn block_of(
-    alloc: Global,
-    mirror: &Mirror<Arena>,
-    number: MirrorId,
-    copy: u8,
-    roster: &Roster,
-) -> Result<Block, NoMemory>
-    requires { copy < length mirror.now.runs }
-{
-    let mut text = Vec::new(alloc);
-    push_copy_block(
-        &mut text,
-        number,
-        copy,
-        mirror.copy_clock(copy),
-        mirror.world(copy),
-        roster,
-    )?;
-    Ok(Block::of(text))
-}
-
-// The blocks of a mirror's copies, copy 0 first.
-fn blocks_of(
-    alloc: Global,
-    mirror: &Mirror<Arena>,
-    number: MirrorId,
-    roster: &Roster,
-) -> Result<Seq<Block>, NoMemory> {
-    let mut blocks = Seq::new(alloc);
-    for copy in 0..mirror.copies() {
-        blocks.push(block_of(alloc, mirror, number, copy, roster)?)?;
-    }
-    Ok(blocks)
-}
-
-// The record of the match of this text, played and drained.
-fn record_of_play(alloc: Global, text: &[u8]) -> Result<RaceRecord, TextFault> {
-    let game = read_match(alloc, text)?;
-    let opening = Arena::start(&game.setup);
-    let mut hall = Hall::new(alloc, &game, &opening)?;
-    let mut out = Vec::new(alloc);
-    hall.play(&game, &mut out)?;
-    hall.drain(&mut out)?;
-    let mut worlds = Seq::new(alloc);
-    for number in 0..game.mirrors {
-        let mirror = hall.mirror(number);
-        worlds.push(blocks_of(alloc, mirror, number, &game.roster)?)?;
-    }
-    let logs = hall.logs(alloc)?;
-    Ok(RaceRecord { game, logs, worlds })
-}
-
-// What an audit says of the record of a played match, once that was printed and read again.
-fn verdict_of_play(alloc: Global, text: &[u8]) -> Result<Verdict, TextFault> {
-    let record = record_of_play(alloc, text)?;
-    let printed = print_record(alloc, &record)?;
-    verdict_of(alloc, printed.as_slice())
-}
-
-#[test]
-fn the_record_of_a_played_match_is_legal(rt: HostRuntime) {
-    assert_eq!(rt;
-        verdict_of_play(rt.alloc(), PLAYED.as_bytes()),
-        Ok(Verdict::Legal { events: 32 })
     );
 }
