@@ -1,7 +1,7 @@
 //! Audits of records.
 
 use arena_rules::Arena;
-use run_auditor::{LogWalk, Verdict, Walked, Why, audit};
+use run_auditor::{Verdict, Why, audit};
 use run_recorder::read_record;
 use std::alloc::Global;
 use tss_io::TextFault;
@@ -82,26 +82,6 @@ fn verdict_behind_front(alloc: Global, ending: &str, worlds: bool) -> Result<Ver
     verdict_of(alloc, text.as_bytes())
 }
 
-// How many events of the first log a walk makes before it stops, and whether it tells the same when it is asked again.
-fn walked(alloc: Global, text: &[u8]) -> Result<(u32, bool), TextFault> {
-    let record = read_record(alloc, text)?;
-    let opening = Arena::start(&record.game.setup);
-    let Some(log) = record.logs.as_slice().first() else {
-        return Ok((0, false));
-    };
-    let mut walk = LogWalk::new(alloc, &record.game, &opening, log)?;
-    for made in 0..log.events.len() as u32 {
-        let next = walk.next();
-        if !matches!(next, Walked::Note(_)) {
-            return Ok((made, next == walk.next()));
-        }
-    }
-    Ok((
-        walk.mirror().events().len() as u32,
-        walk.next() == Walked::End,
-    ))
-}
-
 #[test]
 fn records_are_audited(rt: HostRuntime) {
     for &(ending, worlds, verdict) in &ENDINGS {
@@ -110,19 +90,6 @@ fn records_are_audited(rt: HostRuntime) {
             Ok(verdict)
         );
     }
-}
-
-fn walked_behind_front(alloc: Global, ending: &str) -> Result<(u32, bool), TextFault> {
-    let text = format!(in alloc; "{FRONT}{ending}{WORLDS}")?;
-    walked(alloc, text.as_bytes())
-}
-
-#[test]
-fn walks_stop_and_stay(rt: HostRuntime) {
-    let legal = "log 0 4\ntick\nstep 0\ntick\nstep 1\n";
-    let over = "log 0 5\ntick\nstep 0\ntick\ntick\nstep 1\n";
-    assert_eq!(rt; walked_behind_front(rt.alloc(), legal), Ok((4, true)));
-    assert_eq!(rt; walked_behind_front(rt.alloc(), over), Ok((3, true)));
 }
 
 #[test]
