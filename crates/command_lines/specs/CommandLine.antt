@@ -20,7 +20,8 @@ act_word Dash = codes "dash"
 
 -- the acts of a version: a dash from version 2 on
 abbrev pub acts_of : ℕ → List Act
-acts_of version = if version == 1 then Go ∷ Left ∷ Right ∷ Shoot ∷ [] else Go ∷ Left ∷ Right ∷ Shoot ∷ Dash ∷ []
+acts_of version =
+    if version == 1 then Go ∷ Left ∷ Right ∷ Shoot ∷ [] else Go ∷ Left ∷ Right ∷ Shoot ∷ Dash ∷ []
 
 -- an act of the version
 abbrev pub has_act : ℕ → Act → Bool
@@ -36,30 +37,49 @@ last_player version = if version == 1 then MOST_PLAYERS_IN_1 - 1 else MOST_PLAYE
 
 -- the widest ranges of a version
 abbrev pub widest : ℕ → CommandRanges
-widest version = record { last_time = LONGEST_MATCH - 1; last_mirror = MOST_MIRRORS - 1; last_player = last_player version }
+widest version =
+    record {
+      last_time = LONGEST_MATCH - 1;
+      last_mirror = MOST_MIRRORS - 1;
+      last_player = last_player version;
+    }
 
 -- time, mirror, number, player and act
-abbrev pub command_form : ℕ → CommandRanges → Form (List ℕ × (List ℕ × (List ℕ × (List ℕ × Act)))) Command
+abbrev pub command_form : ℕ → CommandRanges
+    → Form (List ℕ × (List ℕ × (List ℕ × (List ℕ × Act)))) Command
 command_form version ranges = made
-    (λ c. record { time = c.0; from = c.1.0; number = c.1.1.0; player = c.1.1.1.0; act = c.1.1.1.1 })
+    (λ c. record {
+      time = c.0;
+      from = c.1.0;
+      number = c.1.1.0;
+      player = c.1.1.1.0;
+      act = c.1.1.1.1;
+    })
     (λ c. (c.time, (c.from, (c.number, (c.player, c.act)))))
-    (number 0 ranges.last_time & number 0 ranges.last_mirror & number 0 GREATEST_NUMBER & number 0 ranges.last_player & only (choice act_word (acts_of version)))
+    (number 0 ranges.last_time & number 0 ranges.last_mirror & number 0 GREATEST_NUMBER
+    & number 0 ranges.last_player & only (choice act_word (acts_of version)))
 
 -- the words of a command's line at first sight, in whatever ranges its numbers are to be
-abbrev pub command_see : ℕ → List (List ℕ) → Result (List ℕ × (List ℕ × (List ℕ × (List ℕ × Act)))) Cause
+abbrev pub command_see : ℕ → List (List ℕ)
+    → Result (List ℕ × (List ℕ × (List ℕ × (List ℕ × Act)))) Cause
 command_see version = (command_form version (widest version)).see
 
 -- the command of such words, whose numbers are to be in these ranges
-abbrev pub command_value : CommandRanges → List ℕ × (List ℕ × (List ℕ × (List ℕ × Act))) → Result Command Cause
+abbrev pub command_value : CommandRanges → List ℕ × (List ℕ × (List ℕ × (List ℕ × Act)))
+    → Result Command Cause
 command_value ranges = (command_form 1 ranges).value
 
 -- a command of these ranges, whose act is one of the version
 abbrev pub CommandFits : ℕ → CommandRanges → Command → Type 0
 CommandFits version ranges c =
-    InRange 0 ranges.last_time c.time × (InRange 0 ranges.last_mirror c.from × (InRange 0 GREATEST_NUMBER c.number × (InRange 0 ranges.last_player c.player × (has_act version c.act ≡ true))))
+    InRange 0 ranges.last_time c.time
+    × (InRange 0 ranges.last_mirror c.from
+    × (InRange 0 GREATEST_NUMBER c.number
+    × (InRange 0 ranges.last_player c.player × (has_act version c.act ≡ true))))
 
 -- a line of a command alone
-abbrev pub line_kind : ℕ → Kind (Unit {0}) (List ℕ × (List ℕ × (List ℕ × (List ℕ × Act)))) Command Command
+abbrev pub line_kind : ℕ
+    → Kind (Unit {0}) (List ℕ × (List ℕ × (List ℕ × (List ℕ × Act)))) Command Command
 line_kind version = record {
   keyword = codes "cmd";
   form = λ _. command_form version (widest version);
@@ -81,6 +101,7 @@ pub record IsCommandLine (version : ℕ) (c : Command) : Type 0 where
 abbrev pub command_line : Command → List ℕ
 command_line c = spaced (line_words (line_kind 2) tt c)
 
--- Every check of a command's line in its order: that its first word is `cmd`, its shape, and its numbers.
+-- every check of a command's line in its order: that its first word is `cmd`, its shape, and its
+-- numbers
 abbrev pub command_checks : ℕ → List ℕ → List (Bool × Cause)
 command_checks version line = keyword_checks (line_kind version) tt line

@@ -36,7 +36,8 @@ pub fn push_command(out: &mut Vec<u8>, x: &Command) -> Result<(), NoMemory>
     push_line(out, &words)
 }
 
-/// The one line, without its newline, that is read as the command, whose numbers are in version 2's ranges.
+/// The one line, without its newline, that is read as the command, whose numbers are in version 2's
+/// ranges.
 pub fn print_command(alloc: Global, x: &Command) -> Result<Vec<u8>, NoMemory>
     requires { IsCommandLine 2 x.now }
     ensures { IfOk result (λ line. line.items ≡ command_line x.now) }

@@ -18,7 +18,8 @@ use tss_io::words::front;
 /// Why a command's line wasn't read.
 #[derive(Clone, Copy, Debug, PartialEq, Eq)]
 pub enum CommandFault {
-    /// The line isn't six words parted by single spaces, of which the first is `cmd` and the last an act of the version.
+    /// The line isn't six words parted by single spaces, of which the first is `cmd` and the last
+    /// an act of the version.
     Shape,
     /// The shape is right, and one of the four numbers isn't canonical or is out of range.
     Number,
@@ -57,16 +58,18 @@ fn fault_of(cause: Cause) -> CommandFault
     }
 }
 
-/// Reads one command's line, without its newline, of a match text of the version, which is 1 or 2 (this project's own form). It
-/// takes no memory.
+/// Reads one command's line, without its newline, of a match text of the version, which is 1 or 2
+/// (this project's own form). It takes no memory.
 pub fn read_command(line: &[u8], version: u8) -> Result<Command, CommandFault>
     requires { (version ≡ 1) ⊎ (version ≡ 2) }
     // What is read is a command of the version, and the line is its line.
     ensures found { IfOk result (λ c. IsCommandLine version c × (line.now ≡ command_line c)) }
     // The line of a command of the version is read as that command.
-    ensures only { (c : command_type.Command) → IsCommandLine version c → line.now ≡ command_line c → result ≡ Ok c }
+    ensures only { (c : command_type.Command) → IsCommandLine version c → line.now ≡ command_line c
+        → result ≡ Ok c }
     // A refusal is the line's first failing check.
-    ensures refused { IfErr result (λ fault. first_failing (command_checks version line.now) ≡ Some (fault_cause fault)) }
+    ensures refused { IfErr result
+        (λ fault. first_failing (command_checks version line.now) ≡ Some (fault_cause fault)) }
 {
     read(line, version)
 }

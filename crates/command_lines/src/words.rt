@@ -43,7 +43,8 @@ fn act_of(version: u8, word: &[u8]) -> Result<Act, Cause>
 }
 
 impl<'a> CommandWords<'a> {
-    /// The words, where they have the shape of a command's of the version, which is 1 or 2; else `Shape`.
+    /// The words, where they have the shape of a command's of the version, which is 1 or 2; else
+    /// `Shape`.
     pub fn of(version: u8, words: &'a [u8]) -> Result<CommandWords<'a>, Cause>
         ensures { Answers words_seen result (command_see version (words_of words.now)) }
     {

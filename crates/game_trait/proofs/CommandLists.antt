@@ -1,6 +1,8 @@
 -- Commands with different names, and one more that is found by its name.
-use Rattle.std.proofs.Common.{◌≡◌, refl, ℕ, true, false, cond, ◌||◌, List, [], ◌∷◌, ◌++◌, Some, arith}
-use Rattle.std.specs.List.{list_any}
+use Rattle.std.proofs.Common.{◌≡◌, refl, subst, ℕ, Bool, true, false, cond, ◌||◌, List, [], ◌∷◌, ◌++◌, Some, arith}
+use Rattle.std.specs.Prelude.{find}
+use Rattle.std.specs.List.{list_any, Contains}
+use Rattle.std.proofs.lemmas.List.Elements.{Contains-get_or, Contains-append_right}
 use Rattle.std.specs.Option.{is_some}
 use Rattle.std.proofs.lemmas.Bool.{or_parts}
 use Rattle.std.proofs.lemmas.Bool.Decides.{nat_tests}
@@ -8,7 +10,7 @@ use Rattle.game_trait.specs.declared.command.Command.{Command}
 use Rattle.game_trait.specs.Keys.{is_named, same_name, NamesDiffer}
 use Rattle.game_trait.specs.CommandList.{command_named, has_command, same_pair}
 use Rattle.game_trait.proofs.KeyOrder.{same_name-sym}
-use Rattle.game_trait.proofs.Lists.{all-push}
+use Rattle.game_trait.proofs.Lists.{all-push, all-first}
 
 -- a command is found exactly where there is one
 pub found-has : (commands : List Command) (from number : ℕ) → is_some (command_named commands from number) ≡ has_command commands from number
@@ -16,6 +18,20 @@ found-has [] from number = refl
 found-has (y ∷ ys) from number =
     elim (is_named from number y) as (λ v. is_some (cond v (Some y) (command_named ys from number)) ≡ v || has_command ys from number)
     [ true ↦ refl | false ↦ found-has ys from number ]
+
+-- what is found in a list is in it
+find-Contains : {X : Type 0} (test : X → Bool) (xs : List X) (x : X) → find test xs ≡ Some x → Contains xs x
+find-Contains test [] x e = absurd cc
+find-Contains test (y ∷ ys) x e =
+    elim (test y) as (λ v. cond v (Some y) (find test ys) ≡ Some x → Contains (y ∷ ys) x) [
+      | true ↦ λ h. (let same : y ≡ x = cc in subst (Contains (y ∷ ys)) same (Contains-get_or (y ∷ ys) 0 y (omega arith)))
+      | false ↦ λ h. Contains-append_right (y ∷ []) ys x (find-Contains test ys x h)
+    ]
+    e
+
+-- a command that is found is there
+pub command_named-Contains : (commands : List Command) (from number : ℕ) (x : Command) → command_named commands from number ≡ Some x → Contains commands x
+command_named-Contains commands from number x e = find-Contains (is_named from number) commands x e
 
 turned : (x : Command) (from number : ℕ) → same_pair (x.from, x.number) (from, number) ≡ is_named from number x
 turned x from number = grind (arith, nat_tests)
@@ -49,3 +65,10 @@ NamesDiffer-push (y ∷ ys) x differ new =
 pub names-push : (xs : List Command) (x : Command) → NamesDiffer xs → has_command xs x.from x.number ≡ false → NamesDiffer (xs ++ x ∷ [])
 unfolding same_name
 names-push xs x differ new = NamesDiffer-push xs x differ new
+
+-- names that differ in two lists together differ in the first
+pub NamesDiffer-front : (xs ys : List Command) → NamesDiffer (xs ++ ys) → NamesDiffer xs
+unfolding NamesDiffer
+NamesDiffer-front [] ys h = tt
+NamesDiffer-front (x ∷ xs) ys h =
+    (all-first (λ y. same_name x y ≡ false) xs ys h.0, NamesDiffer-front xs ys h.1)

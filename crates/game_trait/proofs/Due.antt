@@ -1,11 +1,26 @@
 -- What is due among the first commands of a list, and what is left of it.
-use Rattle.std.proofs.Common.{◌≡◌, refl, ◌∙◌, ap, ℕ, ◌+◌, ◌<◌, Bool, true, false, cond, List, [], ◌∷◌, ◌++◌, length, take, drop, get_or, map, add-one, append-nil, drop-cons}
+use Rattle.std.proofs.Common.{◌≡◌, ◌≢◌, refl, ◌∙◌, ap, ℕ, ◌+◌, ◌<◌, Bool, true, false, cond, List, [], ◌∷◌, ◌++◌, length, take, drop, get_or, map, add-one, append-nil, drop-cons, arith}
 use Rattle.std.proofs.lemmas.List.{map-append}
 use Rattle.std.proofs.lemmas.List.Elements.{filter_more}
-use Rattle.std.specs.List.{filter}
+use Rattle.std.proofs.lemmas.Bool.{ne_eqb}
+use Rattle.std.specs.Prelude.{◌==◌}
+use Rattle.std.specs.List.{AllByRecursion, filter}
 use Rattle.game_trait.specs.declared.command.Command.{Command}
 use Rattle.game_trait.specs.declared.command.Item.TheVariants.{Cmd}
 use Rattle.game_trait.specs.Count.{times}
+use Rattle.game_trait.proofs.Lists.{all-weaker}
+
+-- no command of another time is due
+pub none-due :
+    (t : ℕ) (xs : List Command) → AllByRecursion (λ x. x.time ≢ t) xs → filter (λ x. x.time == t) xs ≡ []
+none-due t [] h = refl
+none-due t (x ∷ xs) h = rw (ne_eqb x.time t h.0) (none-due t xs h.1)
+
+-- nor is one of a later time
+pub none-due_later :
+    (t : ℕ) (xs : List Command) → AllByRecursion (λ x. t < x.time) xs → filter (λ x. x.time == t) xs ≡ []
+none-due_later t xs h =
+    none-due t xs (all-weaker (λ x. t < x.time) (λ x. x.time ≢ t) xs (λ x low. omega arith) h)
 
 -- one command more is due
 pub due_more :

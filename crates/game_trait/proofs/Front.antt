@@ -16,15 +16,12 @@ use Rattle.game_trait.specs.Ordered.{due_at, tick_of, ticks, time_ordered}
 use Rattle.game_trait.proofs.KeyOrder.{before-time, all-weaker, KeysRise-filter, KeysRise-in_key_order, NamesDiffer-same, in_key_order-rising}
 use Rattle.game_trait.proofs.Runs.{world_of-append, world_of-beat}
 use Rattle.game_trait.specs.Front.{due_front, due_behind}
+use Rattle.game_trait.proofs.Due.{none-due_later}
 
 -- commands that are due at tick t or later, in key order
 pub record FromTick (t : ℕ) (xs : List Command) : Type 0 where
   pub rise : KeysRise xs
   pub due : AllByRecursion (λ x. t ≤ x.time) xs
-
-filter-none : (t : ℕ) (xs : List Command) → AllByRecursion (λ x. t < x.time) xs → filter (λ x. x.time == t) xs ≡ []
-filter-none t [] h = refl
-filter-none t (x ∷ xs) h = (let e : (x.time == t) ≡ false = (let l : t < x.time = h.0 in grind (arith, nat_tests)) in rw (e, filter-none t xs h.1) refl)
 
 -- where the first isn't due at tick t, none is
 later : (t : ℕ) (x : Command) (xs : List Command) → t < x.time → AllByRecursion (λ y. before x y ≡ true) xs → AllByRecursion (λ y. t < y.time) xs
@@ -37,7 +34,7 @@ due_front-filter t [] from = refl
 due_front-filter t (x ∷ xs) from =
     elim (x.time == t) as (λ v. (x.time == t) ≡ v → cond v (x ∷ due_front t xs) [] ≡ cond v (x ∷ filter (λ y. y.time == t) xs) (filter (λ y. y.time == t) xs)) [
       | true ↦ λ e. ap (λ (l : List Command). x ∷ l) (due_front-filter t xs (record { rise = from.rise.1; due = from.due.1 }))
-      | false ↦ λ e. sym (filter-none t xs (later t x xs (let l : t ≤ x.time = from.due.0 in grind (arith, nat_tests)) from.rise.0))
+      | false ↦ λ e. sym (none-due_later t xs (later t x xs (let l : t ≤ x.time = from.due.0 in grind (arith, nat_tests)) from.rise.0))
     ]
     refl
 

@@ -9,26 +9,32 @@ use Rattle.game_trait.specs.declared.command.Item.TheVariants.{Cmd, Beat}
 use Rattle.game_trait.specs.Keys.{in_key_order}
 use Rattle.game_trait.specs.Count.{times}
 use Rattle.game_trait.specs.Ordered.{due_at, tick_of}
-use Rattle.game_trait.proofs.Counts.{times-append, times-in_key_order, times-filter}
-
-length-times : {X : Type 0} (xs : List X) → length xs ≡ times (λ _. true) xs
-unfolding times
-length-times [] = refl
-length-times (x ∷ xs) = (let rest = length-times xs in omega arith)
+use Rattle.game_trait.proofs.Counts.{times-append, times-in_key_order, times-filter, times-all}
 
 pub length-in_key_order : (xs : List Command) → length (in_key_order xs) ≡ length xs
-length-in_key_order xs = length-times (in_key_order xs) ∙ times-in_key_order (λ _. true) xs ∙ sym (length-times xs)
+length-in_key_order xs = sym (times-all (in_key_order xs)) ∙ times-in_key_order (λ _. true) xs ∙ times-all xs
 
 length-due_at : (accepted : List Command) (t : ℕ) → length (due_at accepted t) ≡ times (λ x. eqb x.time t) accepted
 length-due_at accepted t =
-    length-times (due_at accepted t)
+    sym (times-all (due_at accepted t))
     ∙ times-in_key_order (λ _. true) (filter (λ x. eqb x.time t) accepted)
     ∙ times-filter (λ _. true) (λ x. eqb x.time t) accepted
 
+-- commands made items are as many
+pub length-commands : (xs : List Command) → length (map Cmd xs) ≡ length xs
+length-commands xs = length-map {A = Command} {B = Item} xs (λ x. Cmd x)
+
+-- a tick is its commands and one beat
+pub length-tick_of-due :
+    (accepted : List Command) (t : ℕ) → length (tick_of accepted t) ≡ length (due_at accepted t) + 1
+length-tick_of-due accepted t =
+    let both = length-append (map Cmd (due_at accepted t)) (Beat ∷ []) in
+    let same = length-commands (due_at accepted t) in
+    omega arith
+
 pub length-tick_of : (accepted : List Command) (t : ℕ) → length (tick_of accepted t) ≡ times (λ x. eqb x.time t) accepted + 1
 length-tick_of accepted t =
-    let both = length-append (map Cmd (due_at accepted t)) (Beat ∷ []) in
-    let one = length-map {A = Command} {B = Item} (due_at accepted t) (λ x. Cmd x) in
+    let whole = length-tick_of-due accepted t in
     let due = length-due_at accepted t in
     omega arith
 

@@ -11,7 +11,7 @@ use Rattle.game_trait.specs.Run.{beats, commands_of}
 use Rattle.game_trait.specs.Ordered.{due_at, tick_of, ticks, ordered}
 use Rattle.game_trait.specs.Count.{times, within}
 use Rattle.game_trait.proofs.Runs.{beats-append, commands_of-append, beats-map_Cmd, commands_of-map_Cmd}
-use Rattle.game_trait.proofs.Counts.{times-append, times-in_key_order, times-filter, times-agree}
+use Rattle.game_trait.proofs.Counts.{times-append, times-in_key_order, times-filter, times-agree, times-apart, times-nothing}
 use Rattle.game_trait.proofs.KeyOrder.{NamesDiffer-filter, KeysRise-in_key_order, rising-unique}
 
 -- one tick has one beat
@@ -73,12 +73,6 @@ times-tick_of p accepted t =
     ap (times p) (commands_of-map_Cmd (due_at accepted t)) ∙ times-in_key_order p (filter (λ x. x.time == t) accepted) ∙ times-filter p (λ x. x.time == t) accepted in
     omega arith)
 
--- two tests that never pass together count apart
-times-apart : {X : Type 0} (p q r : X → Bool) (xs : List X) → ((x : X) → cond {A = ℕ} (r x) 1 0 ≡ cond {A = ℕ} (p x) 1 0 + cond {A = ℕ} (q x) 1 0) → times r xs ≡ times p xs + times q xs
-unfolding times
-times-apart p q r [] apart = refl
-times-apart p q r (x ∷ xs) apart = omega (arith, apart x, times-apart p q r xs apart)
-
 split-within : (p : Command → Bool) (t n : ℕ) (x : Command) →
     cond {A = ℕ} (p x && within t (t + suc n) x.time) 1 0
     ≡ cond {A = ℕ} (p x && (x.time == t)) 1 0 + cond {A = ℕ} (p x && within (t + 1) ((t + 1) + n) x.time) 1 0
@@ -91,10 +85,6 @@ times-never : {X : Type 0} (xs : List X) → times (λ _. false) xs ≡ 0
 unfolding times
 times-never [] = refl
 times-never (x ∷ xs) = omega (arith, times-never xs)
-
-times-nothing : {X : Type 0} (p : X → Bool) → times p [] ≡ 0
-unfolding times
-times-nothing p = refl
 
 -- ticks hold each command of their times as often as it was accepted, and no other
 pub times-ticks :

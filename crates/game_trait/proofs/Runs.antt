@@ -29,6 +29,11 @@ world_of-append rules opening [] b = refl
 world_of-append rules opening (Cmd x ∷ a) b = world_of-append rules (rules.apply opening x) a b
 world_of-append rules opening (Beat ∷ a) b = world_of-append rules (rules.beat opening) a b
 
+-- no item changes nothing
+pub world_of-none : {W : Type 0} (rules : Rules W) (opening : W) → opening ≡ world_of rules opening []
+unfolding world_of
+world_of-none rules opening = refl
+
 -- one more command
 pub world_of-command :
     {W : Type 0} (rules : Rules W) (opening : W) (a : List Item) (x : Command)

@@ -23,10 +23,12 @@ same_pair a b = (a.0 == b.0) && (a.1 == b.1)
 
 -- an index finds under each mirror and number the command that the list has
 abbrev pub IsIndex : (ℕ × ℕ → Option Command) → List Command → Type 0
-IsIndex found commands = (from number : ℕ) → found (from, number) ≡ command_named commands from number
+IsIndex found commands = (from number : ℕ)
+    → found (from, number) ≡ command_named commands from number
 
 -- what is always true of a list with an index and of the memory that both have
-pub record IsCommandList (found : ℕ × ℕ → Option Command) (commands : List Command) (room capacity spare : ℕ) : Type 0 where
+pub record IsCommandList (found : ℕ × ℕ → Option Command) (commands : List Command)
+    (room capacity spare : ℕ) : Type 0 where
   pub index : IsIndex found commands
   pub names : NamesDiffer commands
   pub in_list : room ≤ capacity

@@ -28,7 +28,8 @@ pub enum Act {
     Dash,
 }
 
-/// A player's act at a tick, as a mirror issued it. In a match no two commands have the same mirror and number.
+/// A player's act at a tick, as a mirror issued it. In a match no two commands have the same mirror
+/// and number.
 #[derive(Clone, Copy, Debug, Default, PartialEq, Eq)]
 pub struct Command {
     /// The tick at which it is due.

@@ -9,8 +9,9 @@ use std::alloc::{AllocError, Global};
 use std::collections::HashMap;
 use std::marker::Model;
 
-/// Commands in the order in which they were appended, no two with the same mirror and number, of which each is found at once by
-/// these. Contracts see the commands, and how many there is room for without taking memory.
+/// Commands in the order in which they were appended, no two with the same mirror and number, of
+/// which each is found at once by these. Contracts see the commands, and how many there is room for
+/// without taking memory.
 #[derive(Debug, Drop)]
 pub struct CommandList {
     commands: Vec<Command>,
@@ -28,7 +29,8 @@ impl Model for CommandList {
     ghost view = { λ a. record { items = a.commands.items; room = a.room } };
 
     ghost invariant = { λ a.
-        IsCommandList (get same_pair a.by_name) a.commands.items a.room (vec_capacity a.commands) (spare a.by_name) };
+        IsCommandList (get same_pair a.by_name) a.commands.items a.room (vec_capacity a.commands)
+        (spare a.by_name) };
 }
 
 impl CommandList {
@@ -54,8 +56,8 @@ impl CommandList {
         })
     }
 
-    /// Appends the command where none has its mirror and number, and tells whether it did. On want of memory the list is
-    /// unchanged.
+    /// Appends the command where none has its mirror and number, and tells whether it did. On want
+    /// of memory the list is unchanged.
     pub fn insert(&mut self, x: &Command) -> Result<bool, AllocError>
         ensures added { IfOk result (λ added. added
             ≡ not (has_command self.old.items x.now.from x.now.number)) }
@@ -75,7 +77,8 @@ impl CommandList {
         Ok(true)
     }
 
-    /// Appends a command, whose mirror and number none has yet, where there is room. It takes no memory.
+    /// Appends a command, whose mirror and number none has yet, where there is room. It takes no
+    /// memory.
     pub fn push_reserved(&mut self, x: &Command)
         requires new_name { has_command self.old.items x.now.from x.now.number ≡ false }
         requires room { length self.old.items < self.old.room }

@@ -5,8 +5,8 @@ ghost use Rattle.game_trait.specs.Game.{Rules};
 
 use crate::command::Command;
 
-/// A game whose world is a value: what a call does depends on that value (and on the command) alone. No call takes
-/// memory, and none refuses.
+/// A game whose world is a value: what a call does depends on that value (and on the command)
+/// alone. No call takes memory, and none refuses.
 pub trait Game: Drop {
     /// The rules, as functions on what contracts see of a world.
     ghost rules: { Rules Self };

@@ -50,9 +50,6 @@ pub const MOST_SCRIPT_LINES: usize = 262_144;
 /// How many lines of a script show a world or a run at most.
 pub const MOST_SHOWING_LINES: usize = 1_024;
 
-/// How long a line may be, in bytes before its newline.
-pub const LONGEST_LINE: usize = 120;
-
 /// How long a match text may be, in bytes.
 pub const LONGEST_MATCH_TEXT: usize = 8_388_608;
 

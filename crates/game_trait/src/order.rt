@@ -28,8 +28,9 @@ fn apply_due<'a, G: Game>(game: &mut G, commands: &'a [Command], t: Tick) -> &'a
     left
 }
 
-/// The time-ordered execution of commands of different names over `length` ticks: each tick's commands in key order,
-/// and then one beat. It leaves the commands in key order, and takes no memory.
+/// The time-ordered execution of commands of different names over `length` ticks: each tick's
+/// commands in key order, and then one beat. It leaves the commands in key order, and takes no
+/// memory.
 pub fn execute_in_order<G: Game>(game: &mut G, commands: &mut [Command], length: Tick)
     requires { NamesDiffer commands.old }
     ensures { game.new ≡ time_ordered G.rules game.old commands.old length }

@@ -4,12 +4,7 @@ use Rattle.std.specs.List.{AllByRecursion}
 use Rattle.game_trait.specs.declared.limits.TheConstants.{LONGEST_DELAY}
 use Rattle.sync_model.specs.Lists.{last_of}
 use Rattle.sync_model.specs.Schedule.{Schedule, IsSchedule, longest_delay, limit_at}
-
--- the last of a list is at its last place
-last_of-at : {X : Type 0} (x d : X) (xs : List X) → last_of x xs ≡ get_or (x ∷ xs) (length xs) d
-unfolding last_of
-last_of-at x d [] = refl
-last_of-at x d (y ∷ ys) = last_of-at y d ys
+use Rattle.sync_model.proofs.Lists.{last_of-at}
 
 -- what holds of each element holds of the last
 last_of-all : {X : Type 0} (P : X → Type 0) (x : X) (xs : List X) → P x → AllByRecursion P xs → P (last_of x xs)

@@ -3,7 +3,8 @@ use Rattle.std.specs.Prelude.{◌≡◌, ℕ, ◌-◌, ◌≤◌, List, ◌++◌
 use Rattle.game_trait.specs.declared.limits.TheConstants.{MOST_COPIES}
 use Rattle.sync_model.specs.Schedule.{IsSchedule}
 
--- a place for each copy that there may be, of which the first ones are the delays and the others are 0
+-- a place for each copy that there may be, of which the first ones are the delays and the others
+-- are 0
 pub record IsStored (places : List ℕ) (copies length_in_ticks : ℕ) : Type 0 where
   pub full : length places ≡ MOST_COPIES
   pub within : copies ≤ MOST_COPIES

@@ -27,11 +27,16 @@ impl Model for Stagger {
 
     ghost invariant = { λ a. IsStored a.places a.copies a.ticks };
 
-    ghost inverse = { λ s. record { places = s.delays ++ replicate (MOST_COPIES - length s.delays) 0; copies = length s.delays; ticks = s.length } };
+    ghost inverse = { λ s. record {
+      places = s.delays ++ replicate (MOST_COPIES - length s.delays) 0;
+      copies = length s.delays;
+      ticks = s.length;
+    } };
 }
 
 impl Stagger {
-    /// The delays from copy 0 on, 1 to 8 of them, strictly rising and each at most 1,024 ticks, and a match of 1 to 8,192 ticks.
+    /// The delays from copy 0 on, 1 to 8 of them, strictly rising and each at most 1,024 ticks, and
+    /// a match of 1 to 8,192 ticks.
     pub fn new(delays: &[Tick], length: Tick) -> Stagger
         requires { IsSchedule (record { delays = delays.now; length = length }) }
         ensures { result ≡ record { delays = delays.now; length = length } }
@@ -79,8 +84,8 @@ impl Stagger {
         self.ticks
     }
 
-    /// The tick up to which the copy may go, at the mirror's clock and with the clock of the copy ahead, which says
-    /// nothing for copy 0. The copy is there.
+    /// The tick up to which the copy may go, at the mirror's clock and with the clock of the copy
+    /// ahead, which says nothing for copy 0. The copy is there.
     #[tactic(auto, using(crate::proofs::Limits::limits))]
     pub fn limit(&self, copy: u8, clock: Tick, ahead: Tick) -> Tick
         requires { copy < length self.now.delays }
@@ -90,7 +95,8 @@ impl Stagger {
         if copy == 0 { own } else { own.min(ahead) }
     }
 
-    /// Whether the mirror's clock stands at its end, the match's length plus the longest delay, or past it.
+    /// Whether the mirror's clock stands at its end, the match's length plus the longest delay, or
+    /// past it.
     pub fn at_end(&self, clock: Tick) -> bool
         ensures { result ≡ is_at_end self.now clock }
     {

@@ -10,6 +10,7 @@ pub mod Drain
 mod Played
 pub mod History
 pub mod Room
+pub mod Alike
 pub mod Legal
 pub mod Repairs
 pub mod Arrivals

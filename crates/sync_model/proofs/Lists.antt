@@ -2,9 +2,6 @@
 use Rattle.std.proofs.Common.{◌≡◌, ℕ, zero, suc, ◌⊎◌, Bool, false, List, [], ◌∷◌, ◌++◌, map, length, get_or, set, refl, ap, inl, inr}
 use Rattle.std.specs.List.{AllByRecursion, AllZip, list_any}
 use Rattle.std.proofs.lemmas.Bool.{or_parts}
-use Rattle.game_trait.specs.declared.command.Command.{Command}
-use Rattle.game_trait.specs.Keys.{same_name, NamesDiffer}
-use Rattle.game_trait.proofs.KeyOrder.{same_name-sym}
 use Rattle.sync_model.specs.Lists.{last_of}
 
 pub all-map :
@@ -21,23 +18,11 @@ all-set P f d step [] i h = tt
 all-set P f d step (x ∷ xs) zero h = (step x h.0, h.1)
 all-set P f d step (x ∷ xs) (suc i) h = (h.0, all-set P f d step xs i h.1)
 
-pub all-push : {X : Type 0} (P : X → Type 0) (xs : List X) (x : X) → AllByRecursion P xs → P x → AllByRecursion P (xs ++ x ∷ [])
-all-push P [] x h here = (here, tt)
-all-push P (y ∷ ys) x h here = (h.0, all-push P ys x h.1 here)
-
 -- one element replaced
 pub all-put : {X : Type 0} (P : X → Type 0) (xs : List X) (i : ℕ) (x : X) → AllByRecursion P xs → P x → AllByRecursion P (set xs i x)
 all-put P [] i x h here = tt
 all-put P (y ∷ ys) zero x h here = (here, h.1)
 all-put P (y ∷ ys) (suc i) x h here = (h.0, all-put P ys i x h.1 here)
-
-pub all-to_map : {X Y : Type 0} (P : Y → Type 0) (f : X → Y) (xs : List X) → AllByRecursion (λ x. P (f x)) xs → AllByRecursion P (map f xs)
-all-to_map P f [] h = tt
-all-to_map P f (x ∷ xs) h = (h.0, all-to_map P f xs h.1)
-
-pub all-from_map : {X Y : Type 0} (P : Y → Type 0) (f : X → Y) (xs : List X) → AllByRecursion P (map f xs) → AllByRecursion (λ x. P (f x)) xs
-all-from_map P f [] h = tt
-all-from_map P f (x ∷ xs) h = (h.0, all-from_map P f xs h.1)
 
 -- no element of a front passes a test that none of the whole passes
 pub none-front : {X : Type 0} (p : X → Bool) (xs ys : List X) → list_any p (xs ++ ys) ≡ false → list_any p xs ≡ false
@@ -106,10 +91,8 @@ zip-length P [] (y ∷ ys) h = absurd h
 zip-length P (x ∷ xs) [] h = absurd h
 zip-length P (x ∷ xs) (y ∷ ys) h = ap suc (zip-length P xs ys h.1)
 
--- one command more, of a new name
-pub names-push : (xs : List Command) (x : Command) → NamesDiffer xs → list_any (same_name x) xs ≡ false → NamesDiffer (xs ++ x ∷ [])
-unfolding NamesDiffer
-names-push [] x differ new = (tt, tt)
-names-push (y ∷ ys) x differ new =
-    let parts = or_parts (same_name x y) (list_any (same_name x) ys) new in
-    (all-push (λ z. same_name y z ≡ false) ys x differ.0 (same_name-sym x y parts.0), names-push ys x differ.1 parts.1)
+-- the last of a list is at its last place
+pub last_of-at : {X : Type 0} (x d : X) (xs : List X) → last_of x xs ≡ get_or (x ∷ xs) (length xs) d
+unfolding last_of
+last_of-at x d [] = refl
+last_of-at x d (y ∷ ys) = last_of-at y d ys

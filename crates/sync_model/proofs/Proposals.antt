@@ -14,21 +14,13 @@ use Rattle.game_trait.specs.Run.{beats, commands_of}
 use Rattle.game_trait.specs.Ordered.{due_at, tick_of, ticks, ordered}
 use Rattle.game_trait.specs.Count.{times, within}
 use Rattle.game_trait.proofs.Runs.{beats-append, commands_of-append}
-use Rattle.game_trait.proofs.Counts.{times-append}
+use Rattle.game_trait.proofs.Counts.{times-append, times-apart}
 use Rattle.game_trait.proofs.KeyOrder.{all-in_key_order}
 use Rattle.game_trait.proofs.OrderedParts.{beats-tick_of, times-tick_of, times-ticks}
 use Rattle.sync_model.specs.Settle.{rebuilt}
 use Rattle.sync_model.specs.Change.{with_late, with_tick}
 use Rattle.sync_model.specs.Staggered.{IsComplete, IsNeverEarly}
 use Rattle.sync_model.proofs.Settle.{beats-rebuilt}
-
--- two tests that never pass together count apart
-times-apart :
-    {X : Type 0} (p q r : X → Bool) (xs : List X)
-    → ((x : X) → cond {A = ℕ} (r x) 1 0 ≡ cond {A = ℕ} (p x) 1 0 + cond {A = ℕ} (q x) 1 0) → times r xs ≡ times p xs + times q xs
-unfolding times
-times-apart p q r [] apart = refl
-times-apart p q r (x ∷ xs) apart = omega (arith, apart x, times-apart p q r xs apart)
 
 -- with_late and with_tick, and their beats
 pub with_late-past : (x : Command) (run : List Item) → x.time < beats run → with_late x run ≡ run ++ Cmd x ∷ []

@@ -21,6 +21,7 @@ use Rattle.sync_model.proofs.Trailing.{beats-front, chained-falls, IsBehindAhead
 use Rattle.sync_model.proofs.Drain.{equal_clocks}
 use Rattle.sync_model.proofs.Repairs.{ahead-front, chained-settled, chained-unrepaired, no-marks, count-first, unrepaired-same, none-marked, step-marks, step-chained, front-chained}
 use Rattle.sync_model.proofs.Arrivals.{arrival-marks, count-marks, none-late, falls-all, head-late, last_late-alone, last_late-behind}
+use Rattle.game_trait.proofs.Lists.{all-at}
 
 -- a run rebuilt from a rebuilt one is rebuilt from that one's base
 pub rebuilt_twice :
@@ -181,11 +182,6 @@ last_late-at x (a ∷ rest) (suc m) chained h =
     let some = late-any x rest m more in
     let here = head-late x a rest (falls-all a rest chained) (late-any x (a ∷ rest) (suc m) h) in
     last_late-behind x a rest here some ∙ last_late-at x rest m chained.1 more
-
-all-at : {X : Type 0} (P : X → Type 0) (xs : List X) (i : ℕ) (d : X) → AllByRecursion P xs → i < length xs → P (get_or xs i d)
-all-at P [] i d h there = absurd (omega arith)
-all-at P (x ∷ xs) zero d h there = h.0
-all-at P (x ∷ xs) (suc i) d h there = all-at P xs i d h.1 (omega arith)
 
 -- a run behind is a front of the first
 pub front-at : (a : List Item) (rest : List (List Item)) (i : ℕ) → IsChained (a ∷ rest) → i < length rest → IsPrefix (get_or rest i []) a

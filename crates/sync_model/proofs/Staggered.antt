@@ -16,9 +16,11 @@ use Rattle.sync_model.specs.State.{MirrorState, opening_state, delays_of, last_c
 use Rattle.sync_model.specs.Settle.{settle}
 use Rattle.sync_model.specs.Change.{next, is_over, is_repeat, is_late, is_idle, proposed_by_arrival, proposed_by_step, turned_away, Fits}
 use Rattle.sync_model.specs.Staggered.{greatest_delay, IsStaggered}
-use Rattle.sync_model.proofs.Lists.{all-put, all-push, all-to_map, all-from_map, none-front, none-last, zip-weaker, zip-to_map, zip-from_map, zip-set, names-push}
+use Rattle.sync_model.proofs.Lists.{all-put, none-front, none-last, zip-weaker, zip-to_map, zip-from_map, zip-set}
 use Rattle.sync_model.proofs.Trailing.{IsBehindAhead, trailing-step, beats-step, last-step_up, trailing-arrival, beats-arrival, last-arrival, trailing-opening}
 use Rattle.sync_model.proofs.Cases.{moved, away, taken, ran, restaggered, tick-cases, arrive-cases, step-cases, restagger-cases}
+use Rattle.game_trait.proofs.Lists.{all-push, all-to_map, all-from_map}
+use Rattle.game_trait.proofs.CommandLists.{NamesDiffer-push}
 
 -- no plan has a delay that is greater than the greatest
 pub greatest-most : (plans : List (List ℕ)) (p : ℕ) → longest_delay (get_or plans p []) ≤ greatest_delay plans
@@ -115,7 +117,7 @@ staggered-taken s x within here new due =
             zip-from_map (λ k delay. k ≤ s.clock - delay) beats settled (delays_of s)
             (subst (λ (ks : List ℕ). AllZip (λ k delay. k ≤ s.clock - delay) ks (delays_of s)) (sym clocks)
             (zip-to_map (λ k delay. k ≤ s.clock - delay) beats s.runs (delays_of s) (here.in_bounds.behind_delays (none-front is_restagger s.history (Arrive x ∷ []) unchanged))));
-        names = names-push s.accepted x here.in_bounds.names new;
+        names = NamesDiffer-push s.accepted x here.in_bounds.names new;
         due = all-push (λ y. y.time < s.length) s.accepted x here.in_bounds.due within;
         bounds = subst (λ (run : List Item). AllByRecursion (λ away. away.bound ≤ beats run) s.turned) (sym last) here.in_bounds.bounds;
       };

@@ -35,7 +35,8 @@ is_late s x = nat_lt x.time (last_clock s.runs)
 abbrev pub is_idle : {W : Type 0} → MirrorState W → ℕ → Bool
 is_idle s c = nat_le (step_limit s c) (copy_clock s.runs c)
 
--- the run with the command at its end where the run's clock is past the command's time, and else the run
+-- the run with the command at its end where the run's clock is past the command's time, and else
+-- the run
 unfoldable pub with_late : Command → List Item → List Item
 with_late x run = if nat_lt x.time (beats run) then run ++ Cmd x ∷ [] else run
 
@@ -57,11 +58,16 @@ turned_away s x = record { from = x.from; number = x.number; bound = last_clock 
 
 -- the state after an event
 unfoldable pub next : {W : Type 0} → MirrorState W → Event → MirrorState W
-next s Tick = if is_over s then s else record s { clock = s.clock + 1; history = s.history ++ Tick ∷ [] }
+next s Tick =
+    if is_over s then s else record s { clock = s.clock + 1; history = s.history ++ Tick ∷ [] }
 next s (Arrive x) =
     if is_repeat s x then s
     else if is_late s x
-    then record s { turned = s.turned ++ turned_away s x ∷ []; history = s.history ++ Arrive x ∷ []; spare = s.spare - 1 }
+    then record s {
+      turned = s.turned ++ turned_away s x ∷ [];
+      history = s.history ++ Arrive x ∷ [];
+      spare = s.spare - 1;
+    }
     else record s {
       accepted = s.accepted ++ x ∷ [];
       runs = settle (s.accepted ++ x ∷ []) (proposed_by_arrival x s.runs);
@@ -70,8 +76,12 @@ next s (Arrive x) =
     }
 next s (Step c) =
     if is_idle s c then s
-    else record s { runs = settle s.accepted (proposed_by_step s.accepted s.runs c); history = s.history ++ Step c ∷ [] }
-next s (Restagger p) = record s { plan = p; history = s.history ++ Restagger p ∷ []; plan_spare = s.plan_spare - 1 }
+    else record s {
+      runs = settle s.accepted (proposed_by_step s.accepted s.runs c);
+      history = s.history ++ Step c ∷ [];
+    }
+next s (Restagger p) =
+    record s { plan = p; history = s.history ++ Restagger p ∷ []; plan_spare = s.plan_spare - 1 }
 
 -- the answer to an event
 unfoldable pub said : {W : Type 0} → MirrorState W → Event → Reply
@@ -81,7 +91,9 @@ said s (Arrive x) =
     if is_repeat s x then Repeat
     else if is_late s x then Late (last_clock s.runs)
     else Taken (repaired (s.accepted ++ x ∷ []) (proposed_by_arrival x s.runs)))
-said s (Step c) = ToStep (if is_idle s c then Idle else Ran (repaired s.accepted (proposed_by_step s.accepted s.runs c)))
+said s (Step c) =
+    ToStep (if is_idle s c then Idle
+    else Ran (repaired s.accepted (proposed_by_step s.accepted s.runs c)))
 said s (Restagger p) = Restaggered
 
 -- an event that may be made: the command is due within the match, the copy or the plan is there

@@ -4,8 +4,8 @@ use Rattle.sync_model.specs.Staggered.{IsStaggered}
 use Rattle.sync_model.specs.WellFormed.{IsWellFormed}
 use Rattle.sync_model.specs.History.{EachChanges, first_state, IsFromHistory}
 
--- a mirror is staggered, its fixed parts are those of a match, and its state is the one that its history leads to, of which
--- each event changed the state in which it stood
+-- a mirror is staggered, its fixed parts are those of a match, and its state is the one that its
+-- history leads to, of which each event changed the state in which it stood
 pub record IsConsistent {W : Type 0} (s : MirrorState W) : Type 0 where
   pub staggered : IsStaggered s
   pub well_formed : IsWellFormed s

@@ -1,4 +1,5 @@
--- Ticks that are executed away from their mirror: which events make one stale, and when one still fits.
+-- Ticks that are executed away from their mirror: which events make one stale, and when one still
+-- fits.
 use Rattle.std.specs.Prelude.{◌≡◌, ℕ, ◌+◌, ◌<◌, ◌≤◌, Bool, not, ◌||◌, if◌then◌else◌, List, [], ◌∷◌, ◌++◌, map, length, slice_index_or}
 use Rattle.std.specs.Cmp.Lexicographic.{pointwise}
 use Rattle.game_trait.specs.declared.command.Command.{Command}
@@ -29,7 +30,9 @@ tick_at s c accepted = tick_of accepted (copy_clock s.runs c)
 
 -- from one state to another a copy's run changes, or the commands due at the tick at which it stood
 abbrev pub differs : {W : Type 0} → MirrorState W → MirrorState W → ℕ → Bool
-differs s t c = not (same_items (run_of s c) (run_of t c)) || not (same_items (tick_at s c s.accepted) (tick_at s c t.accepted))
+differs s t c =
+    not (same_items (run_of s c) (run_of t c))
+    || not (same_items (tick_at s c s.accepted) (tick_at s c t.accepted))
 
 -- an event renews a copy: a tick of it that was drafted before is stale
 abbrev pub renews : {W : Type 0} → MirrorState W → ℕ → Event → Bool
@@ -46,7 +49,8 @@ epoch s c = renewals (first_state s) c s.history
 
 -- ---- drafts
 
--- a tick to be executed away from the mirror: the copy, its epoch, its clock and its world, and the tick's commands in key order
+-- a tick to be executed away from the mirror: the copy, its epoch, its clock and its world, and the
+-- tick's commands in key order
 pub record DraftTick (W : Type 0) : Type 0 where
   pub copy : ℕ
   pub epoch : ℕ
@@ -54,7 +58,8 @@ pub record DraftTick (W : Type 0) : Type 0 where
   pub world : W
   pub commands : List Command
 
--- the same tick, executed: the copy with its epoch and its clock before the tick, and the world after it
+-- the same tick, executed: the copy with its epoch and its clock before the tick, and the world
+-- after it
 pub record ReadyTick (W : Type 0) : Type 0 where
   pub copy : ℕ
   pub epoch : ℕ
@@ -83,13 +88,16 @@ ready_of rules d =
     }
 
 -- a ready tick is the due tick of its copy, which may run it
-pub record IsDueTick {W : Type 0} (rules : Rules W) (s : MirrorState W) (r : ReadyTick W) : Type 0 where
+pub record IsDueTick {W : Type 0} (rules : Rules W) (s : MirrorState W)
+    (r : ReadyTick W) : Type 0 where
   pub clock : r.clock ≡ copy_clock s.runs r.copy
   pub below_limit : copy_clock s.runs r.copy < step_limit s r.copy
   pub world : r.world ≡ world_of rules s.opening (with_tick s.accepted (run_of s r.copy))
 
--- a ready tick fits a state: its epoch is one that its copy has had, and where it has it still, the tick is the copy's due tick
-pub record FitsReady {W : Type 0} (rules : Rules W) (s : MirrorState W) (r : ReadyTick W) : Type 0 where
+-- a ready tick fits a state: its epoch is one that its copy has had, and where it has it still, the
+-- tick is the copy's due tick
+pub record FitsReady {W : Type 0} (rules : Rules W) (s : MirrorState W)
+    (r : ReadyTick W) : Type 0 where
   pub there : r.copy < length s.runs
   pub had : r.epoch ≤ epoch s r.copy
   pub due : r.epoch ≡ epoch s r.copy → IsDueTick rules s r

@@ -31,7 +31,8 @@ without_room s = with_room s 0 0
 
 -- the state that a history leads to from the opening of a match, with its room left out
 abbrev pub state_after : {W : Type 0} → W → ℕ → List (List ℕ) → List Event → MirrorState W
-state_after opening length plans history = without_room (after (opening_state opening length plans 0 0) history)
+state_after opening length plans history =
+    without_room (after (opening_state opening length plans 0 0) history)
 
 -- a mirror of the same match before any event, without room
 abbrev pub first_state : {W : Type 0} → MirrorState W → MirrorState W
@@ -41,11 +42,12 @@ first_state s = opening_state s.opening s.length s.plans 0 0
 abbrev pub IsReached : {W : Type 0} → MirrorState W → Type 0
 IsReached s = without_room s ≡ state_after s.opening s.length s.plans s.history
 
--- the state that a mirror began with: its room was what is left, and one for each arrival and each change of the plan in its
--- history
+-- the state that a mirror began with: its room was what is left, and one for each arrival and each
+-- change of the plan in its history
 abbrev pub opening_of : {W : Type 0} → MirrorState W → MirrorState W
 opening_of s =
-    opening_state s.opening s.length s.plans (s.spare + times is_arrival s.history) (s.plan_spare + times is_restagger s.history)
+    opening_state s.opening s.length s.plans (s.spare + times is_arrival s.history)
+    (s.plan_spare + times is_restagger s.history)
 
 -- a state is, with its room, the one that its history leads to
 abbrev pub IsFromHistory : {W : Type 0} → MirrorState W → Type 0

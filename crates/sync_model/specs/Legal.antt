@@ -16,13 +16,17 @@ NamesWhatIsThere commands s (Arrive x) = Contains commands x
 NamesWhatIsThere commands s (Step c) = c < length s.runs
 NamesWhatIsThere commands s (Restagger p) = p < length s.plans
 
--- a legal history of a match with these commands: each event changes the state in which it stands, and each names what is there
-pub record IsLegal {W : Type 0} (commands : List Command) (s : MirrorState W) (log : List Event) : Type 0 where
+-- a legal history of a match with these commands: each event changes the state in which it stands,
+-- and each names what is there
+pub record IsLegal {W : Type 0} (commands : List Command) (s : MirrorState W)
+    (log : List Event) : Type 0 where
   pub changes : EachChanges s log
   pub there : AllByRecursion (NamesWhatIsThere commands s) log
 
--- a log of a mirror from a start on: it is legal, the mirror is staggered after each front of it, and it leads to the state
-pub record IsLog {W : Type 0} (commands : List Command) (start s : MirrorState W) (log : List Event) : Type 0 where
+-- a log of a mirror from a start on: it is legal, the mirror is staggered after each front of it,
+-- and it leads to the state
+pub record IsLog {W : Type 0} (commands : List Command) (start s : MirrorState W)
+    (log : List Event) : Type 0 where
   pub legal : IsLegal commands start log
   pub staggered : (n : ℕ) → IsStaggered (after start (take n log))
   pub leads : after start log ≡ s

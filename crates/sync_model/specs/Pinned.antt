@@ -59,11 +59,13 @@ small_match o = opening_state o 4 ((0 ∷ 1 ∷ []) ∷ (0 ∷ 2 ∷ []) ∷ [])
 
 -- at this clock, with these accepted commands and runs
 abbrev pub small_state : {W : Type 0} → W → ℕ → List Command → List (List Item) → MirrorState W
-small_state o clock accepted runs = record (small_match o) { clock = clock; accepted = accepted; runs = runs }
+small_state o clock accepted runs =
+    record (small_match o) { clock = clock; accepted = accepted; runs = runs }
 
 -- copy 0 ran the command of tick 0 after its beat, copy 1 before
 abbrev pub unchained : {W : Type 0} → W → MirrorState W
-unchained o = small_state o 2 (go_at 0 ∷ []) ((Beat ∷ Cmd (go_at 0) ∷ []) ∷ (Cmd (go_at 0) ∷ Beat ∷ []) ∷ [])
+unchained o =
+    small_state o 2 (go_at 0 ∷ []) ((Beat ∷ Cmd (go_at 0) ∷ []) ∷ (Cmd (go_at 0) ∷ Beat ∷ []) ∷ [])
 
 -- copy 0 ended tick 0 without its command
 abbrev pub lacking : {W : Type 0} → W → MirrorState W
@@ -88,7 +90,8 @@ last_too_late o = small_state o 2 (go_at 0 ∷ []) (replicate 2 (Beat ∷ Cmd (g
 -- both copies ran the two commands of tick 0 against their key order
 abbrev pub last_unsorted : {W : Type 0} → W → MirrorState W
 last_unsorted o =
-    small_state o 2 (go_first 1 ∷ go_first 0 ∷ []) (replicate 2 (Cmd (go_first 1) ∷ Cmd (go_first 0) ∷ Beat ∷ []))
+    small_state o 2 (go_first 1 ∷ go_first 0 ∷ [])
+    (replicate 2 (Cmd (go_first 1) ∷ Cmd (go_first 0) ∷ Beat ∷ []))
 
 -- copy 0 ran the command of tick 1 in tick 0
 abbrev pub too_early : {W : Type 0} → W → MirrorState W
@@ -100,7 +103,8 @@ past_match o = small_state o 5 [] (beat 5 ∷ [] ∷ [])
 
 -- the plan was changed, and copy 0 is past the mirror's clock
 abbrev pub past_clock : {W : Type 0} → W → MirrorState W
-past_clock o = record (small_state o 1 [] (beat 2 ∷ [] ∷ [])) { plan = 1; history = Restagger 1 ∷ Tick ∷ [] }
+past_clock o =
+    record (small_state o 1 [] (beat 2 ∷ [] ∷ [])) { plan = 1; history = Restagger 1 ∷ Tick ∷ [] }
 
 -- the clock is past its end under every plan
 abbrev pub past_end : {W : Type 0} → W → MirrorState W
@@ -124,7 +128,10 @@ never_due o = small_state o 0 (go_at 4 ∷ []) (replicate 2 [])
 
 -- a command was turned away with the clock of copy 0 as its bound
 abbrev pub wrong_bound : {W : Type 0} → W → MirrorState W
-wrong_bound o = record (small_state o 1 [] (beat 1 ∷ [] ∷ [])) { turned = record { from = 0; number = 0; bound = 1 } ∷ [] }
+wrong_bound o =
+    record (small_state o 1 [] (beat 1 ∷ [] ∷ [])) {
+      turned = record { from = 0; number = 0; bound = 1 } ∷ [];
+    }
 
 -- no copy, the second or the first has a tick of the match to go
 abbrev pub all_done : {W : Type 0} → W → MirrorState W
@@ -173,7 +180,8 @@ parts_of_well_formed s = ArePlans s.plans s.length (length s.runs) ∷ (s.plan <
 -- ---- legal histories
 
 abbrev pub parts_of_legal : {W : Type 0} → List Command → MirrorState W → List Event → List (Type 0)
-parts_of_legal commands s log = EachChanges s log ∷ AllByRecursion (NamesWhatIsThere commands s) log ∷ []
+parts_of_legal commands s log =
+    EachChanges s log ∷ AllByRecursion (NamesWhatIsThere commands s) log ∷ []
 
 -- a command of tick 1 arrives twice
 abbrev pub arrives_twice : List Event
@@ -194,7 +202,8 @@ parts_of_due_tick rules s r =
 
 abbrev pub parts_of_ready : {W : Type 0} → Rules W → MirrorState W → ReadyTick W → List (Type 0)
 parts_of_ready rules s r =
-    (r.copy < length s.runs) ∷ (r.epoch ≤ epoch s r.copy) ∷ (r.epoch ≡ epoch s r.copy → IsDueTick rules s r) ∷ []
+    (r.copy < length s.runs) ∷ (r.epoch ≤ epoch s r.copy)
+    ∷ (r.epoch ≡ epoch s r.copy → IsDueTick rules s r) ∷ []
 
 -- a game whose world counts the beats
 abbrev pub counting : Rules ℕ

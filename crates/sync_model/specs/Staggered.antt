@@ -23,12 +23,15 @@ unfoldable pub IsChained : List (List Item) → Type 0
 IsChained [] = Unit {0}
 IsChained (run ∷ behind) = IsAhead run behind × IsChained behind
 
--- a run has each accepted command that is older than its clock exactly once, and no other: any test passes as often on either side
+-- a run has each accepted command that is older than its clock exactly once, and no other: any test
+-- passes as often on either side
 unfoldable pub IsComplete : List Command → List Item → Type 0
 IsComplete accepted run =
-    (test : Command → Bool) → times test (commands_of run) ≡ times (λ x. test x && nat_lt x.time (beats run)) accepted
+    (test : Command → Bool)
+    → times test (commands_of run) ≡ times (λ x. test x && nat_lt x.time (beats run)) accepted
 
--- after so many beats, each command of the rest of a run stands after at least as many beats as its time
+-- after so many beats, each command of the rest of a run stands after at least as many beats as its
+-- time
 unfoldable pub IsNeverEarly : ℕ → List Item → Type 0
 IsNeverEarly n [] = Unit {0}
 IsNeverEarly n (Cmd x ∷ rest) = (x.time ≤ n) × IsNeverEarly n rest
@@ -50,7 +53,8 @@ greatest_delay (delays ∷ plans) = max (longest_delay delays) (greatest_delay p
 abbrev pub IsUnchangedPlan : {W : Type 0} → MirrorState W → Type 0
 IsUnchangedPlan s = list_any is_restagger s.history ≡ false
 
--- what is true of the clocks, of the commands' names and times, and of the bounds of what was turned away
+-- what is true of the clocks, of the commands' names and times, and of the bounds of what was
+-- turned away
 pub record IsInBounds {W : Type 0} (s : MirrorState W) : Type 0 where
   -- each copy's clock is at most the match's length, and at most the mirror's clock
   pub within_match : AllByRecursion (λ run. beats run ≤ s.length) s.runs
@@ -58,7 +62,8 @@ pub record IsInBounds {W : Type 0} (s : MirrorState W) : Type 0 where
   -- the mirror's clock is at most the length plus the greatest delay of all plans
   pub before_end : s.clock ≤ s.length + greatest_delay s.plans
   -- where the plan was never changed, each copy is its delay or more behind the mirror's clock
-  pub behind_delays : IsUnchangedPlan s → AllZip (λ run delay. beats run ≤ s.clock - delay) s.runs (delays_of s)
+  pub behind_delays : IsUnchangedPlan s
+      → AllZip (λ run delay. beats run ≤ s.clock - delay) s.runs (delays_of s)
   -- the accepted commands have different names, and are due within the match
   pub names : NamesDiffer s.accepted
   pub due : AllByRecursion (λ x. x.time < s.length) s.accepted

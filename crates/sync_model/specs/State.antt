@@ -10,8 +10,8 @@ use Rattle.sync_model.specs.Schedule.{Schedule, limit_at}
 
 -- a mirror of a match
 pub record MirrorState (W : Type 0) : Type 0 where
-  -- the opening world, the match's length in ticks, and its plans of delays, each with a delay for every copy from copy 0 on,
-  -- which no event changes
+  -- the opening world, the match's length in ticks, and its plans of delays, each with a delay for
+  -- every copy from copy 0 on, which no event changes
   pub opening : W
   pub length : ℕ
   pub plans : List (List ℕ)

@@ -56,7 +56,8 @@ pub record SameArrivals {W : Type 0} (s t : MirrorState W) : Type 0 where
   pub spare : t.spare ≡ s.spare
   pub plan_spare : t.plan_spare ≡ s.plan_spare
 
--- what draining comes to: every copy has run the whole match, and its run is the ordered part of what was accepted before
+-- what draining comes to: every copy has run the whole match, and its run is the ordered part of
+-- what was accepted before
 pub record EndsInOrder {W : Type 0} (s : MirrorState W) : Type 0 where
   pub drained : IsDrained (drain s)
   pub arrivals : SameArrivals s (drain s)

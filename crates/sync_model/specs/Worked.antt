@@ -109,7 +109,8 @@ answers_after s es more = answers (after s es) more
 abbrev pub runs_after : {W : Type 0} → MirrorState W → List Event → List (List Item)
 runs_after s es = (after s es).runs
 
--- what a mirror comes to once drained: how many commands it accepted and turned away, how many copies
+-- what a mirror comes to once drained: how many commands it accepted and turned away, how many
+-- copies
 -- it repaired, and its runs
 pub record Outcome : Type 0 where
   pub accepted : ℕ

@@ -1,5 +1,7 @@
-//! The parts of each definition of what is good, pinned: for each part there is something small that
-//! breaks it alone, and so isn't good, by computation. A part that was left out would be missed here.
+//! The parts of each definition of what is good, pinned: for each part there is something small
+//! that
+//! breaks it alone, and so isn't good, by computation. A part that was left out would be missed
+//! here.
 
 ghost use Rattle.std.specs.Prelude.{◌≡◌, ◌↔◌, ℕ, List, [], ◌∷◌, ◌++◌, replicate};
 ghost use Rattle.game_trait.specs.declared.command.Command.{Command};
@@ -163,7 +165,8 @@ pub fn ready_parts<G: Game>()
     ensures due { FitsReady counting (counted_after (Tick ∷ [])) (ready 0 0 0 1) }
     ensures over { FitsReady counting (counted_after (Tick ∷ Step 0 ∷ [])) (ready 0 0 5 7) }
     ensures third_copy { (FitsReady counting (counted_after (Restagger 0 ∷ [])) (ready 2 0 0 1) → ⊥)
-        × AllHoldBut 0 (parts_of_ready counting (counted_after (Restagger 0 ∷ [])) (ready 2 0 0 1)) }
+        × AllHoldBut 0
+        (parts_of_ready counting (counted_after (Restagger 0 ∷ [])) (ready 2 0 0 1)) }
     ensures later_epoch { (FitsReady counting (counted_after (Tick ∷ [])) (ready 0 1 0 1) → ⊥)
         × AllHoldBut 1 (parts_of_ready counting (counted_after (Tick ∷ [])) (ready 0 1 0 1)) }
     ensures not_due { (FitsReady counting (counted_after (Tick ∷ [])) (ready 0 0 0 2) → ⊥)

@@ -34,7 +34,8 @@ pub fn just_in_time<G: Game>()
         ≡ record { accepted = 1; turned = 0; repairs = 0; runs = run_with (go_at 2) 2 4 ∷ [] } }
 {}
 
-/// The clocks are 3, 1 and 0, and the command's time is 1: it is late at copy 0 alone. Copy 0 is repaired when copy 1 runs tick 1.
+/// The clocks are 3, 1 and 0, and the command's time is 1: it is late at copy 0 alone. Copy 0 is
+/// repaired when copy 1 runs tick 1.
 pub fn late_at_the_leading_copy<G: Game>()
     ensures answer { (o : G)
         → answer_after (three_copies o) (turns_of 3 3) (Arrive (go_at 1)) ≡ ToArrive (Taken 0) }
@@ -67,8 +68,8 @@ pub fn repaired_by_the_next_copy<G: Game>()
         } }
 {}
 
-/// The same, with a command of tick 2 that is late at copy 0 too: when copy 0 is repaired, what it executes again has the newcomer
-/// in its place.
+/// The same, with a command of tick 2 that is late at copy 0 too: when copy 0 is repaired, what it
+/// executes again has the newcomer in its place.
 pub fn newcomers_are_replayed<G: Game>()
     ensures runs { (o : G) → runs_after (three_copies o) both_late
         ≡ (beat 3 ++ Cmd (go_at 1) ∷ Cmd go_next ∷ []) ∷ beat 1 ∷ [] ∷ [] }
@@ -80,8 +81,8 @@ pub fn newcomers_are_replayed<G: Game>()
         ≡ record { accepted = 2; turned = 0; repairs = 1; runs = replicate 3 (run_both 8) } }
 {}
 
-/// The clocks are 5, 3 and 1: the command is late at copies 0 and 1, and copy 0 is repaired at once. When copy 2 runs tick 1, both
-/// copies ahead are repaired.
+/// The clocks are 5, 3 and 1: the command is late at copies 0 and 1, and copy 0 is repaired at
+/// once. When copy 2 runs tick 1, both copies ahead are repaired.
 pub fn repaired_twice<G: Game>()
     ensures arrival { (o : G)
         → answer_after (three_copies o) (turns_of 3 5) (Arrive (go_at 1)) ≡ ToArrive (Taken 1) }
@@ -101,8 +102,8 @@ pub fn repaired_twice<G: Game>()
         } }
 {}
 
-/// Copies 0 and 1 both have clock 3: the command is put at the end of both, and nothing is repaired before copy 2 runs tick 1. That
-/// one step repairs both copies.
+/// Copies 0 and 1 both have clock 3: the command is put at the end of both, and nothing is repaired
+/// before copy 2 runs tick 1. That one step repairs both copies.
 pub fn equal_clocks<G: Game>()
     ensures answer { (o : G)
         → answer_after (three_copies o) level (Arrive (go_at 1)) ≡ ToArrive (Taken 0) }
@@ -151,7 +152,8 @@ pub fn repeat_and_late_again<G: Game>()
         ≡ record { accepted = 0; turned = 2; repairs = 0; runs = beat 4 ∷ [] } }
 {}
 
-/// A command that the copy has run past is a repeat where it was accepted: that is asked before whether it is late.
+/// A command that the copy has run past is a repeat where it was accepted: that is asked before
+/// whether it is late.
 pub fn repeat_before_late<G: Game>()
     ensures answer { (o : G)
         → answer_after (one_copy o) (Arrive (go_at 2) ∷ turns_of 1 3) (Arrive (go_at 2))
@@ -186,8 +188,9 @@ pub fn command_for_later<G: Game>()
         } }
 {}
 
-/// Two commands of one tick arrive here against their key order, the second after copy 0 ran that tick: copy 0 is repaired when
-/// copy 1 runs it. Where both arrive before, in either order, nothing is repaired.
+/// Two commands of one tick arrive here against their key order, the second after copy 0 ran that
+/// tick: copy 0 is repaired when copy 1 runs it. Where both arrive before, in either order, nothing
+/// is repaired.
 pub fn opposite_orders<G: Game>()
     ensures answer { (o : G)
         → answer_after (two_copies o) (Arrive (go_first 1) ∷ turns_of 2 1) (Arrive (go_first 0))
@@ -224,7 +227,8 @@ pub fn opposite_orders<G: Game>()
         } }
 {}
 
-/// Of two commands of one tick the one from the lower mirror comes first, whatever their numbers and whichever arrives first.
+/// Of two commands of one tick the one from the lower mirror comes first, whatever their numbers
+/// and whichever arrives first.
 pub fn mirror_before_number<G: Game>()
     ensures first { (o : G)
         → outcome (two_copies o) (Arrive (go_named 0 5) ∷ Arrive (go_named 1 0) ∷ [])
@@ -244,8 +248,8 @@ pub fn mirror_before_number<G: Game>()
         } }
 {}
 
-/// The clocks are 5, 3 and 1, where no copy behind copy 0 could step. A plan of half the delays leaves copy 1 one step and copy 2
-/// two, and the command of tick 1 is late then.
+/// The clocks are 5, 3 and 1, where no copy behind copy 0 could step. A plan of half the delays
+/// leaves copy 1 one step and copy 2 two, and the command of tick 1 is late then.
 pub fn restagger_forward<G: Game>()
     ensures before { (o : G)
         → runs_after (closer_plan o) (turns_of 3 5) ≡ beat 5 ∷ beat 3 ∷ beat 1 ∷ [] }
@@ -271,8 +275,8 @@ pub fn restagger_forward<G: Game>()
         ≡ record { accepted = 0; turned = 1; repairs = 0; runs = replicate 3 (beat 8) } }
 {}
 
-/// A plan of twice the delays leaves copies 1 and 2, at 3 and 1, further than they might go: they stand still. The command of tick
-/// 1 is taken, and repaired as ever.
+/// A plan of twice the delays leaves copies 1 and 2, at 3 and 1, further than they might go: they
+/// stand still. The command of tick 1 is taken, and repaired as ever.
 pub fn restagger_back<G: Game>()
     ensures still { (o : G)
         → answers_after (wider_plan o) (turns_of 3 5 ++ Restagger 1 ∷ []) (turn_events 3)
@@ -300,7 +304,8 @@ pub fn restagger_back<G: Game>()
         } }
 {}
 
-/// After one tick the copy's epoch is 0, and a step of it makes it 1: what was drafted before is stale.
+/// After one tick the copy's epoch is 0, and a step of it makes it 1: what was drafted before is
+/// stale.
 pub fn draft_made_stale_by_a_step<G: Game>()
     ensures before { (o : G) → epoch (after (one_copy o) (Tick ∷ [])) 0 ≡ 0 }
     ensures stepped { (o : G) → epoch (after (one_copy o) (Tick ∷ Step 0 ∷ [])) 0 ≡ 1 }
@@ -311,27 +316,33 @@ pub fn draft_survives_an_early_arrival<G: Game>()
     ensures { (o : G) → epoch (after (one_copy o) (Tick ∷ Arrive (go_at 2) ∷ [])) 0 ≡ 0 }
 {}
 
-/// After three ticks and two steps the copy's clock is 2, and so is its epoch. The command of tick 2 isn't late, but is due
-/// at the tick at which the copy stands: the epoch is 3. A second arrival of it is a repeat, and leaves that.
+/// After three ticks and two steps the copy's clock is 2, and so is its epoch. The command of tick
+/// 2 isn't late, but is due at the tick at which the copy stands: the epoch is 3. A second arrival
+/// of it is a repeat, and leaves that.
 pub fn draft_made_stale_by_a_late_arrival<G: Game>()
     ensures before { (o : G)
         → epoch (after (one_copy o) (replicate 3 Tick ++ replicate 2 (Step 0))) 0 ≡ 2 }
     ensures arrived { (o : G)
-        → epoch (after (one_copy o) (replicate 3 Tick ++ replicate 2 (Step 0) ++ Arrive (go_at 2) ∷ [])) 0
+        → epoch (after (one_copy o)
+        (replicate 3 Tick ++ replicate 2 (Step 0) ++ Arrive (go_at 2) ∷ [])) 0
         ≡ 3 }
     ensures again { (o : G)
-        → epoch (after (one_copy o) (replicate 3 Tick ++ replicate 2 (Step 0) ++ replicate 2 (Arrive (go_at 2)))) 0
+        → epoch (after (one_copy o)
+        (replicate 3 Tick ++ replicate 2 (Step 0) ++ replicate 2 (Arrive (go_at 2)))) 0
         ≡ 3 }
 {}
 
-/// Copy 1 runs tick 1, which repairs copy 0 and renews both; copy 2 isn't renewed. A change of the plan renews all.
+/// Copy 1 runs tick 1, which repairs copy 0 and renews both; copy 2 isn't renewed. A change of the
+/// plan renews all.
 pub fn drafts_made_stale_by_a_repair<G: Game>()
     ensures before { (o : G)
         → map (epoch (after (three_copies o) late_after_three)) (0 ∷ 1 ∷ 2 ∷ []) ≡ 4 ∷ 2 ∷ 0 ∷ [] }
     ensures repaired { (o : G)
-        → map (epoch (after (three_copies o) (late_after_three ++ Tick ∷ Step 1 ∷ []))) (0 ∷ 1 ∷ 2 ∷ [])
+        → map (epoch (after (three_copies o) (late_after_three ++ Tick ∷ Step 1 ∷ [])))
+        (0 ∷ 1 ∷ 2 ∷ [])
         ≡ 5 ∷ 3 ∷ 0 ∷ [] }
     ensures restaggered { (o : G)
-        → map (epoch (after (three_copies o) (late_after_three ++ Restagger 0 ∷ []))) (0 ∷ 1 ∷ 2 ∷ [])
+        → map (epoch (after (three_copies o) (late_after_three ++ Restagger 0 ∷ [])))
+        (0 ∷ 1 ∷ 2 ∷ [])
         ≡ 5 ∷ 3 ∷ 1 ∷ [] }
 {}

@@ -8,7 +8,7 @@ use Rattle.std.proofs.lemmas.Slice.Eq.{bytes_eq-Decides}
 use Rattle.std.proofs.lemmas.Fmt.{length-decimal-le, decimal_by_steps}
 use Rattle.tss_io.specs.Decimals.{number_of}
 use Rattle.tss_io.specs.Results.{◌>>=◌}
-use Rattle.tss_io.proofs.Results.{bind_ok, then, guard_ok, unless_ok, unless_then}
+use Rattle.tss_io.proofs.Results.{bind_ok, then, guard_ok, unless_ok, unless_then, ok_is}
 use Rattle.tss_io.proofs.DecimalLaws.{number_of-some, number_of-decimal}
 use Rattle.tss_io.specs.declared.cause.Cause.{Cause}
 use Rattle.tss_io.specs.declared.cause.Cause.TheVariants.{Shape, Number}
@@ -36,7 +36,7 @@ unless_err false d c y e = cc
 
 -- ---- fields
 
--- A field is exact for values that fit: both directions, the length of a word, and which faults there are.
+-- a field is exact for values that fit: both directions, the length of a word, and which faults there are
 pub record ExactField {R A : Type 0} (f : Field R A) (Fits : A → Type 0) (longest : A → ℕ) : Type 0 where
   pub takes : (w : List ℕ) (r : R) (a : A) → is_word w ≡ true → f.see w ≡ Ok r → f.value r ≡ Ok a → (w ≡ f.word a) × Fits a
   pub again : (a : A) → Fits a → (r : R) × (f.see (f.word a) ≡ Ok r) × (f.value r ≡ Ok a)
@@ -77,13 +77,10 @@ decimal-some n small = decimal_by_steps (λ _ ds. 0 < length ds) (λ n lt. omega
 decimal_is_word : (n : ℕ) → n < 2 ^ 64 → is_word (decimal n) ≡ true
 decimal_is_word n small = is_word-some (decimal n) (decimal-some n small) (IsWord-decimal n small)
 
-same_ok : {A : Type 0} (x y : A) → ◌≡◌ {A = Result A Cause} (Ok x) (Ok y) → x ≡ y
-same_ok x y e = cc
-
 -- numbers in a range of at most so many digits
 pub number_exact : (least most digits : ℕ) → 0 < digits → most < 10 ^ digits → most < 2 ^ 64 → ExactField (number least most) (InRange least most) (λ _. digits)
 number_exact least most digits some small word = record {
-  takes = λ w r n _ see e. let t = number_takes least most r n e in (same_ok w r see ∙ t.0, t.1);
+  takes = λ w r n _ see e. let t = number_takes least most r n e in (ok_is w r see ∙ t.0, t.1);
   again = λ n h. (decimal n, refl, number_again least most n word h);
   fit = λ n h. let up = h.1 in decimal_is_word n (omega arith);
   short = λ n h. let up = h.1 in length-decimal-le digits n some (omega arith) (omega arith);
@@ -101,7 +98,7 @@ picked_takes : {A : Type 0} (word : A → List ℕ) (values : List A) (w : List 
 picked_takes word [] w a e = absurd cc
 picked_takes word (b ∷ values) w a e =
     elim (bytes_eq w (word b)) as (λ t. bytes_eq w (word b) ≡ t → cond t (Ok b) (picked word values w) ≡ Ok a → w ≡ word a) [
-      | true ↦ λ t e. same_words w (word b) t ∙ ap word (same_ok b a e)
+      | true ↦ λ t e. same_words w (word b) t ∙ ap word (ok_is b a e)
       | false ↦ λ t e. picked_takes word values w a e
     ] refl e
 
@@ -117,7 +114,7 @@ picked_fits : {A : Type 0} (P : A → Type 0) (word : A → List ℕ) (values : 
 picked_fits P word [] w a all e = absurd cc
 picked_fits P word (b ∷ values) w a all e =
     elim (bytes_eq w (word b)) as (λ t. cond t (Ok b) (picked word values w) ≡ Ok a → P a) [
-      | true ↦ λ e. subst P (same_ok b a e) all.0
+      | true ↦ λ e. subst P (ok_is b a e) all.0
       | false ↦ λ e. picked_fits P word values w a all.1 e
     ] e
 
@@ -137,7 +134,7 @@ choice_exact {P = P} word values longest fits all short = record {
 -- a word that is looked at later
 pub any_word_exact : ExactField any_word (λ w. is_word w ≡ true) length
 any_word_exact = record {
-  takes = λ w r a word see e. let same : w ≡ a = same_ok w r see ∙ same_ok r a e in (same, subst (λ (v : List ℕ). is_word v ≡ true) same word);
+  takes = λ w r a word see e. let same : w ≡ a = ok_is w r see ∙ ok_is r a e in (same, subst (λ (v : List ℕ). is_word v ≡ true) same word);
   again = λ a h. (a, refl, refl);
   fit = λ a h. h;
   short = λ a h. omega arith;
@@ -224,8 +221,8 @@ then_exact {R = R} {A = A} {Q = Q} {B = B} {f = f} {g = g} {P = P} {S = S} x y =
   takes = λ ws r a see e.
       through _ _ _ see (λ front front_is see. through _ _ _ see (λ r0 r0_is see. through _ _ _ see (λ q q_is same.
       through _ _ _ e (λ a0 a0_is e. through _ _ _ e (λ b b_is e.
-      let seen : ◌≡◌ {A = R × Q} (r0, q) r = same_ok (r0, q) r same in
-      let valued : ◌≡◌ {A = A × B} (a0, b) a = same_ok (a0, b) a e in
+      let seen : ◌≡◌ {A = R × Q} (r0, q) r = ok_is (r0, q) r same in
+      let valued : ◌≡◌ {A = A × B} (a0, b) a = ok_is (a0, b) a e in
       let t = x.takes front.0 r0 a0 (front_word ws front front_is) r0_is (ap (λ (p : R × Q). f.value p.0) seen ∙ a0_is) in
       let u = y.takes front.1 q b q_is (ap (λ (p : R × Q). g.value p.1) seen ∙ b_is) in
       subst (λ (p : A × B). (ws ≡ f.word p.0 ∷ g.words p.1) × (P p.0 × S p.1)) valued (front_takes ws front front_is ∙ rw (t.0, u.0) refl, (t.1, u.1)))))));
@@ -247,7 +244,7 @@ pub made_exact : {R A B : Type 0} {f : Form R A} {P : A → Type 0} {n : A → �
 made_exact {f = f} {P = P} to back there here x = record {
   takes = λ ws r b see e. through _ _ _ e (λ a a_is e.
       let t = x.takes ws r a see a_is in
-      let k : a ≡ back b = sym (there a) ∙ ap back (same_ok (to a) b e) in
+      let k : a ≡ back b = sym (there a) ∙ ap back (ok_is (to a) b e) in
       (t.0 ∙ ap f.words k, subst P k t.1));
   again = λ b h. let g = x.again (back b) h in (g.0, g.1, then _ _ _ _ g.2 (ap Ok (here b)));
   fit = λ b h. x.fit (back b) h;
@@ -274,7 +271,7 @@ numbers_takes least most [] (n ∷ ns) e = absurd cc
 numbers_takes least most (w ∷ ws) ns e = through _ _ _ e (λ n n_is e. through _ _ _ e (λ more more_is e.
     let t = number_takes least most w n n_is in
     let u = numbers_takes least most ws more more_is in
-    subst (λ (v : List ℕ). (w ∷ ws ≡ map decimal v) × AllByRecursion (InRange least most) v × (length (w ∷ ws) ≡ length v)) (same_ok (n ∷ more) ns e) (rw (t.0, u.0) refl, (t.1, u.1), omega (arith, u.2))))
+    subst (λ (v : List ℕ). (w ∷ ws ≡ map decimal v) × AllByRecursion (InRange least most) v × (length (w ∷ ws) ≡ length v)) (ok_is (n ∷ more) ns e) (rw (t.0, u.0) refl, (t.1, u.1), omega (arith, u.2))))
 
 numbers_again : (least most : ℕ) (ns : List ℕ) → most < 2 ^ 64 → AllByRecursion (InRange least most) ns → numbers_in least most (map decimal ns) ≡ Ok ns
 unfolding numbers_in

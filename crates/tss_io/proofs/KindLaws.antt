@@ -12,6 +12,7 @@ use Rattle.tss_io.specs.Kinds.{keyword_step, line_at, keyword_line_at, is_long, 
 use Rattle.tss_io.specs.Forms.{is_word, front_at}
 use Rattle.tss_io.proofs.Spaced.{AreWords, words_of-spaced, spaced-words_of}
 use Rattle.tss_io.proofs.FormLaws.{through, same_words, bytes_eq-same, width, ExactForm, front_takes, front_again, front_err}
+use Rattle.tss_io.specs.declared.limits.TheConstants.{LONGEST_LINE}
 
 checked_takes : {T : Type 0} (tests : List (Bool × Cause)) (t u : T) → checked tests t ≡ Ok u → Hold tests × (t ≡ u)
 checked_takes [] t u e = (tt, cc)
@@ -21,12 +22,12 @@ checked_again : {T : Type 0} (tests : List (Bool × Cause)) (t : T) → Hold tes
 checked_again [] t h = refl
 checked_again (test ∷ tests) t h = rw (h.0, checked_again tests t h.1) refl
 
--- A kind whose form is exact everywhere, with lines that are short enough.
+-- a kind whose form is exact everywhere, with lines that are short enough
 pub record ExactKind {S R A T : Type 0} (k : Kind S R A T) (Fits : S → A → Type 0) : Type 0 where
   pub keyword : is_word k.keyword ≡ true
   pub longest : A → ℕ
   pub form : (s : S) → ExactForm (k.form s) (Fits s) longest
-  pub short : (s : S) (a : A) → Sound k Fits s a → length k.keyword + longest a ≤ 120
+  pub short : (s : S) (a : A) → Sound k Fits s a → length k.keyword + longest a ≤ LONGEST_LINE
 
 -- what a line was read as
 pub record Took {S R A T : Type 0} (k : Kind S R A T) (Fits : S → A → Type 0) (s : S) (words : List (List ℕ)) (t : T) : Type 0 where
@@ -76,7 +77,7 @@ seen_fault k s words (Ok seen) h number =
     ]
 seen_fault k s words (Err c) h number = ap Some (h c refl)
 
--- The fault of a line is the first of all its tests that fails.
+-- the fault of a line is the first of all its tests that fails
 pub step_fault : {S R A T : Type 0} {k : Kind S R A T} {Fits : S → A → Type 0} → ExactKind k Fits → (s : S) (words : List (List ℕ)) → fault_of (step k s words) ≡ first_failing (all_tests k s words)
 step_fault {k = k} x s words =
     let later = seen_fault k s words ((k.form s).see words) (λ c e. (x.form s).shape words c e) (λ r c e. (x.form s).number r c e) in
@@ -230,6 +231,21 @@ front_fault {k = k} kind s words (Ok front) e =
     ]
 front_fault kind s words (Err c) e = ap Some (front_err words c e)
 
--- The fault of such a line is its first failing check.
+-- the fault of such a line is its first failing check
 pub keyword_fault : {S R A T : Type 0} {k : Kind S R A T} {Fits : S → A → Type 0} → ExactKind k Fits → (s : S) (l : List ℕ) → fault_of (keyword_step k s l) ≡ first_failing (keyword_checks k s l)
 keyword_fault kind s l = front_fault kind s (words_of l) (front_at (words_of l)) refl
+
+-- the fault of what a test chooses is the first failing check of what it chooses
+pub fault_if :
+    {T : Type 0} (b : Bool) (x y : Result T Cause) (xs ys : List (Bool × Cause))
+    → fault_of x ≡ first_failing xs → fault_of y ≡ first_failing ys
+    → fault_of (cond b x y) ≡ first_failing (cond b xs ys)
+fault_if true x y xs ys h k = h
+fault_if false x y xs ys h k = k
+
+-- and that of one test is that test's
+pub one_test :
+    {T : Type 0} (b : Bool) (t : T) (c : Cause)
+    → fault_of (cond b (Ok t) (Err c)) ≡ first_failing ((b, c) ∷ [])
+one_test true t c = refl
+one_test false t c = refl

@@ -6,22 +6,23 @@ use Rattle.tss_io.specs.Lines.{cut_at, lines_of, words_of}
 use Rattle.tss_io.specs.Forms.{is_word, front_at, last_at}
 use Rattle.tss_io.specs.Kinds.{line_at}
 use Rattle.tss_io.proofs.LineLaws.{lines_of-cut, words_by, words_of-cut}
+use Rattle.tss_io.specs.declared.limits.TheConstants.{LONGEST_LINE}
 
-pub line_at-some : (bytes : List ℕ) (x : List ℕ × List ℕ) → cut_at 10 bytes ≡ Some x → length x.0 ≤ 120 → line_at (lines_of bytes) ≡ Ok (x.0, lines_of x.1)
+pub line_at-some : (bytes : List ℕ) (x : List ℕ × List ℕ) → cut_at 10 bytes ≡ Some x → length x.0 ≤ LONGEST_LINE → line_at (lines_of bytes) ≡ Ok (x.0, lines_of x.1)
 unfolding line_at
-line_at-some bytes x e short = let t : ltb 120 (length x.0) ≡ false = le-ltb _ _ short in rw (lines_of-cut bytes, e, t) refl
+line_at-some bytes x e short = let t : ltb LONGEST_LINE (length x.0) ≡ false = le-ltb _ _ short in rw (lines_of-cut bytes, e, t) refl
 
-pub line_at-long : (bytes : List ℕ) (x : List ℕ × List ℕ) → cut_at 10 bytes ≡ Some x → 120 < length x.0 → line_at (lines_of bytes) ≡ Err Long
+pub line_at-long : (bytes : List ℕ) (x : List ℕ × List ℕ) → cut_at 10 bytes ≡ Some x → LONGEST_LINE < length x.0 → line_at (lines_of bytes) ≡ Err Long
 unfolding line_at
-line_at-long bytes x e long = let t : ltb 120 (length x.0) ≡ true = lt-ltb _ _ long in rw (lines_of-cut bytes, e, t) refl
+line_at-long bytes x e long = let t : ltb LONGEST_LINE (length x.0) ≡ true = lt-ltb _ _ long in rw (lines_of-cut bytes, e, t) refl
 
-pub line_at-torn : (bytes : List ℕ) → cut_at 10 bytes ≡ None → length bytes ≤ 120 → line_at (lines_of bytes) ≡ Err End
+pub line_at-torn : (bytes : List ℕ) → cut_at 10 bytes ≡ None → length bytes ≤ LONGEST_LINE → line_at (lines_of bytes) ≡ Err End
 unfolding line_at
-line_at-torn bytes e short = let t : ltb 120 (length bytes) ≡ false = le-ltb _ _ short in rw (lines_of-cut bytes, e, t) refl
+line_at-torn bytes e short = let t : ltb LONGEST_LINE (length bytes) ≡ false = le-ltb _ _ short in rw (lines_of-cut bytes, e, t) refl
 
-pub line_at-torn_long : (bytes : List ℕ) → cut_at 10 bytes ≡ None → 120 < length bytes → line_at (lines_of bytes) ≡ Err Long
+pub line_at-torn_long : (bytes : List ℕ) → cut_at 10 bytes ≡ None → LONGEST_LINE < length bytes → line_at (lines_of bytes) ≡ Err Long
 unfolding line_at
-line_at-torn_long bytes e long = let t : ltb 120 (length bytes) ≡ true = lt-ltb _ _ long in rw (lines_of-cut bytes, e, t) refl
+line_at-torn_long bytes e long = let t : ltb LONGEST_LINE (length bytes) ≡ true = lt-ltb _ _ long in rw (lines_of-cut bytes, e, t) refl
 
 -- a line has at least one word
 some_word : (bytes : List ℕ) → (word : List ℕ) × (more : List (List ℕ)) × (words_of bytes ≡ word ∷ more)

@@ -1,13 +1,10 @@
 -- A number that fits is over nothing.
-use Rattle.std.proofs.Common.{◌≡◌, ℕ, ◌<◌, ◌≤◌, ◌^◌, Bool, true, false, ◌&&◌, refl}
+use Rattle.std.proofs.Common.{◌≡◌, ℕ, ◌<◌, ◌≤◌, ◌^◌, false}
 use Rattle.std.specs.Prelude.{decimal}
 use Rattle.tss_io.proofs.DecimalLaws.{number_of-decimal}
 use Rattle.tss_io.specs.Forms.{is_canonical, is_over}
-
-and_no : (b : Bool) → (b && false) ≡ false
-and_no true = refl
-and_no false = refl
+use Rattle.std.proofs.Math.Bool.{and-false}
 
 pub not_over : (most n : ℕ) → n ≤ most → most < 2 ^ 64 → is_over most (decimal n) ≡ false
 unfolding is_over
-not_over most n h small = rw (number_of-decimal n most h small) (and_no (is_canonical (decimal n)))
+not_over most n h small = rw (number_of-decimal n most h small) (and-false (is_canonical (decimal n)))

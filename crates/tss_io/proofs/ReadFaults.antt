@@ -8,11 +8,11 @@ use Rattle.tss_io.specs.Streams.{Rose}
 abbrev fault : {A : Type 0} → ReadFault → Result A ReadFault
 fault e = Err e
 
--- A fault that was passed on is the one that it was.
+-- a fault that was passed on is the one that it was
 pub same_fault : {A B : Type 0} (r : Result A ReadFault) (d e : ReadFault) → (x : ReadFault) × (r ≡ Err x) × (x ≡ d) → r ≡ Err e → fault {A = B} d ≡ fault e
 same_fault r d e was other = cc (was.1, was.2, other)
 
--- A failed read isn't taken for too much text, and want of memory for neither of them.
+-- a failed read isn't taken for too much text, and want of memory for neither of them
 pub failed-not_too_long : {A P : Type 0} (r : Result A ReadFault) → (x : ReadFault) × (r ≡ Err x) × (x ≡ Failed) → r ≡ Err TooLong → P
 failed-not_too_long r was other = absurd (cc (was.1, was.2, other))
 
@@ -22,7 +22,7 @@ no_memory-not_too_long r was other = absurd (cc (was.1, was.2, other))
 pub no_memory-not_failed : {A P : Type 0} (r : Result A ReadFault) → (x : ReadFault) × (r ≡ Err x) × (x ≡ NoMemory) → r ≡ Err Failed → P
 no_memory-not_failed r was other = absurd (cc (was.1, was.2, other))
 
--- A count that rose from a later value rose from an earlier one.
+-- a count that rose from a later value rose from an earlier one
 pub Rose-earlier : (a b c : ℕ) → a ≤ b → Rose b c → Rose a c
 Rose-earlier a b c le (inl more) = inl (omega arith)
 Rose-earlier a b c le (inr last) = inr last

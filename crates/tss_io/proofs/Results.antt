@@ -3,35 +3,35 @@ use Rattle.std.proofs.Common.{◌≡◌, ◌⊎◌, inl, inr, Bool, true, false,
 use Rattle.std.specs.Prelude.{ok_or}
 use Rattle.tss_io.specs.Results.{◌>>=◌}
 
--- The first step gave something, and the next read on from it.
+-- the first step gave something, and the next read on from it
 pub bind_ok : {A B E : Type 0} (r : Result A E) (f : A → Result B E) (y : B) → (r >>= f) ≡ Ok y → (x : A) × (r ≡ Ok x) × (f x ≡ Ok y)
 bind_ok (Ok x) f y e = (x, refl, e)
 bind_ok (Err d) f y e = absurd cc
 
--- The fault is the first step's, or what follows it met it.
+-- the fault is the first step's, or what follows it met it
 pub bind_err : {A B E : Type 0} (r : Result A E) (f : A → Result B E) (d : E) → (r >>= f) ≡ Err d → (r ≡ Err d) ⊎ ((x : A) × (r ≡ Ok x) × (f x ≡ Err d))
 bind_err (Ok x) f d e = inr (x, refl, e)
 bind_err (Err c) f d e = inl cc
 
--- After a step that gave x, the reading is what follows from x.
+-- after a step that gave x, the reading is what follows from x
 pub then : {A B E : Type 0} (r : Result A E) (x : A) (f : A → Result B E) (z : Result B E) → r ≡ Ok x → f x ≡ z → (r >>= f) ≡ z
 then r x f z first rest = rw first rest
 
--- After a fault nothing follows.
+-- after a fault nothing follows
 pub then_err : {A B E : Type 0} (r : Result A E) (d : E) (f : A → Result B E) → r ≡ Err d → (r >>= f) ≡ Err d
 then_err r d f first = rw first refl
 
--- A test for a fault that didn't find it.
+-- a test for a fault that didn't find it
 pub guard_ok : {A E : Type 0} (b : Bool) (d : E) (x y : A) → cond b (Err d) (Ok x) ≡ Ok y → (b ≡ false) × (x ≡ y)
 guard_ok true d x y e = absurd cc
 guard_ok false d x y e = (refl, cc)
 
--- A test for what must hold that found it.
+-- a test for what must hold that found it
 pub unless_ok : {A E : Type 0} (b : Bool) (d : E) (x y : A) → cond b (Ok x) (Err d) ≡ Ok y → (b ≡ true) × (x ≡ y)
 unless_ok true d x y e = (refl, cc)
 unless_ok false d x y e = absurd cc
 
--- The same with more steps behind the test.
+-- the same with more steps behind the test
 pub guard_then : {A E : Type 0} (b : Bool) (d : E) (r : Result A E) (y : A) → cond b (Err d) r ≡ Ok y → (b ≡ false) × (r ≡ Ok y)
 guard_then true d r y e = absurd cc
 guard_then false d r y e = (refl, e)
@@ -40,7 +40,7 @@ pub unless_then : {A E : Type 0} (b : Bool) (d : E) (r : Result A E) (y : A) →
 unless_then true d r y e = (refl, e)
 unless_then false d r y e = absurd cc
 
--- What must be there was there.
+-- what must be there was there
 pub ok_or_ok : {A E : Type 0} (o : Option A) (d : E) (x : A) → ok_or o d ≡ Ok x → o ≡ Some x
 ok_or_ok (Some y) d x e = cc
 ok_or_ok None d x e = absurd cc
@@ -48,6 +48,6 @@ ok_or_ok None d x e = absurd cc
 abbrev done : {A E : Type 0} → A → Result A E
 done x = Ok x
 
--- Two readings that gave something gave the same, if they are equal.
+-- two readings that gave something gave the same, if they are equal
 pub ok_is : {A E : Type 0} (x y : A) → done {E = E} x ≡ done {E = E} y → x ≡ y
 ok_is x y e = cc

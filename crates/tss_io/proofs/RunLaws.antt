@@ -11,6 +11,7 @@ use Rattle.tss_io.specs.Lines.{Lines, torn, line, onto, lines_of}
 use Rattle.tss_io.specs.Kinds.{line_at, is_long, fault_of, EachAfter}
 use Rattle.tss_io.specs.Runs.{is_end, at, run, ahead, Follows, stop_at, StopsAt}
 use Rattle.tss_io.specs.Reading.{refused_at}
+use Rattle.tss_io.proofs.Results.{ok_is}
 
 -- what both branches of a test lead to
 pub either : {A P : Type 0} (b : Bool) (x y z : A) → ((b ≡ true) → x ≡ z → P) → ((b ≡ false) → y ≡ z → P) → cond b x y ≡ z → P
@@ -22,9 +23,6 @@ pub record Ran {S : Type 0} (take : S → List ℕ → Result S Cause) (is_last 
   pub whole : lines ≡ ahead front (torn [])
   pub good : Follows take is_last s front t
   pub last : is_last t ≡ true
-
-same_oks : {S : Type 0} (s t : S) → ◌≡◌ {A = Result S Refused} (Ok s) (Ok t) → s ≡ t
-same_oks s t e = cc
 
 pub is_end_takes : (lines : Lines) → is_end lines ≡ true → lines ≡ torn []
 is_end_takes (torn []) e = refl
@@ -40,7 +38,7 @@ unfolding run ahead Follows
 run_takes take is_last n s (torn bytes) t e =
     either (is_last s) _ _ _
     (λ last e. either (is_end (torn bytes)) _ _ _
-    (λ ended e. record { front = []; whole = is_end_takes (torn bytes) ended; good = cc; last = rw (same_oks s t e) at last })
+    (λ ended e. record { front = []; whole = is_end_takes (torn bytes) ended; good = cc; last = rw (ok_is {E = Refused} s t e) at last })
     (λ _ e. absurd cc) e)
     (λ _ e. absurd cc) e
 run_takes take is_last n s (line l rest) t e =
@@ -114,7 +112,7 @@ unfolding Follows
 follows_more take is_last a [] b ys c h k = subst (λ (v : _). Follows take is_last v ys c) (sym h) k
 follows_more take is_last a (x ∷ xs) b ys c h k = (h.0, h.1, h.2, h.3, follows_more take is_last h.2 xs b ys c h.4 k)
 
--- What each line keeps, and what it says more, all lines do.
+-- what each line keeps, and what it says more, all lines do
 pub follows_says : {S : Type 0} (take : S → List ℕ → Result S Cause) (is_last : S → Bool) (Is : S → Type 0) (said : S → List (List ℕ))
     → ((s : S) (l : List ℕ) (t : S) → Is s → take s l ≡ Ok t → (said t ≡ said s ++ l ∷ []) × Is t)
     → (s : S) (front : List (List ℕ)) (t : S) → Is s → Follows take is_last s front t → (said t ≡ said s ++ front) × Is t
@@ -125,13 +123,13 @@ follows_says take is_last Is said one s (l ∷ front) t is good =
     let r = follows_says take is_last Is said one good.2 front t k.1 good.4 in
     (r.0 ∙ ap (λ (x : List (List ℕ)). x ++ front) k.0 ∙ append_assoc (said s) (l ∷ []) front, r.1)
 
--- What each line keeps, all lines do.
+-- what each line keeps, all lines do
 pub follows_keeps : {S : Type 0} (take : S → List ℕ → Result S Cause) (is_last : S → Bool) (Is : S → Type 0) → ((s : S) (l : List ℕ) (t : S) → Is s → take s l ≡ Ok t → Is t) → (s : S) (front : List (List ℕ)) (t : S) → Is s → Follows take is_last s front t → Is t
 unfolding Follows
 follows_keeps take is_last Is one s [] t is good = subst Is good is
 follows_keeps take is_last Is one s (l ∷ front) t is good = follows_keeps take is_last Is one good.2 front t (one s l good.2 is good.3) good.4
 
--- Items, each right behind those before it, follow one another.
+-- items, each right behind those before it, follow one another
 pub items_follow : {S A : Type 0} (take : S → List ℕ → Result S Cause) (is_last : S → Bool) (Right : List A → A → Type 0) (written : A → List ℕ) (with_items : List A → S)
     → ((before : List A) (a : A) → Right before a → (is_last (with_items before) ≡ false) × (is_long (written a) ≡ false) × (take (with_items before) (written a) ≡ Ok (with_items (before ++ a ∷ []))))
     → (before more : List A) → EachAfter Right before more → Follows take is_last (with_items before) (map written more) (with_items (before ++ more))

@@ -91,7 +91,7 @@ stop_checks take checks is_last s (line l rest) same =
       | false ↦ elim (is_long l) as (λ t. cond t (Some Long) (fault_of (take s l)) ≡ cond (not t) (first_failing (checks s l)) (Some Long)) [ true ↦ refl | false ↦ same l ]
     ]
 
--- The fault of the line at which reading stops is its first failing check.
+-- the fault of the line at which reading stops is its first failing check
 pub first_checked : {S : Type 0} (take : S → List ℕ → Result S Cause) (checks : S → List ℕ → List (Bool × Cause)) (is_last : S → Bool) (Is : S → Type 0)
     → ((s : S) (l : List ℕ) → Is s → fault_of (take s l) ≡ first_failing (checks s l)) → (n : ℕ) (s : S) (lines : Lines) (refused : Refused)
     → ((front : List (List ℕ)) (t : S) → Follows take is_last s front t → Is t) → StopsAt take is_last n s lines refused → FirstFault take checks is_last n s lines refused

@@ -31,4 +31,5 @@ cause_word Long = codes "long"
 -- the words of the line that tells a refusal
 abbrev pub refused_words : Refused → List (List ℕ)
 refused_words refused =
-    codes "refused" ∷ codes "line" ∷ decimal refused.line ∷ codes "cause" ∷ decimal (cause_number refused.cause) ∷ cause_word refused.cause ∷ []
+    codes "refused" ∷ codes "line" ∷ decimal refused.line ∷ codes "cause"
+    ∷ decimal (cause_number refused.cause) ∷ cause_word refused.cause ∷ []

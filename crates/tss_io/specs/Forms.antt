@@ -26,7 +26,8 @@ last_at [] = Err Shape
 last_at (word ∷ []) = if is_word word then Ok word else Err Shape
 last_at (word ∷ next ∷ more) = Err Shape
 
--- a word of a line: what it is at first sight, where its shape is right; the value of that; and how a value is written
+-- a word of a line: what it is at first sight, where its shape is right; the value of that; and how
+-- a value is written
 pub record Field (R A : Type 0) : Type 0 where
   pub see : List ℕ → Result R Cause
   pub value : R → Result A Cause
@@ -58,7 +59,8 @@ picked word (a ∷ others) w = if bytes_eq w (word a) then Ok a else picked word
 abbrev pub choice : {A : Type 0} → (A → List ℕ) → List A → Field A A
 choice word values = record { see = picked word values; value = λ a. Ok a; word = word }
 
--- the words behind a line's first: what they are at first sight, the value of that, and how a value is written
+-- the words behind a line's first: what they are at first sight, the value of that, and how a value
+-- is written
 pub record Form (R A : Type 0) : Type 0 where
   pub see : List (List ℕ) → Result R Cause
   pub value : R → Result A Cause
@@ -66,20 +68,30 @@ pub record Form (R A : Type 0) : Type 0 where
 
 -- one field alone
 abbrev pub only : {R A : Type 0} → Field R A → Form R A
-only f = record { see = λ words. last_at words >>= f.see; value = f.value; words = λ a. f.word a ∷ [] }
+only f = record {
+  see = λ words. last_at words >>= f.see;
+  value = f.value;
+  words = λ a. f.word a ∷ [];
+}
 
 -- a field, and then a form
 infixr 20 ◌&◌
 abbrev pub ◌&◌ : {R A Q B : Type 0} → Field R A → Form Q B → Form (R × Q) (A × B)
 f & g = record {
-  see = λ words. front_at words >>= λ front. f.see front.0 >>= λ r. g.see front.1 >>= λ q. Ok (r, q);
+  see = λ words. front_at words >>= λ front. f.see front.0 >>= λ r. g.see front.1 >>= λ q.
+      Ok (r, q);
   value = λ seen. f.value seen.0 >>= λ a. g.value seen.1 >>= λ b. Ok (a, b);
   words = λ x. f.word x.0 ∷ g.words x.1;
 }
 
 -- the same form for values made of those
 abbrev pub made : {R A B : Type 0} → (A → B) → (B → A) → Form R A → Form R B
-made to back f = record { see = f.see; value = λ seen. f.value seen >>= λ a. Ok (to a); words = λ b. f.words (back b) }
+made to back f =
+    record {
+      see = f.see;
+      value = λ seen. f.value seen >>= λ a. Ok (to a);
+      words = λ b. f.words (back b);
+    }
 
 -- the words, where each is one
 unfoldable pub each_word : List (List ℕ) → Result (List (List ℕ)) Cause
@@ -88,7 +100,8 @@ each_word words = if list_all is_word words && nat_lt 0 (length words) then Ok w
 -- the numbers that words write, up to the first that doesn't
 unfoldable pub numbers_in : ℕ → ℕ → List (List ℕ) → Result (List ℕ) Cause
 numbers_in least most [] = Ok []
-numbers_in least most (word ∷ words) = number_in least most word >>= λ n. numbers_in least most words >>= λ ns. Ok (n ∷ ns)
+numbers_in least most (word ∷ words) =
+    number_in least most word >>= λ n. numbers_in least most words >>= λ ns. Ok (n ∷ ns)
 
 -- the numbers so far and the one that the word writes
 abbrev pub pushed_number : List ℕ → ℕ → ℕ → List ℕ → Result (List ℕ) Cause
@@ -104,7 +117,8 @@ so_many_words count words = if length words == count then each_word words else E
 
 -- as many numbers as this, each in a range
 abbrev pub numbers_of : ℕ → ℕ → ℕ → Form (List (List ℕ)) (List ℕ)
-numbers_of count least most = record { see = so_many_words count; value = numbers_in least most; words = map decimal }
+numbers_of count least most =
+    record { see = so_many_words count; value = numbers_in least most; words = map decimal }
 
 -- a number from least to most
 abbrev pub InRange : ℕ → ℕ → ℕ → Type 0
@@ -117,6 +131,7 @@ pub record AreNumbers (least most : ℕ) (ns : List ℕ) : Type 0 where
 
 -- ---- counts that are passed
 
+-- a byte is a digit
 abbrev pub is_digit : ℕ → Bool
 is_digit b = nat_le 48 b && nat_le b 57
 
@@ -126,6 +141,7 @@ is_canonical [] = false
 is_canonical (b ∷ []) = is_digit b
 is_canonical (b ∷ c ∷ bytes) = not (b == 48) && list_all is_digit (b ∷ c ∷ bytes)
 
+-- no number is there
 abbrev pub is_missing : Option ℕ → Bool
 is_missing None = true
 is_missing (Some n) = false

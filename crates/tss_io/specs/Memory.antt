@@ -2,7 +2,8 @@
 use Rattle.std.specs.Prelude.{ℕ, ◌-◌, List, ◌++◌, drop, length}
 use Rattle.tss_io.specs.Streams.{next_count}
 
--- a source: the bytes that are left, how many a call gives at most, the numbers of the calls that fail,
+-- a source: the bytes that are left, how many a call gives at most, the numbers of the calls that
+-- fail,
 -- the number of the next call, and how many failed.
 pub record Input : Type 0 where
   pub left : List ℕ
@@ -19,8 +20,8 @@ after_read s n = record s { left = drop n s.left; calls = next_count s.calls }
 abbrev pub after_failed_read : Input → Input
 after_failed_read s = record s { calls = next_count s.calls; faults = next_count s.faults }
 
--- a sink: the bytes that it took, how many it still has room for, how many a call takes at most, the numbers of
--- the calls that fail, the number of the next call, and how many failed.
+-- a sink: the bytes that it took, how many it still has room for, how many a call takes at most,
+-- the numbers of the calls that fail, the number of the next call, and how many failed.
 pub record Output : Type 0 where
   pub taken : List ℕ
   pub room : ℕ
@@ -31,7 +32,8 @@ pub record Output : Type 0 where
 
 -- the sink after a call that took these bytes.
 abbrev pub after_put : Output → List ℕ → Output
-after_put s bytes = record s { taken = s.taken ++ bytes; room = s.room - length bytes; calls = next_count s.calls }
+after_put s bytes =
+    record s { taken = s.taken ++ bytes; room = s.room - length bytes; calls = next_count s.calls }
 
 -- the sink after a call that failed.
 abbrev pub after_failed_put : Output → Output

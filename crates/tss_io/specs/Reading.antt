@@ -27,6 +27,7 @@ abbrev pub Fails : {Y : Type 0} → TextFault → Result Y Refused → Type 0
 Fails text_faults.NoMemory read = Unit {0}
 Fails (text_faults.Refused refused) read = read ≡ Err refused
 
+-- what a function returned, seen by view, is what reading gives, unless memory ran out
 abbrev pub Gives : {X Y : Type 0} → (X → Y) → Result X TextFault → Result Y Refused → Type 0
 Gives view (Ok x) read = read ≡ Ok (view x)
 Gives view (Err e) read = Fails e read
@@ -40,11 +41,13 @@ abbrev pub fault_at : ℕ → LineFault → TextFault
 fault_at n line_faults.NoMemory = text_faults.NoMemory
 fault_at n (line_faults.Refused cause) = text_faults.Refused (refused_at n cause)
 
--- what a function returned, seen by view, is what reading gives, with this number of its faulty line, unless memory ran out
+-- the same of a line, whose number in its text this is
 abbrev pub FailsAt : {Y : Type 0} → ℕ → LineFault → Result Y Refused → Type 0
 FailsAt n line_faults.NoMemory read = Unit {0}
 FailsAt n (line_faults.Refused cause) read = read ≡ Err (refused_at n cause)
 
+-- what a function returned, seen by view, is what reading gives, with this number of its faulty
+-- line, unless memory ran out
 abbrev pub Placed : {X Y : Type 0} → (X → Y) → ℕ → Result X LineFault → Result Y Refused → Type 0
 Placed view n (Ok x) read = read ≡ Ok (view x)
 Placed view n (Err e) read = FailsAt n e read

@@ -20,11 +20,13 @@ is_end (torn (b ∷ bytes)) = false
 is_end (line l rest) = false
 
 -- the next line, taken, and the lines after it
-unfoldable pub line_step : {S : Type 0} → (S → List ℕ → Result S Cause) → S → Lines → Result (S × Lines) Cause
+unfoldable pub line_step : {S : Type 0} → (S → List ℕ → Result S Cause) → S → Lines
+    → Result (S × Lines) Cause
 line_step take s lines = line_at lines >>= λ l. take s l.0 >>= λ t. Ok (t, l.1)
 
--- Line after line from this one on, up to the one after which no more may come.
-unfoldable pub run : {S : Type 0} → (S → List ℕ → Result S Cause) → (S → Bool) → ℕ → S → Lines → Result S Refused
+-- line after line from this one on, up to the one after which no more may come
+unfoldable pub run : {S : Type 0} → (S → List ℕ → Result S Cause) → (S → Bool) → ℕ → S → Lines
+    → Result S Refused
 run take is_last n s (torn bytes) =
     if is_last s then (if is_end (torn bytes) then Ok s else Err (refused_at n End))
     else Err (refused_at n (if is_long bytes then Long else End))
@@ -39,12 +41,16 @@ ahead [] rest = rest
 ahead (l ∷ more) rest = line l (ahead more rest)
 
 -- these lines are taken, one after another, and lead from s to t
-unfoldable pub Follows : {S : Type 0} → (S → List ℕ → Result S Cause) → (S → Bool) → S → List (List ℕ) → S → Type 0
+unfoldable pub Follows : {S : Type 0} → (S → List ℕ → Result S Cause) → (S → Bool) → S
+    → List (List ℕ) → S → Type 0
 Follows take is_last s [] t = s ≡ t
-Follows {S = S} take is_last s (l ∷ more) t = (is_last s ≡ false) × (is_long l ≡ false) × (mid : S) × (take s l ≡ Ok mid) × Follows take is_last mid more t
+Follows {S = S} take is_last s (l ∷ more) t =
+    (is_last s ≡ false) × (is_long l ≡ false) × (mid : S) × (take s l ≡ Ok mid)
+    × Follows take is_last mid more t
 
 -- the fault of the line that comes after s
-abbrev pub stop_at : {S : Type 0} → (S → List ℕ → Result S Cause) → (S → Bool) → S → Lines → Option Cause
+abbrev pub stop_at : {S : Type 0} → (S → List ℕ → Result S Cause) → (S → Bool) → S → Lines
+    → Option Cause
 stop_at take is_last s (torn bytes) =
     if is_last s then (if is_end (torn bytes) then None else Some End)
     else Some (if is_long bytes then Long else End)
@@ -54,7 +60,8 @@ stop_at take is_last s (line l rest) =
     else fault_of (take s l))
 
 -- where line after line stops: behind these good lines, at a line with this fault
-pub record StopsAt {S : Type 0} (take : S → List ℕ → Result S Cause) (is_last : S → Bool) (n : ℕ) (s : S) (lines : Lines) (refused : Refused) : Type 0 where
+pub record StopsAt {S : Type 0} (take : S → List ℕ → Result S Cause) (is_last : S → Bool) (n : ℕ)
+    (s : S) (lines : Lines) (refused : Refused) : Type 0 where
   pub front : List (List ℕ)
   pub met : S
   pub rest : Lines
@@ -69,11 +76,13 @@ pub record Stop (S : Type 0) : Type 0 where
   pub next : ℕ
   pub rest : Lines
 
+-- such a place
 abbrev pub stopped : {S : Type 0} → S → ℕ → Lines → Stop S
 stopped s n rest = record { state = s; next = n; rest = rest }
 
 -- line after line, up to the one after which no more may come
-unfoldable pub run_to : {S : Type 0} → (S → List ℕ → Result S Cause) → (S → Bool) → ℕ → S → Lines → Result (Stop S) Refused
+unfoldable pub run_to : {S : Type 0} → (S → List ℕ → Result S Cause) → (S → Bool) → ℕ → S → Lines
+    → Result (Stop S) Refused
 run_to take is_last n s (torn bytes) =
     if is_last s then Ok (record { state = s; next = n; rest = torn bytes })
     else Err (refused_at n (if is_long bytes then Long else End))
@@ -86,22 +95,30 @@ run_to take is_last n s (line l rest) =
 abbrev pub ended : {S : Type 0} → Stop S → Result S Refused
 ended x = if is_end x.rest then Ok x.state else Err (refused_at x.next End)
 
-pub record RanTo {S : Type 0} (take : S → List ℕ → Result S Cause) (is_last : S → Bool) (n : ℕ) (s : S) (lines : Lines) (x : Stop S) : Type 0 where
+-- good lines led to this place, and the last of them is the last that may come
+pub record RanTo {S : Type 0} (take : S → List ℕ → Result S Cause) (is_last : S → Bool) (n : ℕ)
+    (s : S) (lines : Lines) (x : Stop S) : Type 0 where
   pub front : List (List ℕ)
   pub whole : lines ≡ ahead front x.rest
   pub good : Follows take is_last s front x.state
   pub last : is_last x.state ≡ true
   pub number : x.next ≡ n + length front
 
--- Every check of the line that comes after s, in its order: that it is there, that it isn't too long, that a newline closes it, and
--- those of its kind.
-abbrev pub line_checks : {S : Type 0} → (S → List ℕ → List (Bool × Cause)) → (S → Bool) → S → Lines → List (Bool × Cause)
+-- every check of the line that comes after s, in its order: that it is there, that it isn't too
+-- long, that a newline closes it, and those of its kind
+abbrev pub line_checks : {S : Type 0} → (S → List ℕ → List (Bool × Cause)) → (S → Bool) → S → Lines
+    → List (Bool × Cause)
 line_checks checks is_last s (torn []) = (is_last s, End) ∷ []
-line_checks checks is_last s (torn (b ∷ bytes)) = (not (is_last s), End) ∷ (not (is_long (b ∷ bytes)), Long) ∷ (false, End) ∷ []
-line_checks checks is_last s (line l rest) = (not (is_last s), End) ∷ (not (is_long l), Long) ∷ checks s l
+line_checks checks is_last s (torn (b ∷ bytes)) =
+    (not (is_last s), End) ∷ (not (is_long (b ∷ bytes)), Long) ∷ (false, End) ∷ []
+line_checks checks is_last s (line l rest) =
+    (not (is_last s), End) ∷ (not (is_long l), Long) ∷ checks s l
 
--- A refusal names the first line that is wrong behind the good lines before it, and that line's first failing check.
-pub record FirstFault {S : Type 0} (take : S → List ℕ → Result S Cause) (checks : S → List ℕ → List (Bool × Cause)) (is_last : S → Bool) (n : ℕ) (s : S) (lines : Lines) (refused : Refused) : Type 0 where
+-- a refusal names the first line that is wrong behind the good lines before it, and that line's
+-- first failing check
+pub record FirstFault {S : Type 0} (take : S → List ℕ → Result S Cause)
+    (checks : S → List ℕ → List (Bool × Cause)) (is_last : S → Bool) (n : ℕ) (s : S) (lines : Lines)
+    (refused : Refused) : Type 0 where
   pub front : List (List ℕ)
   pub met : S
   pub rest : Lines

@@ -23,8 +23,8 @@ Gains (Some old) piece None = ⊥
 Gains None piece (Some new) = ⊥
 Gains None piece None = Unit {0}
 
--- what contracts see of a source or a sink over a stream of std's: the stream, how many calls were made, and how
--- many of them failed.
+-- what contracts see of a source or a sink over a stream of std's: the stream, how many calls were
+-- made, and how many of them failed.
 pub record Counted (S : Type 0) : Type 0 where
   pub stream : S
   pub calls : ℕ

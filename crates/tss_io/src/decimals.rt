@@ -1,3 +1,5 @@
+//! Numbers as decimal text.
+
 ghost use Rattle.std.specs.Prelude.{◌≡◌, ◌≤◌, ◌++◌, ◌^◌, ◌<◌, ◌↔◌, ℕ, length, slice_index, IsTrue, decimal, IfSome, IfNone, OnOk, OnErr};
 ghost use Rattle.std.specs.Fmt.{signed_decimal};
 ghost use Rattle.std.specs.Str.Parse.{IsNumeral, digits_value};
@@ -6,8 +8,8 @@ ghost use Rattle.tss_io.specs.Decimals.{number_of};
 use crate::no_memory::NoMemory;
 use itoa::Buffer;
 
-/// The number whose canonical decimal is `word`, if it is at most `most`: digits alone, with no sign and no zero in front
-/// of another digit. It takes no memory.
+/// The number whose canonical decimal is `word`, if it is at most `most`: digits alone, with no
+/// sign and no zero in front of another digit. It takes no memory.
 pub fn decimal(word: &[u8], most: u64) -> Option<u64>
     ensures exact { result ≡ number_of word.now most }
     ensures some { IfSome result (λ n. (word.now ≡ decimal n) × (n ≤ most)) }
@@ -52,7 +54,8 @@ fn digits(word: &[u8]) -> Option<u64>
     Some(number)
 }
 
-/// Puts the canonical decimal of `n` to the end, with `-` before a negative number. On `NoMemory` out is unchanged.
+/// Appends the canonical decimal of `n`, with `-` before a negative number. On `NoMemory`
+/// out is unchanged.
 pub fn push_decimal(out: &mut Vec<u8>, n: i128) -> Result<(), NoMemory>
     ensures ok { OnOk result (out.new.items ≡ out.old.items ++ signed_decimal n) }
     ensures err { OnErr result (out.new.items ≡ out.old.items) }

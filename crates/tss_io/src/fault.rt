@@ -23,9 +23,11 @@ pub struct Refused {
 }
 
 impl Refused {
-    /// Appends the line that tells the refusal: `refused line L cause C WORD`. On `NoMemory` `out` is unchanged.
+    /// Appends the line that tells the refusal: `refused line L cause C WORD`. On `NoMemory` `out`
+    /// is unchanged.
     pub fn push_line(&self, out: &mut Vec<u8>) -> Result<(), NoMemory>
-        ensures ok { OnOk result (out.new.items ≡ out.old.items ++ as_line (spaced (refused_words self.now))) }
+        ensures ok { OnOk result
+            (out.new.items ≡ out.old.items ++ as_line (spaced (refused_words self.now))) }
         ensures err { OnErr result (out.new.items ≡ out.old.items) }
     {
         let words = [

@@ -1,10 +1,12 @@
-//! What goes in and out: sources and sinks of bytes, decimals, want of memory, and the list that contracts see plainly.
+//! What goes in and out: sources and sinks of bytes, decimals, want of memory, and the list that
+//! contracts see plainly.
 #![tactic(auto)]
 
 mod cause;
 mod decimals;
 mod fault;
 mod faults;
+mod limits;
 mod line;
 mod lines;
 mod memory;
@@ -22,6 +24,7 @@ pub use cause::Cause;
 pub use decimals::{decimal, push_decimal};
 pub use fault::{LineFault, Refused, TextFault};
 pub use faults::{Failed, ReadFault};
+pub use limits::LONGEST_LINE;
 pub use line::{Word, push_line};
 pub use lines::{LineStep, Lines};
 pub use memory::{MemSink, MemSource};

@@ -58,7 +58,8 @@ fn push_spaced(out: &mut Vec<u8>, words: &[Word]) -> Result<(), NoMemory>
 
 // Appends the line. On `NoMemory` a front of it may have been appended.
 fn push_whole(out: &mut Vec<u8>, words: &[Word]) -> Result<(), NoMemory>
-    ensures ok { OnOk result (out.new.items ≡ out.old.items ++ as_line (spaced (map word_bytes words.now))) }
+    ensures ok { OnOk result
+        (out.new.items ≡ out.old.items ++ as_line (spaced (map word_bytes words.now))) }
     ensures front { take (length out.old.items) out.new.items ≡ out.old.items }
 {
     push_spaced(out, words)?;
@@ -66,9 +67,11 @@ fn push_whole(out: &mut Vec<u8>, words: &[Word]) -> Result<(), NoMemory>
     Ok(())
 }
 
-/// Appends a line: the words with single spaces between them, and a newline. On `NoMemory` `out` is unchanged.
+/// Appends a line: the words with single spaces between them, and a newline. On `NoMemory` `out` is
+/// unchanged.
 pub fn push_line(out: &mut Vec<u8>, words: &[Word]) -> Result<(), NoMemory>
-    ensures ok { OnOk result (out.new.items ≡ out.old.items ++ as_line (spaced (map word_bytes words.now))) }
+    ensures ok { OnOk result
+        (out.new.items ≡ out.old.items ++ as_line (spaced (map word_bytes words.now))) }
     ensures err { OnErr result (out.new.items ≡ out.old.items) }
 {
     let length = out.len();

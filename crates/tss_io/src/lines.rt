@@ -12,16 +12,16 @@ use std::marker::Model;
 /// What a walk finds next.
 #[derive(Clone, Copy, Debug, PartialEq, Eq)]
 pub enum LineStep {
-    /// A line of at most 120 bytes that a newline closes.
+    /// A line of at most `LONGEST_LINE` bytes that a newline closes.
     Line {
         /// Where it begins in the text, in bytes.
         start: usize,
         /// How many bytes it has without its newline.
         len: usize,
     },
-    /// More than 120 bytes stand before the next newline or the end.
+    /// More than `LONGEST_LINE` bytes stand before the next newline or the end.
     Long,
-    /// 1 to 120 bytes stand before the end, and no newline closes them.
+    /// 1 to `LONGEST_LINE` bytes stand before the end, and no newline closes them.
     Torn,
     /// Nothing is left.
     End,
@@ -61,7 +61,8 @@ impl<'a> Lines<'a> {
         rest
     }
 
-    /// The next line, behind which the walk then stands. After `Long`, `Torn` and `End` it stands where it stood.
+    /// The next line, behind which the walk then stands. After `Long`, `Torn` and `End` it stands
+    /// where it stood.
     pub fn next(&mut self) -> LineStep
         ensures found { result ≡ step_at self.old.start (lines_of (left_of self.old)) }
         ensures moved { self.new ≡ walked self.old }

@@ -40,11 +40,18 @@ impl Model for MemSource {
 impl MemSource {
     ghost use Rattle.tss_io.specs.Memory.{Input};
 
-    /// A source of `bytes`, at most `piece` of them a call. Calls are numbered from 0, and those listed in `fails` fail.
-    /// It takes no memory.
+    /// A source of `bytes`, at most `piece` of them a call. Calls are numbered from 0, and those
+    /// listed in `fails` fail. It takes no memory.
     pub fn new(bytes: Vec<u8>, piece: usize, fails: Vec<u32>) -> MemSource
         requires { 1 ≤ piece }
-        ensures { result ≡ record { left = bytes.items; piece = piece; fails = fails.items; calls = 0; faults = 0 } }
+        ensures { result
+            ≡ record {
+              left = bytes.items;
+              piece = piece;
+              fails = fails.items;
+              calls = 0;
+              faults = 0;
+            } }
     {
         MemSource {
             bytes,
@@ -69,13 +76,16 @@ impl Source for MemSource {
     fn read(&mut self, out: &mut [u8]) -> Result<usize, Failed>
         requires { 0 < length out.old }
         ensures within { IfOk result (λ n. n ≤ length out.new) }
-        ensures bytes { IfOk result (λ n. Yields (Some self.old.left) (take n out.new) (Some self.new.left)) }
+        ensures bytes { IfOk result
+            (λ n. Yields (Some self.old.left) (take n out.new) (Some self.new.left)) }
         ensures end { IfOk result (λ n. (n ≡ 0) ↔ (self.old.left ≡ [])) }
         ensures never_falls { self.old.faults ≤ self.new.faults }
 
-        // Beyond the trait: which calls fail, how many bytes the others give, and what stands after each.
+        // Beyond the trait: which calls fail, how many bytes the others give, and what stands after
+        // each.
         ensures listed { IsErr result ↔ Contains self.old.fails self.old.calls }
-        ensures amount { IfOk result (λ n. n ≡ min (min (length out.old) self.old.piece) (length self.old.left)) }
+        ensures amount { IfOk result
+            (λ n. n ≡ min (min (length out.old) self.old.piece) (length self.old.left)) }
         ensures ok { IfOk result (λ n. self.new ≡ after_read self.old n) }
         ensures err { OnErr result (self.new ≡ after_failed_read self.old) }
     {
@@ -136,8 +146,8 @@ impl Model for MemSink {
 impl MemSink {
     ghost use Rattle.tss_io.specs.Memory.{Output};
 
-    /// A sink with room for `room` bytes, that takes at most `piece` of them a call. Calls are numbered from 0, and those
-    /// listed in `fails` fail. On `NoMemory` nothing was made.
+    /// A sink with room for `room` bytes, that takes at most `piece` of them a call. Calls are
+    /// numbered from 0, and those listed in `fails` fail. On `NoMemory` nothing was made.
     pub fn new(
         alloc: Global,
         room: usize,
@@ -146,7 +156,14 @@ impl MemSink {
     ) -> Result<MemSink, NoMemory>
         requires { 1 ≤ piece }
         ensures { IfOk result (λ s.
-            s ≡ record { taken = []; room = room; piece = piece; fails = fails.items; calls = 0; faults = 0 }) }
+            s ≡ record {
+              taken = [];
+              room = room;
+              piece = piece;
+              fails = fails.items;
+              calls = 0;
+              faults = 0;
+            }) }
     {
         Ok(MemSink {
             bytes: Vec::with_capacity(alloc, room)?,
@@ -181,9 +198,12 @@ impl Sink for MemSink {
         ensures within { IfOk result (λ n. n ≤ length piece.now) }
         ensures never_falls { self.old.faults ≤ self.new.faults }
 
-        // Beyond the trait: which calls fail, how many bytes the others take, and what stands after each.
-        ensures listed { IsErr result ↔ (Contains self.old.fails self.old.calls ⊎ (self.old.room ≡ 0)) }
-        ensures amount { IfOk result (λ n. n ≡ min (min (length piece.now) self.old.piece) self.old.room) }
+        // Beyond the trait: which calls fail, how many bytes the others take, and what stands after
+        // each.
+        ensures listed { IsErr result
+            ↔ (Contains self.old.fails self.old.calls ⊎ (self.old.room ≡ 0)) }
+        ensures amount { IfOk result
+            (λ n. n ≡ min (min (length piece.now) self.old.piece) self.old.room) }
         ensures ok { IfOk result (λ n. self.new ≡ after_put self.old (take n piece.now)) }
         ensures err { OnErr result (self.new ≡ after_failed_put self.old) }
     {

@@ -5,12 +5,14 @@ ghost use Rattle.tss_io.specs.Streams.{Rose, Gains};
 use crate::faults::Failed;
 use crate::sink::Sink;
 
-/// Puts the whole text, in as many calls as the sink asks for, and at most as many as the text has bytes. It takes no
-/// memory. On `Failed` the sink took a proper prefix of the text, and its count of faults rose.
+/// Puts the whole text, in as many calls as the sink asks for, and at most as many as the text has
+/// bytes. It takes no memory. On `Failed` the sink took a proper prefix of the text, and its count
+/// of faults rose.
 pub fn put_all<K: Sink>(sink: &mut K, text: &[u8]) -> Result<(), Failed>
     ensures whole { OnOk result (Gains (K.taken sink.old) text.now (K.taken sink.new)) }
     ensures proper_prefix { OnErr result
-        ((n : ℕ) × (n < length text.now) × Gains (K.taken sink.old) (take n text.now) (K.taken sink.new)) }
+        ((n : ℕ) × (n < length text.now)
+        × Gains (K.taken sink.old) (take n text.now) (K.taken sink.new)) }
 
     ensures steady { OnOk result (K.faults sink.new ≡ K.faults sink.old) }
     ensures rose { OnErr result (Rose (K.faults sink.old) (K.faults sink.new)) }

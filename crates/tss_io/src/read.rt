@@ -11,9 +11,10 @@ use std::alloc::Global;
 // How many bytes a read asks for at most.
 const PIECE: usize = 65_536;
 
-/// Reads to the source's end, in at most `limit + 1` calls. `TooLong` is answered once `limit + 1` bytes are read, and
-/// no more are. A read that fails ends it with `Failed`, and nothing else does: after every other answer the count of
-/// faults is as it was. On `Failed` and on `NoMemory` what was read till then is lost.
+/// Reads to the source's end, in at most `limit + 1` calls. `TooLong` is answered once `limit + 1`
+/// bytes are read, and no more are. A read that fails ends it with `Failed`, and nothing else does:
+/// after every other answer the count of faults is as it was. On `Failed` and on `NoMemory` what
+/// was read till then is lost.
 pub fn read_all<S: Source>(
     alloc: Global,
     source: &mut S,
@@ -32,14 +33,17 @@ pub fn read_all<S: Source>(
 
     // No read failed, unless it is said.
     ensures steady { IsErrOf result ReadFault.Failed ⊎ (S.faults source.new ≡ S.faults source.old) }
-    ensures rose { IsErrOf result ReadFault.Failed → Rose (S.faults source.old) (S.faults source.new) }
+    ensures rose { IsErrOf result ReadFault.Failed
+        → Rose (S.faults source.old) (S.faults source.new) }
     ensures never_falls { S.faults source.old ≤ S.faults source.new }
 
     // What was taken from the source.
     ensures too_long { IsErrOf result ReadFault.TooLong
-        → (front : List ℕ) × (length front ≡ limit + 1) × Yields (S.left source.old) front (S.left source.new) }
+        → (front : List ℕ) × (length front ≡ limit + 1)
+        × Yields (S.left source.old) front (S.left source.new) }
     ensures front { OnErr result
-        ((front : List ℕ) × (length front ≤ limit + 1) × Yields (S.left source.old) front (S.left source.new)) }
+        ((front : List ℕ) × (length front ≤ limit + 1)
+        × Yields (S.left source.old) front (S.left source.new)) }
     ensures called { S.calls source.new ≤ S.calls source.old + (limit + 1) }
 {
     let mut buffer = blank(alloc, PIECE)?;
@@ -58,14 +62,18 @@ fn read_pieces<S: Source>(
     requires buffer { length buffer.old ≡ PIECE }
     requires empty { text.old.items ≡ [] }
     ensures ok { OnOk result
-        ((length text.new.items ≤ limit) × Yields (S.left source.old) text.new.items (S.left source.new)
+        ((length text.new.items ≤ limit)
+        × Yields (S.left source.old) text.new.items (S.left source.new)
         × IfSome (S.left source.new) (λ rest. rest ≡ [])) }
     ensures too_long { IsErrOf result ReadFault.TooLong
-        → (length text.new.items ≡ limit + 1) × Yields (S.left source.old) text.new.items (S.left source.new) }
+        → (length text.new.items ≡ limit + 1)
+        × Yields (S.left source.old) text.new.items (S.left source.new) }
     ensures front { OnErr result
-        ((front : List ℕ) × (length front ≤ limit + 1) × Yields (S.left source.old) front (S.left source.new)) }
+        ((front : List ℕ) × (length front ≤ limit + 1)
+        × Yields (S.left source.old) front (S.left source.new)) }
     ensures steady { IsErrOf result ReadFault.Failed ⊎ (S.faults source.new ≡ S.faults source.old) }
-    ensures rose { IsErrOf result ReadFault.Failed → Rose (S.faults source.old) (S.faults source.new) }
+    ensures rose { IsErrOf result ReadFault.Failed
+        → Rose (S.faults source.old) (S.faults source.new) }
     ensures never_falls { S.faults source.old ≤ S.faults source.new }
     ensures called { S.calls source.new ≤ S.calls source.old + (limit + 1) }
 {

@@ -7,7 +7,8 @@ use std::alloc::Global;
 use std::marker::Model;
 use std::slice::Iter;
 
-/// A list that contracts see as a plain list. It is made from a `Vec` and gives it back without taking memory.
+/// A list that contracts see as a plain list. It is made from a `Vec` and gives it back without
+/// taking memory.
 #[derive(Debug, Drop)]
 pub struct Seq<T> {
     items: Vec<T>,

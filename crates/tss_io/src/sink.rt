@@ -15,13 +15,15 @@ pub trait Sink {
     // How many calls were made, as far as the sink counts them.
     ghost calls: { Self → ℕ };
 
-    /// Takes bytes from the front of `piece`, and answers how many: at least one. On `Failed` it took none, as far as it
-    /// tells. The count of faults rises where the call fails, and nowhere else.
+    /// Takes bytes from the front of `piece`, and answers how many: at least one. On `Failed` it
+    /// took none, as far as it tells. The count of faults rises where the call fails, and nowhere
+    /// else.
     fn put(&mut self, piece: &[u8]) -> Result<usize, Failed>
         requires { 0 < length piece.now }
         ensures progress { IfOk result (λ n. 1 ≤ n) }
         ensures within { IfOk result (λ n. n ≤ length piece.now) }
-        ensures bytes { IfOk result (λ n. Gains (taken self.old) (take n piece.now) (taken self.new)) }
+        ensures bytes { IfOk result
+            (λ n. Gains (taken self.old) (take n piece.now) (taken self.new)) }
         ensures err { OnErr result (taken self.new ≡ taken self.old) }
 
         ensures steady { OnOk result (faults self.new ≡ faults self.old) }

@@ -15,9 +15,9 @@ pub trait Source {
     // How many calls were made, as far as the source counts them.
     ghost calls: { Self → ℕ };
 
-    /// Puts the next bytes to the front of `out`, and answers how many: none exactly at the end. On `Failed` what is
-    /// left is left still, and `out` may hold anything. The count of faults rises where the call fails, and nowhere
-    /// else.
+    /// Puts the next bytes to the front of `out`, and answers how many: none exactly at the end. On
+    /// `Failed` what is left is left still, and `out` may hold anything. The count of faults rises
+    /// where the call fails, and nowhere else.
     fn read(&mut self, out: &mut [u8]) -> Result<usize, Failed>
         requires { 0 < length out.old }
         ensures within { IfOk result (λ n. n ≤ length out.new) }

@@ -1,6 +1,6 @@
-//! A source and a sink over std's `Read` and `Write`: the edge to files, pipes and terminals. They tell no bytes; what
-//! std says of the reader's and the writer's bytes, their clauses say of a call. An interrupted call is made again, at
-//! most 16 times in a row, and then fails.
+//! A source and a sink over std's `Read` and `Write`: the edge to files, pipes and terminals. They
+//! tell no bytes; what std says of the reader's and the writer's bytes, their clauses say of a
+//! call. An interrupted call is made again, at most 16 times in a row, and then fails.
 ghost use Rattle.std.specs.Io.KnownBytes.{Appends, Keeps, ReadConsumes, WriteAppends};
 ghost use Rattle.std.specs.IoError.{error_kind};
 ghost use Rattle.std.specs.Prelude.{◌≡◌, ◌≤◌, ◌<◌, ◌↔◌, ℕ, None, length, take, IsTrue, IfOk, OnOk, OnErr, MatchResult};
@@ -78,8 +78,10 @@ impl<R: Read> Source for StdSource<R> {
         ensures within { IfOk result (λ n. n ≤ length out.new) }
         ensures never_falls { self.old.faults ≤ self.new.faults }
 
-        // Beyond the trait: what the reader gave, none only at its end, and nothing on `Failed`; and the exact counts.
-        ensures given { ReadConsumes (R.remaining self.old.stream) (R.remaining self.new.stream) result out.new }
+        // Beyond the trait: what the reader gave, none only at its end, and nothing on `Failed`;
+        // and the exact counts.
+        ensures given { ReadConsumes (R.remaining self.old.stream)
+            (R.remaining self.new.stream) result out.new }
         ensures counted { self.new.calls ≡ next_count self.old.calls }
         ensures ok { OnOk result (self.new.faults ≡ self.old.faults) }
         ensures err { OnErr result (self.new.faults ≡ next_count self.old.faults) }
@@ -100,7 +102,8 @@ fn read_retrying<R: Read>(reader: &mut R, out: &mut [u8]) -> io::Result<usize>
     retrying!(reader.read(out))
 }
 
-/// A sink that writes by std's `Write`, and flushes after each write. A write that takes nothing fails.
+/// A sink that writes by std's `Write`, and flushes after each write. A write that takes nothing
+/// fails.
 #[derive(Drop)]
 pub struct StdSink<W> {
     writer: W,
@@ -144,12 +147,13 @@ impl<W: Write> Sink for StdSink<W> {
         ensures within { IfOk result (λ n. n ≤ length piece.now) }
         ensures never_falls { self.old.faults ≤ self.new.faults }
 
-        // Beyond the trait: what the writer took, on `Failed` a front of the piece, since the flush may have failed; and
-        // the exact counts.
+        // Beyond the trait: what the writer took, on `Failed` a front of the piece, since the flush
+        // may have failed; and the exact counts.
         ensures gained { IfOk result (λ n.
             Appends (W.contents self.old.stream) (W.contents self.new.stream) (take n piece.now)) }
         ensures front { OnErr result ((n : ℕ)
-            × Appends (W.contents self.old.stream) (W.contents self.new.stream) (take n piece.now)) }
+            × Appends (W.contents self.old.stream) (W.contents self.new.stream)
+            (take n piece.now)) }
         ensures counted { self.new.calls ≡ next_count self.old.calls }
         ensures ok { OnOk result (self.new.faults ≡ self.old.faults) }
         ensures err { OnErr result (self.new.faults ≡ next_count self.old.faults) }
@@ -166,7 +170,8 @@ impl<W: Write> Sink for StdSink<W> {
 fn write_and_flush<W: Write>(writer: &mut W, piece: &[u8]) -> Result<usize, Failed>
     ensures progress { IfOk result (λ n. 1 ≤ n) }
     ensures within { IfOk result (λ n. n ≤ length piece.now) }
-    ensures gained { IfOk result (λ n. Appends (W.contents writer.old) (W.contents writer.new) (take n piece.now)) }
+    ensures gained { IfOk result
+        (λ n. Appends (W.contents writer.old) (W.contents writer.new) (take n piece.now)) }
     ensures front { OnErr result
         ((n : ℕ) × Appends (W.contents writer.old) (W.contents writer.new) (take n piece.now)) }
 {

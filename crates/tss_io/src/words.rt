@@ -10,11 +10,9 @@ ghost use Rattle.tss_io.specs.Kinds.{line_at, keyword_line_at};
 use crate::cause::Cause;
 use crate::decimals::decimal;
 use crate::fault::LineFault;
+use crate::limits::LONGEST_LINE;
 use crate::seq::Seq;
 use std::alloc::Global;
-
-/// The most bytes of a line, its newline not counted.
-const LINE_LENGTH: usize = 120;
 
 // Where the first such byte stands.
 fn place_of(bytes: &[u8], byte: u8) -> Option<usize>
@@ -45,13 +43,13 @@ pub fn next_line(text: &[u8]) -> Result<(&[u8], &[u8]), Cause>
 {
     match cut(text, b'\n') {
         None => {
-            if text.len() > LINE_LENGTH {
+            if text.len() > LONGEST_LINE {
                 return Err(Cause::Long);
             }
             Err(Cause::End)
         }
         Some((line, rest)) => {
-            if line.len() > LINE_LENGTH {
+            if line.len() > LONGEST_LINE {
                 return Err(Cause::Long);
             }
             Ok((line, rest))
@@ -119,7 +117,8 @@ pub fn number(least: u32, most: u32, word: &[u8]) -> Result<u32, Cause>
 /// The words behind the keyword of the next line, and the text behind that line.
 #[tactic(auto, unfolding(crate::specs::Kinds::keyword_line_at))]
 pub fn keyword_line<'a>(keyword: &[u8], text: &'a [u8]) -> Result<(&'a [u8], &'a [u8]), Cause>
-    ensures read { Answers (λ x. (words_of x.0.now, lines_of x.1.now)) result (keyword_line_at keyword.now (lines_of text.now)) }
+    ensures read { Answers (λ x. (words_of x.0.now, lines_of x.1.now)) result
+        (keyword_line_at keyword.now (lines_of text.now)) }
     ensures shorter { IfOk result (λ x. length x.1.now < length text.now) }
 {
     let (line, rest) = next_line(text)?;
@@ -170,7 +169,7 @@ pub fn count(words: &[u8]) -> usize
     count
 }
 
-// Puts the number of the word last.
+// Appends the number of the word.
 fn push_number(numbers: &mut Seq<u32>, least: u32, most: u32, word: &[u8]) -> Result<(), LineFault>
     ensures { GivesLine (λ _. numbers.new) result (pushed_number numbers.old least most word.now) }
 {

@@ -15,7 +15,8 @@ use game_trait::Game;
 pub fn step_moves_its_copy<G: Game>()
     ensures { (s : MirrorState G) (c : ℕ) → IsStaggered s
         → map beats (next s (Step c)).runs
-        ≡ (if is_idle s c then map beats s.runs else slice_set (map beats s.runs) c (copy_clock s.runs c + 1)) }
+        ≡ (if is_idle s c then map beats s.runs
+        else slice_set (map beats s.runs) c (copy_clock s.runs c + 1)) }
 {}
 
 /// No other event moves a copy's clock, however many copies it repairs.
@@ -26,5 +27,6 @@ pub fn other_events_move_no_copy<G: Game>()
 
 /// The mirror's clock goes on by the number of answers Moved.
 pub fn clock_counts<G: Game>()
-    ensures { (s : MirrorState G) (es : List Event) → (after s es).clock ≡ s.clock + moves (answers s es) }
+    ensures { (s : MirrorState G) (es : List Event)
+        → (after s es).clock ≡ s.clock + moves (answers s es) }
 {}

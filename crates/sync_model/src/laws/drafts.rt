@@ -1,4 +1,5 @@
-//! Ticks that are executed away from their mirror: which events make them stale, and that a fit is kept.
+//! Ticks that are executed away from their mirror: which events make them stale, and that a fit is
+//! kept.
 
 ghost use Rattle.std.specs.Prelude.{◌≡◌, ◌↔◌, ℕ, ◌+◌, ◌<◌, ◌≤◌, Bool, true, false, not, ◌&&◌, ◌||◌, ◌==◌, nat_le, nat_lt, if◌then◌else◌, List, length};
 ghost use Rattle.game_trait.specs.declared.command.Command.{Command};
@@ -14,8 +15,8 @@ ghost use Rattle.sync_model.specs.Drafts.{run_of, tick_at, renews, epoch, ReadyT
 
 use game_trait::Game;
 
-/// An event leaves a copy's epoch as it is exactly where it puts no plan in force, and changes neither the copy's run nor
-/// the commands due at the tick at which the copy stood.
+/// An event leaves a copy's epoch as it is exactly where it puts no plan in force, and changes
+/// neither the copy's run nor the commands due at the tick at which the copy stood.
 pub fn renews_exactly<G: Game>()
     ensures { (s : MirrorState G) (c : ℕ) (e : Event)
         → (renews s c e ≡ false)
@@ -57,17 +58,21 @@ pub fn restagger_renews<G: Game>()
     ensures { (s : MirrorState G) (c p : ℕ) → renews s c (Restagger p) ≡ true }
 {}
 
-/// An arrival that is taken renews the copies whose clock isn't below its time, and one that isn't taken none.
+/// An arrival that is taken renews the copies whose clock isn't below its time, and one that isn't
+/// taken none.
 pub fn arrival_renews<G: Game>()
     ensures { (s : MirrorState G) (c : ℕ) (x : Command) → IsStaggered s
-        → renews s c (Arrive x) ≡ (not (is_repeat s x) && (not (is_late s x) && nat_le x.time (copy_clock s.runs c))) }
+        → renews s c (Arrive x)
+        ≡ (not (is_repeat s x) && (not (is_late s x) && nat_le x.time (copy_clock s.runs c))) }
 {}
 
-/// A step that runs renews its copy and those that it repairs, which are the first, and an idle step none.
+/// A step that runs renews its copy and those that it repairs, which are the first, and an idle
+/// step none.
 pub fn step_renews<G: Game>()
     ensures { (s : MirrorState G) (c a : ℕ) → IsStaggered s → a < length s.runs
         → renews s c (Step a)
-        ≡ (not (is_idle s a) && ((c == a) || nat_lt c (repaired s.accepted (proposed_by_step s.accepted s.runs a)))) }
+        ≡ (not (is_idle s a)
+        && ((c == a) || nat_lt c (repaired s.accepted (proposed_by_step s.accepted s.runs a)))) }
 {}
 
 /// A ready tick that fits a state fits the state after any event, whether the event fits or not.
@@ -76,7 +81,8 @@ pub fn ready_fits_kept<G: Game>()
         → FitsReady G.rules s r → FitsReady G.rules (next s e) r }
 {}
 
-/// A copy's due tick, executed, fits the state from which it was drafted, where the copy is below its limit.
+/// A copy's due tick, executed, fits the state from which it was drafted, where the copy is below
+/// its limit.
 pub fn draft_fits<G: Game>()
     ensures { (s : MirrorState G) (c : ℕ) → c < length s.runs → is_idle s c ≡ false
         → FitsReady G.rules s (ready_of G.rules (draft_of G.rules s c)) }

@@ -13,7 +13,8 @@ ghost use Rattle.sync_model.specs.Turns.{turns_of, SameArrivals, IsDrained, is_d
 
 use game_trait::Game;
 
-/// A staggered mirror is drained after at most (length + longest delay in force - clock) + length turns.
+/// A staggered mirror is drained after at most (length + longest delay in force - clock) + length
+/// turns.
 pub fn draining_ends<G: Game>()
     ensures { (s : MirrorState G) → DelaysRise (delays_of s) → IsStaggered s → IsDrained (drain s) }
 {}
@@ -40,16 +41,20 @@ pub fn drained_in_order<G: Game>()
         → AllByRecursion (λ run. run ≡ ordered s.accepted 0 s.length) s.runs }
 {}
 
-/// A staggered mirror that is drained has each copy's world at the time-ordered execution of what was accepted.
+/// A staggered mirror that is drained has each copy's world at the time-ordered execution of what
+/// was accepted.
 pub fn drained_worlds<G: Game>()
     ensures { (s : MirrorState G) → IsStaggered s → IsDrained s
-        → AllByRecursion (λ run. world_of G.rules s.opening run ≡ time_ordered G.rules s.opening s.accepted s.length) s.runs }
+        → AllByRecursion
+        (λ run. world_of G.rules s.opening run
+        ≡ time_ordered G.rules s.opening s.accepted s.length) s.runs }
 {}
 
-/// A mirror that makes any list of events that fit, from its opening state, is staggered, and draining leaves each of its runs
-/// equal to the ordered part of what was accepted.
+/// A mirror that makes any list of events that fit, from its opening state, is staggered, and
+/// draining leaves each of its runs equal to the ordered part of what was accepted.
 pub fn played_in_order<G: Game>()
-    ensures { (opening : G) (length : ℕ) (plans : List (List ℕ)) (spare plan_spare : ℕ) (es : List Event)
+    ensures { (opening : G) (length : ℕ) (plans : List (List ℕ)) (spare plan_spare : ℕ)
+        (es : List Event)
         → let start = opening_state opening length plans spare plan_spare in
         AllByRecursion DelaysRise plans → AllByRecursion (Fits start) es
         → IsStaggered (after start es) × EndsInOrder (after start es) }

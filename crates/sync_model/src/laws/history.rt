@@ -16,7 +16,8 @@ ghost use Rattle.sync_model.specs.Legal.{NamesWhatIsThere, IsLog};
 
 use game_trait::Game;
 
-/// Late comes exactly where a new command is older than the last copy's clock, with that clock as its bound.
+/// Late comes exactly where a new command is older than the last copy's clock, with that clock as
+/// its bound.
 pub fn late_exactly<G: Game>()
     ensures { (s : MirrorState G) (x : Command) (bound : ℕ)
         → (said s (Arrive x) ≡ ToArrive (Late bound))
@@ -35,7 +36,8 @@ pub fn unchanged_exactly<G: Game>()
 
 /// The history grows by exactly the events that change the state.
 pub fn history_grows<G: Game>()
-    ensures { (s : MirrorState G) (es : List Event) → (after s es).history ≡ s.history ++ changing s es }
+    ensures { (s : MirrorState G) (es : List Event)
+        → (after s es).history ≡ s.history ++ changing s es }
 {}
 
 /// The state after all events is the state after those that change it.
@@ -51,18 +53,22 @@ pub fn reached_kept<G: Game>()
 /// Each event of a history changed the state in which it stood; every event keeps that.
 pub fn history_of_changes<G: Game>()
     ensures { (s : MirrorState G) (e : Event) → IsReached s
-        → EachChanges (first_state s) s.history → EachChanges (first_state (next s e)) (next s e).history }
+        → EachChanges (first_state s) s.history
+        → EachChanges (first_state (next s e)) (next s e).history }
 {}
 
 /// The repairs of a history go up by those of each answer.
 pub fn repairs_add_up<G: Game>()
-    ensures { (s : MirrorState G) (e : Event) → IsReached s → repairs (next s e) ≡ repairs s + repaired_in (said s e) }
+    ensures { (s : MirrorState G) (e : Event) → IsReached s
+        → repairs (next s e) ≡ repairs s + repaired_in (said s e) }
 {}
 
-/// The changing ones of events that name what is there are a log from any staggered state on: it is legal, the mirror is
-/// staggered after each front of it, and it leads to the state after all of them.
+/// The changing ones of events that name what is there are a log from any staggered state on: it is
+/// legal, the mirror is staggered after each front of it, and it leads to the state after all of
+/// them.
 pub fn changing_events_are_a_log<G: Game>()
     ensures { (commands : List Command) (s : MirrorState G) (es : List Event)
-        → AllByRecursion (λ x. x.time < s.length) commands → IsStaggered s → AllByRecursion (NamesWhatIsThere commands s) es
+        → AllByRecursion (λ x. x.time < s.length) commands → IsStaggered s
+        → AllByRecursion (NamesWhatIsThere commands s) es
         → IsLog commands s (after s es) (changing s es) }
 {}

@@ -19,8 +19,8 @@ pub fn room_decides_nothing<G: Game>()
         → without_room (after (with_room s spare plan_spare) es) ≡ without_room (after s es) }
 {}
 
-/// An arrival that is taken or turned away spends one of the room for arrivals, a change of the plan one of the room for those,
-/// and no other event spends any.
+/// An arrival that is taken or turned away spends one of the room for arrivals, a change of the
+/// plan one of the room for those, and no other event spends any.
 pub fn room_spent<G: Game>()
     ensures arrivals { (s : MirrorState G) (e : Event)
         → (next s e).spare ≡ s.spare - (if is_arrival e && changes s e then 1 else 0) }
@@ -34,9 +34,11 @@ pub fn opening_from_history<G: Game>()
         → IsFromHistory (opening_state opening length plans spare plan_spare) }
 {}
 
-/// Where a state is with its room the one that its history leads to, so is the next, where the event finds room.
+/// Where a state is with its room the one that its history leads to, so is the next, where the
+/// event finds room.
 pub fn from_history_kept<G: Game>()
-    ensures { (s : MirrorState G) (e : Event) → HasRoom s e → IsFromHistory s → IsFromHistory (next s e) }
+    ensures { (s : MirrorState G) (e : Event) → HasRoom s e → IsFromHistory s
+        → IsFromHistory (next s e) }
 {}
 
 /// A state that is with its room the one that its history leads to is so without it.

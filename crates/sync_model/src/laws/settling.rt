@@ -48,8 +48,8 @@ pub fn step_repairs_first()
         → AreFirst (which_repaired accepted (proposed_by_step accepted runs c)) }
 {}
 
-/// An arrival repairs no copy where it is late at none, and else those copies whose clock is greater than the clock of the last
-/// copy at which it is late.
+/// An arrival repairs no copy where it is late at none, and else those copies whose clock is
+/// greater than the clock of the last copy at which it is late.
 pub fn arrival_count()
     ensures { (accepted : List Command) (x : Command) (runs : List (List Item))
         → list_any (same_name x) accepted ≡ false
@@ -57,7 +57,8 @@ pub fn arrival_count()
         → repaired (accepted ++ x ∷ []) (proposed_by_arrival x runs) ≡ repaired_by_arrival x runs }
 {}
 
-/// A step repairs no copy, or all copies ahead of its own: these exactly where the run ahead doesn't begin with the new run.
+/// A step repairs no copy, or all copies ahead of its own: these exactly where the run ahead
+/// doesn't begin with the new run.
 pub fn step_count()
     ensures { (accepted : List Command) (runs : List (List Item)) (c : ℕ)
         → IsChained runs → AllByRecursion (IsComplete accepted) runs
@@ -98,8 +99,8 @@ pub fn step_front()
         → (settle accepted proposed ≡ proposed) × (repaired accepted proposed ≡ 0) }
 {}
 
-/// Where the run ahead doesn't begin with the new run, every run ahead becomes the new run, followed by the ordered part up to
-/// the clock that it had.
+/// Where the run ahead doesn't begin with the new run, every run ahead becomes the new run,
+/// followed by the ordered part up to the clock that it had.
 pub fn step_apart()
     ensures { (accepted : List Command) (runs : List (List Item)) (c : ℕ)
         → IsChained runs → AllByRecursion (IsComplete accepted) runs
@@ -126,9 +127,9 @@ pub fn last_late()
         → (m : ℕ) × IsLastLate x runs m }
 {}
 
-/// The last copy at which an arrival is late gains it at its run's end. Every run ahead becomes that run, followed by the ordered
-/// part up to the clock that it had: so a run with the clock of that copy gains it at its end too, and those with a greater clock
-/// are repaired.
+/// The last copy at which an arrival is late gains it at its run's end. Every run ahead becomes
+/// that run, followed by the ordered part up to the clock that it had: so a run with the clock of
+/// that copy gains it at its end too, and those with a greater clock are repaired.
 pub fn arrival_late()
     ensures { (accepted : List Command) (x : Command) (runs : List (List Item)) (m : ℕ)
         → list_any (same_name x) accepted ≡ false

@@ -27,9 +27,11 @@ pub fn staggered_along<G: Game>()
         → AllByRecursion (Fits s) es → IsStaggered s → IsStaggered (after s es) }
 {}
 
-/// Every event that fits leaves the plans and the number of copies those of a match, and a plan in force that is there.
+/// Every event that fits leaves the plans and the number of copies those of a match, and a plan in
+/// force that is there.
 pub fn well_formed_kept<G: Game>()
-    ensures { (s : MirrorState G) (e : Event) → Fits s e → IsWellFormed s → IsWellFormed (next s e) }
+    ensures { (s : MirrorState G) (e : Event) → Fits s e → IsWellFormed s
+        → IsWellFormed (next s e) }
 {}
 
 /// No event changes the fixed parts: the opening, the length, the plans and the number of copies.
