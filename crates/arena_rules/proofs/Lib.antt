@@ -1,5 +1,4 @@
 pub mod Walls
-mod Ahead
 mod Names
 mod Cells
 mod Changes
@@ -10,6 +9,7 @@ mod Players
 mod Shots
 mod Dead
 mod Lying
+mod Pickups
 mod Worlds
 mod Lines
 mod Same

@@ -1,5 +1,5 @@
 -- The names of a roster, which a set of keys holds.
-use Rattle.std.proofs.Common.{◌≡◌, ℕ, Bool, true, false, ◌||◌, if◌then◌else◌, List, [], ◌∷◌, ◌++◌, map, refl, ap}
+use Rattle.std.proofs.Common.{◌≡◌, ℕ, true, false, if◌then◌else◌, List, [], ◌∷◌, ◌++◌, map, refl}
 use Rattle.std.specs.List.{list_any, IsDistinct}
 use Rattle.std.specs.Str.{bytes_eq}
 use Rattle.std.proofs.lemmas.Cmp.{nat_list_eq_equiv}
@@ -7,11 +7,7 @@ use Rattle.std.proofs.lemmas.List.{map-append}
 use Rattle.std.proofs.lemmas.Map.Keys.{IsDistinct-push}
 use Rattle.indexmap.specs.IndexSet.{insert_key}
 use Rattle.arena_rules.specs.Roster.{is_known, with_name, PlayerNamesDiffer}
-
--- a test of what a function makes of each element
-pub list_any-map : {X Y : Type 0} (test : Y → Bool) (f : X → Y) (xs : List X) → list_any test (map f xs) ≡ list_any (λ x. test (f x)) xs
-list_any-map test f [] = refl
-list_any-map test f (x ∷ xs) = ap (λ b. test (f x) || b) (list_any-map test f xs)
+use Rattle.tss_io.proofs.EachLaws.{any_map}
 
 -- no name stands twice among no names
 pub PlayerNamesDiffer-nil : PlayerNamesDiffer []
@@ -28,7 +24,7 @@ PlayerNamesDiffer-with_name names name differ =
 
 -- a set of keys holds a name
 pub is_known-keys : {K : Type 0} (name : K → List ℕ) (keys : List K) (word : List ℕ) → is_known (map name keys) word ≡ list_any (λ k. bytes_eq word (name k)) keys
-is_known-keys name keys word = list_any-map (bytes_eq word) name keys
+is_known-keys name keys word = any_map (bytes_eq word) name keys
 
 -- the names after a key is put into the set
 pub names-insert_key : {K : Type 0} (name : K → List ℕ) (keys : List K) (key : K) → map name (insert_key (λ x y. bytes_eq (name x) (name y)) keys key) ≡ with_name (map name keys) (name key)

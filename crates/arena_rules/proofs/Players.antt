@@ -17,9 +17,9 @@ use Rattle.arena_rules.specs.declared.player.Body.{Body}
 use Rattle.arena_rules.specs.declared.player.Player.{Player}
 use Rattle.arena_rules.specs.declared.player.State.{State}
 use Rattle.arena_rules.specs.declared.player.State.TheVariants.{Live, Dead}
-use Rattle.arena_rules.proofs.Names.{list_any-map}
 use Rattle.arena_rules.proofs.Cells.{same_cell-symm, IsDistinct-set}
 use Rattle.arena_rules.proofs.Changes.{length-changed}
+use Rattle.tss_io.proofs.EachLaws.{any_map}
 
 -- the order in which two places are compared doesn't matter
 same_place-symm : (a b : Option Cell) → same_place a b ≡ same_place b a
@@ -68,7 +68,7 @@ ArePlayers-stayed grid players number old new sound there possible stays =
 -- nobody stands in a cell that isn't held
 pub unheld : (players : List Player) (cell : Cell) → is_held players cell ≡ false → list_any (same_place (Some cell)) (map place players) ≡ false
 unfolding is_held
-unheld players cell free = list_any-map (same_place (Some cell)) place players ∙ free
+unheld players cell free = any_map (same_place (Some cell)) place players ∙ free
 
 pub nowhere_held : (players : List Player) → list_any (same_place None) (map place players) ≡ false
 nowhere_held players = nowhere (map place players)

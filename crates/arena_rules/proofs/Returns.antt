@@ -1,9 +1,14 @@
 -- The dead return one after the other.
-use Rattle.std.proofs.Common.{◌≡◌, ℕ, ◌+◌, ◌<◌, ◌≤◌, List, [], ◌∷◌, ◌++◌, length, take, drop, get_or, set, refl, sym, ap, ◌∙◌, arith, take_all}
+use Rattle.std.proofs.Common.{◌≡◌, ℕ, true, ◌+◌, ◌<◌, ◌≤◌, List, [], ◌∷◌, ◌++◌, length, take, drop, get_or, set, refl, sym, ap, ◌∙◌, arith, take_all, append_assoc}
 use Rattle.std.proofs.lemmas.Grind.{take-set_at}
-use Rattle.std.proofs.lemmas.List.{drop_more, drop-set-lt, take-append-drop, drop_all}
+use Rattle.std.proofs.lemmas.List.{append-nil, drop_more, drop-set-lt, take-append-drop, drop_all}
+use Rattle.std.specs.List.{list_all}
+use Rattle.std.proofs.lemmas.Bool.{and_parts}
 use Rattle.arena_rules.specs.Beat.{returned, returns}
+use Rattle.arena_rules.specs.Player.{is_live, is_live_state}
 use Rattle.arena_rules.specs.declared.player.Player.{Player}
+use Rattle.arena_rules.specs.declared.player.State.{State}
+use Rattle.arena_rules.specs.declared.player.State.TheVariants.{Live, Dead}
 
 -- one more player
 returns-cons : (before after : List Player) (player : Player) → returns before (player ∷ after) ≡ returns (before ++ returned (before ++ player ∷ after) player ∷ []) after
@@ -24,6 +29,25 @@ returns-next players number d there =
     (sym (ap (λ l. returns (take number players) l) behind
     ∙ returns-cons (take number players) (drop (number + 1) players) player
     ∙ ap (λ l. returns (take number players ++ returned l player ∷ []) (drop (number + 1) players)) whole))
+
+-- a live player stays as it is
+returned-live : (players : List Player) (player : Player) (state : State) → player.state ≡ state → is_live_state state ≡ true → returned players player ≡ player
+unfolding returned
+returned-live players player (Live body) is live = rw is refl
+returned-live players player (Dead wait) is live = absurd cc
+
+-- where all players are live nobody returns
+returns-behind : (before after : List Player) → list_all is_live after ≡ true → returns before after ≡ before ++ after
+unfolding returns
+returns-behind before [] live = sym (append-nil before)
+returns-behind before (player ∷ after) live =
+    let parts = and_parts (is_live player) (list_all is_live after) live in
+    ap (λ p. returns (before ++ p ∷ []) after) (returned-live (before ++ player ∷ after) player player.state refl parts.0)
+    ∙ returns-behind (before ++ player ∷ []) after parts.1
+    ∙ append_assoc before (player ∷ []) after
+
+pub returns-live : (players : List Player) → list_all is_live players ≡ true → returns [] players ≡ players
+returns-live players live = returns-behind [] players live
 
 -- no player is left
 pub returns-all : (players : List Player) (number : ℕ) → length players ≤ number → returns (take number players) (drop number players) ≡ players

@@ -18,9 +18,11 @@ use Rattle.arena_rules.specs.declared.spot.Spot.{Spot}
 abbrev pub is_live_at : List Player → ℕ → Bool
 is_live_at players number = option_map_or is_live (slice_get players number) false
 
--- the score of a shot's owner, after it killed the player of this number: a loss where that is the owner, and else a gain
+-- the score of a shot's owner, after it killed the player of this number: a loss where that is the
+-- owner, and else a gain
 abbrev pub scored : List Player → ℕ → ℕ → List Player
-scored players owner killed = changed players owner (if owner == killed then with_loss else with_gain)
+scored players owner killed =
+    changed players owner (if owner == killed then with_loss else with_gain)
 
 -- the players after a shot of this owner hit the one of this number
 unfoldable pub hit : List Player → ℕ → ℕ → List Player
@@ -35,11 +37,13 @@ pub record Flight : Type 0 where
 
 -- a shot in its next cell, where it has cells left then
 abbrev pub flying : Shot → Spot → Option Shot
-flying shot spot = let left = shot.left - 1 in if left == 0 then None else Some (record shot { spot = spot; left = left })
+flying shot spot = let left = shot.left - 1 in
+    if left == 0 then None else Some (record shot { spot = spot; left = left })
 
 -- a shot into a cell: it hits the live player who stands there, and else it flies on
 abbrev pub flown_into : List Player → Shot → Spot → Option ℕ → Flight
-flown_into players shot spot (Some number) = record { players = hit players shot.owner number; shot = None }
+flown_into players shot spot (Some number) =
+    record { players = hit players shot.owner number; shot = None }
 flown_into players shot spot None = record { players = players; shot = flying shot spot }
 
 -- a shot to the spot ahead: it is gone where that is outside or walled
@@ -63,27 +67,32 @@ with_first shot others = record { players = others.players; shots = cons_option 
 -- the shots in list order
 unfoldable pub flights : Grid → List Player → List Shot → Flights
 flights grid players [] = record { players = players; shots = [] }
-flights grid players (shot ∷ shots) = let first = flown grid players shot in with_first first.shot (flights grid first.players shots)
+flights grid players (shot ∷ shots) = let first = flown grid players shot in
+    with_first first.shot (flights grid first.players shots)
 
 -- first part of a beat: each shot flies
 abbrev pub shots_flown : World → World
-shots_flown world = let all = flights world.grid world.players world.shots in record world { players = all.players; shots = all.shots }
+shots_flown world = let all = flights world.grid world.players world.shots in
+    record world { players = all.players; shots = all.shots }
 
--- a player who may return, among the players: a dead one's wait falls by one where it is above 0; where it is then 0 and no
--- live player stands in the home cell, the player is live at home
+-- a player who may return, among the players: a dead one's wait falls by one where it is above 0;
+-- where it is then 0 and no live player stands in the home cell, the player is live at home
 abbrev pub returned_from : List Player → Player → State → Player
 returned_from players player (Live body) = player
 returned_from players player (Dead wait) =
     let left = wait - 1 in
-    if (left == 0) && not (is_held players (spot_cell player.home)) then alive player (body_at_home player.home) else record player { state = Dead left }
+    if (left == 0) && not (is_held players (spot_cell player.home))
+    then alive player (body_at_home player.home) else record player { state = Dead left }
 
+-- a player at the end of a beat
 unfoldable pub returned : List Player → Player → Player
 returned players player = returned_from players player player.state
 
 -- the players in order, each among those who went before and those who come after
 unfoldable pub returns : List Player → List Player → List Player
 returns before [] = before
-returns before (player ∷ after) = returns (before ++ returned (before ++ player ∷ after) player ∷ []) after
+returns before (player ∷ after) =
+    returns (before ++ returned (before ++ player ∷ after) player ∷ []) after
 
 -- second part: the dead wait and return
 abbrev pub dead_returned : World → World

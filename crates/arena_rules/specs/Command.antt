@@ -15,6 +15,7 @@ use Rattle.arena_rules.specs.declared.player.Player.{Player}
 use Rattle.arena_rules.specs.declared.player.State.{State}
 use Rattle.arena_rules.specs.declared.player.State.TheVariants.{Live, Dead}
 use Rattle.arena_rules.specs.declared.spot.Spot.{Spot}
+use Rattle.game_trait.specs.declared.limits.TheConstants.{MOST_SHOTS}
 
 -- the facing after a quarter turn to the left
 abbrev pub turned_left : Face → Face
@@ -39,7 +40,8 @@ ahead W cell = (pos cell.x -ℤ pos 1, pos cell.y)
 
 -- the spot at this column and row with this facing, where that is a cell of the grid and not walled
 abbrev pub open_spot : Grid → Face → ℤ × ℤ → Option Spot
-open_spot grid face (pos x, pos y) = if is_open grid x y then Some (record { x = x; y = y; face = face }) else None
+open_spot grid face (pos x, pos y) =
+    if is_open grid x y then Some (record { x = x; y = y; face = face }) else None
 open_spot grid face (pos x, negsuc y) = None
 open_spot grid face (negsuc x, y) = None
 
@@ -52,6 +54,7 @@ abbrev pub live_in : Player → State → Option (Player × Body)
 live_in player (Live body) = Some (player, body)
 live_in player (Dead wait) = None
 
+-- the same of a player who may not be there
 abbrev pub live_of : Option Player → Option (Player × Body)
 live_of None = None
 live_of (Some player) = live_in player player.state
@@ -61,6 +64,7 @@ abbrev pub by_live : World → Option (Player × Body) → (Player → Body → 
 by_live world None change = world
 by_live world (Some (player, body)) change = change player body
 
+-- the same by the player of this number
 abbrev pub by_player : World → ℕ → (Player → Body → World) → World
 by_player world number change = by_live world (live_of (slice_get world.players number)) change
 
@@ -70,31 +74,42 @@ with_player world number player = record world { players = slice_set world.playe
 
 -- the world after the player of this number turns
 abbrev pub turned : World → ℕ → (Face → Face) → World
-turned world number turn = by_player world number (λ player body. with_player world number (alive player (turned_to body (turn body.spot.face))))
+turned world number turn =
+    by_player world number
+    (λ player body. with_player world number (alive player (turned_to body (turn body.spot.face))))
 
 -- the world after a player comes to the cell of this body, and takes what lies ready there
 abbrev pub arrived : World → ℕ → Player → Body → World
 arrived world number player body = record world {
-  players = slice_set world.players number (given player body (ready_kind world.pickups (spot_cell body.spot)));
+  players = slice_set world.players number
+      (given player body (ready_kind world.pickups (spot_cell body.spot)));
   pickups = taken world.pickups (spot_cell body.spot);
 }
 
 -- the world after a player goes to this spot, if there is one and no live player stands there
 abbrev pub gone_to : World → ℕ → Player → Body → Option Spot → World
 gone_to world number player body None = world
-gone_to world number player body (Some spot) = if is_held world.players (spot_cell spot) then world else arrived world number player (record body { spot = spot })
+gone_to world number player body (Some spot) =
+    if is_held world.players (spot_cell spot) then world
+    else arrived world number player (record body { spot = spot })
 
 -- the world after the player of this number goes one cell ahead
 unfoldable pub gone : World → ℕ → World
-gone world number = by_player world number (λ player body. gone_to world number player body (open_ahead world.grid body.spot))
+gone world number =
+    by_player world number
+    (λ player body. gone_to world number player body (open_ahead world.grid body.spot))
 
--- the world after the player of this number shoots: a shot more where there is ammunition and fewer than 64 shots fly
+-- the world after the player of this number shoots: a shot more where there is ammunition and
+-- room for it among those that fly
 abbrev pub fired : World → ℕ → Player → Body → World
-fired world number player body = if (body.ammo == 0) || nat_le 64 (length world.shots) then world else record world {
-  players = slice_set world.players number (alive player (record body { ammo = body.ammo - 1 }));
-  shots = world.shots ++ record { owner = number; spot = body.spot; left = 8 } ∷ [];
-}
+fired world number player body =
+    if (body.ammo == 0) || nat_le MOST_SHOTS (length world.shots) then world else record world {
+      players =
+          slice_set world.players number (alive player (record body { ammo = body.ammo - 1 }));
+      shots = world.shots ++ record { owner = number; spot = body.spot; left = 8 } ∷ [];
+    }
 
+-- the same where that player is there and live
 abbrev pub shot_by : World → ℕ → World
 shot_by world number = by_player world number (fired world number)
 

@@ -25,6 +25,7 @@ ready_kind pickups cell = option_map (λ p. p.place.kind) (find (lies_ready cell
 abbrev pub emptied : Cell → Pickup → Pickup
 emptied cell pickup = if lies_ready cell pickup then record pickup { wait = 20 } else pickup
 
+-- each of them so
 abbrev pub taken : List Pickup → Cell → List Pickup
 taken pickups cell = map (emptied cell) pickups
 
@@ -34,6 +35,10 @@ given player body None = alive player body
 given player body (Some Ammo) = alive player (record body { ammo = min 9 (body.ammo + 4) })
 given player body (Some Heal) = alive player (record body { health = min 3 (body.health + 1) })
 given player body (Some Gold) = alive (with_gain player) body
+
+-- a pickup doesn't wait
+abbrev pub is_ready : Pickup → Bool
+is_ready pickup = pickup.wait == 0
 
 -- a pickup after a beat: where its wait is above 0, it falls by one
 abbrev pub waited : Pickup → Pickup

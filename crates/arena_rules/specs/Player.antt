@@ -30,6 +30,7 @@ abbrev pub place_in : State → Option Cell
 place_in (Live body) = Some (spot_cell body.spot)
 place_in (Dead wait) = None
 
+-- that of a player
 abbrev pub place : Player → Option Cell
 place player = place_in player.state
 
@@ -72,9 +73,11 @@ with_gain player = record player { score = gained player.score }
 abbrev pub with_loss : Player → Player
 with_loss player = record player { score = lost player.score }
 
--- a player whom a shot hits: the health falls by one, and where it is then 0 the player is dead with wait 10
+-- a player whom a shot hits: the health falls by one, and where it is then 0 the player is dead
+-- with wait 10
 abbrev pub struck_state : State → State
-struck_state (Live body) = let health = body.health - 1 in if health == 0 then Dead 10 else Live (record body { health = health })
+struck_state (Live body) = let health = body.health - 1 in
+    if health == 0 then Dead 10 else Live (record body { health = health })
 struck_state (Dead wait) = Dead wait
 
 abbrev pub struck : Player → Player

@@ -5,8 +5,8 @@ use Rattle.arena_rules.specs.declared.pickup.Pickup.{Pickup}
 use Rattle.arena_rules.specs.declared.player.Player.{Player}
 use Rattle.arena_rules.specs.declared.shot.Shot.{Shot}
 
--- the ground, the players and the pickups in the order of their lines, the shots in the order in which they were fired, and
--- the time
+-- the ground, the players and the pickups in the order of their lines, the shots in the order in
+-- which they were fired, and the time
 pub record World : Type 0 where
   pub grid : Grid
   pub players : List Player

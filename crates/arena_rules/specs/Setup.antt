@@ -5,6 +5,7 @@ use Rattle.arena_rules.specs.Ground.{Grid, IsGrid, is_open}
 use Rattle.arena_rules.specs.declared.pickup.PickupSpot.{PickupSpot}
 use Rattle.arena_rules.specs.declared.spot.Spot.{Spot}
 use Rattle.arena_rules.specs.declared.setup.Setup.{Setup}
+use Rattle.game_trait.specs.declared.limits.TheConstants.{MOST_PLAYERS, MOST_PICKUPS}
 
 -- a setup as contracts see it
 pub record Layout : Type 0 where
@@ -14,7 +15,8 @@ pub record Layout : Type 0 where
 
 -- the ground and the two lists of a setup
 abbrev pub layout_of : Setup → Layout
-layout_of setup = record { grid = setup.ground; pickups = setup.pickups.items; players = setup.players.items }
+layout_of setup =
+    record { grid = setup.ground; pickups = setup.pickups.items; players = setup.players.items }
 
 -- a cell
 pub record Cell : Type 0 where
@@ -37,10 +39,11 @@ pickup_cell pickup = record { x = pickup.x; y = pickup.y }
 abbrev pub cells_in_use : Layout → List Cell
 cells_in_use layout = map pickup_cell layout.pickups ++ map spot_cell layout.players
 
--- a layout that a match text can give: all that stands somewhere stands in a cell of its own, in the grid and off the walls
+-- a layout that a match text can give: all that stands somewhere stands in a cell of its own, in
+-- the grid and off the walls
 pub record IsLayout (layout : Layout) : Type 0 where
   pub grid : IsGrid layout.grid
-  pub players : (1 ≤ length layout.players) × (length layout.players ≤ 32)
-  pub pickups : length layout.pickups ≤ 32
+  pub players : (1 ≤ length layout.players) × (length layout.players ≤ MOST_PLAYERS)
+  pub pickups : length layout.pickups ≤ MOST_PICKUPS
   pub free : list_all (λ c. is_open layout.grid c.x c.y) (cells_in_use layout) ≡ true
   pub apart : IsDistinct same_cell (cells_in_use layout)

@@ -26,7 +26,12 @@ at x y face = record { x = x; y = y; face = face }
 
 -- a live player of this home, spot, health, ammunition and score
 abbrev pub live : Spot → Spot → ℕ → ℕ → ℤ → Player
-live home spot health ammo score = record { home = home; score = score; state = Live (record { spot = spot; health = health; ammo = ammo }) }
+live home spot health ammo score =
+    record {
+      home = home;
+      score = score;
+      state = Live (record { spot = spot; health = health; ammo = ammo });
+    }
 
 -- a dead player of this home, wait and score
 abbrev pub dead : Spot → ℕ → ℤ → Player
@@ -42,11 +47,13 @@ item x y kind wait = record { place = record { x = x; y = y; kind = kind }; wait
 
 -- a world of these players, shots and pickups
 abbrev pub scene : List Player → List Shot → List Pickup → World
-scene players shots pickups = record { grid = yard; players = players; shots = shots; pickups = pickups; time = 7 }
+scene players shots pickups =
+    record { grid = yard; players = players; shots = shots; pickups = pickups; time = 7 }
 
 -- the same, a beat later
 abbrev pub later : List Player → List Shot → List Pickup → World
-later players shots pickups = record { grid = yard; players = players; shots = shots; pickups = pickups; time = 8 }
+later players shots pickups =
+    record { grid = yard; players = players; shots = shots; pickups = pickups; time = 8 }
 
 -- a world of this time, in which nobody is left to change
 abbrev pub idle_at : ℕ → World
@@ -98,11 +105,25 @@ on_ground grid = record { grid = grid; pickups = []; players = at 0 0 E ∷ [] }
 
 -- so many players, live and side by side in the lane
 abbrev pub crowd : ℕ → World
-crowd players = record { grid = lane; players = map (λ x. live (at x 0 N) (at x 0 N) 3 5 (pos 0)) (range_with_len 0 players); shots = []; pickups = []; time = 0 }
+crowd players =
+    record {
+      grid = lane;
+      players = map (λ x. live (at x 0 N) (at x 0 N) 3 5 (pos 0)) (range_with_len 0 players);
+      shots = [];
+      pickups = [];
+      time = 0;
+    }
 
 -- so many pickups side by side in the lane
 abbrev pub spread : ℕ → World
-spread pickups = record { grid = lane; players = []; shots = []; pickups = map (λ x. item x 0 Gold 20) (range_with_len 0 pickups); time = 0 }
+spread pickups =
+    record {
+      grid = lane;
+      players = [];
+      shots = [];
+      pickups = map (λ x. item x 0 Gold 20) (range_with_len 0 pickups);
+      time = 0;
+    }
 
 -- a world of ann, whose numbers are these
 abbrev pub with_numbers : ℕ → ℕ → ℤ → World

@@ -15,8 +15,10 @@ use Rattle.arena_rules.specs.declared.player.State.{State}
 use Rattle.arena_rules.specs.declared.player.State.TheVariants.{Live, Dead}
 use Rattle.arena_rules.specs.declared.shot.Shot.{Shot}
 pub use Rattle.arena_rules.specs.Scene.{World}
+use Rattle.game_trait.specs.declared.limits.TheConstants.{MOST_PLAYERS, MOST_SHOTS, MOST_PICKUPS}
 
--- the world as the match begins: every player is live at home, no shot flies, every pickup lies ready, and the time is 0
+-- the world as the match begins: every player is live at home, no shot flies, every pickup lies
+-- ready, and the time is 0
 abbrev pub opening_world : Layout → World
 opening_world layout = record {
   grid = layout.grid;
@@ -36,6 +38,7 @@ pub record IsBody (grid : Grid) (body : Body) : Type 0 where
   pub health : (1 ≤ body.health) × (body.health ≤ 3)
   pub ammo : body.ammo ≤ 9
 
+-- a player is live and such, or waits for at most 10 beats
 abbrev pub IsState : Grid → State → Type 0
 IsState grid (Live body) = IsBody grid body
 IsState grid (Dead wait) = wait ≤ 10
@@ -48,11 +51,12 @@ pub record IsPlayer (grid : Grid) (player : Player) : Type 0 where
 
 -- the players of a world: no two live ones share a cell
 pub record ArePlayers (grid : Grid) (players : List Player) : Type 0 where
-  pub count : length players ≤ 32
+  pub count : length players ≤ MOST_PLAYERS
   pub each : All (IsPlayer grid) players
   pub apart : IsDistinct same_place (map place players)
 
--- a shot of a world of so many players: its owner is there, it is in the grid and on no wall, and has 1 to 8 cells left
+-- a shot of a world of so many players: its owner is there, it is in the grid and on no wall, and
+-- has 1 to 8 cells left
 pub record IsShot (grid : Grid) (players : ℕ) (shot : Shot) : Type 0 where
   pub owner : shot.owner < players
   pub free : is_open grid shot.spot.x shot.spot.y ≡ true
@@ -60,7 +64,7 @@ pub record IsShot (grid : Grid) (players : ℕ) (shot : Shot) : Type 0 where
 
 -- the shots of a world
 pub record AreShots (grid : Grid) (players : ℕ) (shots : List Shot) : Type 0 where
-  pub count : length shots ≤ 64
+  pub count : length shots ≤ MOST_SHOTS
   pub each : All (IsShot grid players) shots
 
 -- a pickup of a world: it lies in the grid and on no wall, and waits for at most 20 beats
@@ -70,7 +74,7 @@ pub record IsPickup (grid : Grid) (pickup : Pickup) : Type 0 where
 
 -- the pickups of a world: no two share a cell
 pub record ArePickups (grid : Grid) (pickups : List Pickup) : Type 0 where
-  pub count : length pickups ≤ 32
+  pub count : length pickups ≤ MOST_PICKUPS
   pub each : All (IsPickup grid) pickups
   pub apart : IsDistinct same_cell (map (λ p. pickup_cell p.place) pickups)
 

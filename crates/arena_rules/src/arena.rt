@@ -9,20 +9,22 @@ ghost use Rattle.arena_rules.specs.World.{opening_world, IsWorld};
 
 use crate::block::{push_pickups, push_players, push_shots};
 use crate::ground::Ground;
-use crate::pickup::{MOST_PICKUPS, Pickup, all_ready, ready_kind, take, wait};
-use crate::player::{Body, MOST_PLAYERS, Player, all_at_home, is_held};
+use crate::pickup::{Pickup, all_ready, ready_kind, take, wait};
+use crate::player::{Body, Player, all_at_home, is_held};
 use crate::returning::return_all;
 use crate::roster::Roster;
 use crate::setup::Setup;
-use crate::shot::{MOST_SHOTS, Shot, fly_shots};
+use crate::shot::{Shot, fly_shots};
 use crate::shown::Shown;
 use arrayvec::ArrayVec;
+use game_trait::limits::{MOST_PICKUPS, MOST_PLAYERS, MOST_SHOTS};
 use game_trait::{Act, Command, Game, Tick};
 use std::marker::Model;
 use tss_io::NoMemory;
 
-/// A world of the arena: its ground, players, shots, pickups and time. No two live players ever share a cell, and no live
-/// player, shot or pickup stands on a wall or outside the grid. It has a fixed size.
+/// A world of the arena: its ground, players, shots, pickups and time. No two live players ever
+/// share a cell, and no live player, shot or pickup stands on a wall or outside the grid. It has a
+/// fixed size.
 #[derive(Debug, Drop)]
 pub struct Arena {
     ground: Ground,
@@ -37,14 +39,29 @@ impl Model for Arena {
 
     ghost Value = { World };
 
-    ghost view = { λ a. record { grid = a.ground; players = a.players.items; shots = a.shots.items; pickups = a.pickups.items; time = a.time } };
+    ghost view = { λ a.
+        record {
+          grid = a.ground;
+          players = a.players.items;
+          shots = a.shots.items;
+          pickups = a.pickups.items;
+          time = a.time;
+        } };
 
-    ghost invariant = { λ a. IsWorld (record { grid = a.ground; players = a.players.items; shots = a.shots.items; pickups = a.pickups.items; time = a.time }) };
+    ghost invariant = { λ a. IsWorld
+        (record {
+          grid = a.ground;
+          players = a.players.items;
+          shots = a.shots.items;
+          pickups = a.pickups.items;
+          time = a.time;
+        }) };
 }
 
 impl Arena {
-    /// The world as a match of this setup begins: every player is live at home with health 3, ammunition 5 and score 0, no shot
-    /// flies, every pickup lies ready, and the time is 0. The setup must be one that a match text can give. It takes no memory.
+    /// The world as a match of this setup begins: every player is live at home with health 3,
+    /// ammunition 5 and score 0, no shot flies, every pickup lies ready, and the time is 0. The
+    /// setup must be one that a match text can give. It takes no memory.
     pub fn start(setup: &Setup) -> Arena
         requires { IsLayout (layout_of setup.now) }
         ensures opening { result ≡ opening_world (layout_of setup.now) }
@@ -67,7 +84,8 @@ impl Arena {
         self.time
     }
 
-    /// The score of the player of this number, counted from 0, who must be there: from -1,000,000 to 1,000,000.
+    /// The score of the player of this number, counted from 0, who must be there: from -1,000,000
+    /// to 1,000,000.
     pub fn score(&self, player: u8) -> i32
         requires { player < length self.now.players }
         ensures { option_map (λ p. p.score) (slice_get self.now.players player) ≡ Some result }
@@ -118,7 +136,8 @@ impl Arena {
         self.players[number as usize] = player;
     }
 
-    // The player of this number, who has this body, comes to this spot, and takes what lies ready there.
+    // The player of this number, who has this body, comes to this spot, and takes what lies ready
+    // there.
     fn arrive(&mut self, number: u8, player: Player, body: Body)
         requires there { number < length self.old.players }
         requires sound { IsWorld (arrived self.old number player body) }
@@ -126,7 +145,7 @@ impl Arena {
     {
         let kind = ready_kind(&self.pickups, body.spot);
         self.players[number as usize] = player.given(body, kind);
-        take(&mut self.pickups, body.spot);
+        take(&mut self.pickups, body.spot, kind);
     }
 
     // A player goes one cell ahead.
@@ -186,8 +205,9 @@ impl Game for Arena {
 
     ghost rules = { arena_rules };
 
-    /// A command of a player who isn't there or is dead changes nothing, nor does a step into a cell that is walled, held by
-    /// another live player or outside the grid, nor a shot without ammunition or beside 64 others.
+    /// A command of a player who isn't there or is dead changes nothing, nor does a step into a
+    /// cell that is walled, held by another live player or outside the grid, nor a shot without
+    /// ammunition or beside 64 others.
     #[tactic(auto, unfolding(crate::specs::Command::applied))]
     fn apply(&mut self, x: &Command)
         ensures applied { self.new ≡ applied self.old x.now }
@@ -278,7 +298,8 @@ fn are_same_pickups(a: &[Pickup], b: &[Pickup]) -> bool
     a == b
 }
 
-// Copies the items in place of those that are there, in the time that both take and not that of the room.
+// Copies the items in place of those that are there, in the time that both take and not that of the
+// room.
 fn copy_into<T: Copy + Default, const N: usize>(place: &mut ArrayVec<T, N>, items: &[T])
     requires { length items.now ≤ N }
     ensures { place.new.items ≡ items.now }

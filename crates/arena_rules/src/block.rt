@@ -1,6 +1,7 @@
 //! The lines of a world, one kind after the other.
 
 ghost use Rattle.std.specs.Prelude.{◌≡◌, ◌++◌, ◌≤◌, flat_map, length, take, OnOk};
+ghost use Rattle.game_trait.specs.declared.limits.TheConstants.{MOST_PLAYERS};
 ghost use Rattle.arena_rules.specs.Block.{player_lines, shot_line, item_line};
 
 use crate::pickup::Pickup;
@@ -11,8 +12,9 @@ use tss_io::NoMemory;
 
 /// Appends the players' lines. On `NoMemory` some may have been appended.
 pub fn push_players(players: &[Player], roster: &Roster, out: &mut Vec<u8>) -> Result<(), NoMemory>
-    requires { length players.now ≤ 32 }
-    ensures ok { OnOk result (out.new.items ≡ out.old.items ++ player_lines roster.now 0 players.now) }
+    requires { length players.now ≤ MOST_PLAYERS }
+    ensures ok { OnOk result
+        (out.new.items ≡ out.old.items ++ player_lines roster.now 0 players.now) }
     ensures front { take (length out.old.items) out.new.items ≡ out.old.items }
 {
     for (number, player) in players.iter().enumerate() {
@@ -23,7 +25,8 @@ pub fn push_players(players: &[Player], roster: &Roster, out: &mut Vec<u8>) -> R
 
 /// Appends the shots' lines. On `NoMemory` some may have been appended.
 pub fn push_shots(shots: &[Shot], roster: &Roster, out: &mut Vec<u8>) -> Result<(), NoMemory>
-    ensures ok { OnOk result (out.new.items ≡ out.old.items ++ flat_map (shot_line roster.now) shots.now) }
+    ensures ok { OnOk result
+        (out.new.items ≡ out.old.items ++ flat_map (shot_line roster.now) shots.now) }
     ensures front { take (length out.old.items) out.new.items ≡ out.old.items }
 {
     for shot in shots {

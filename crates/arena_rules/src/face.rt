@@ -41,8 +41,8 @@ impl Face {
         }
     }
 
-    // The letter of the facing, as texts have it.
-    pub(crate) fn letter(self) -> &'static [u8]
+    /// The word of the facing, as texts have it.
+    pub fn word(self) -> &'static [u8]
         ensures { result.now ≡ face_word self }
     {
         match self {

@@ -1,6 +1,7 @@
 //! The ground: a grid with walls.
 
-ghost use Rattle.std.specs.Prelude.{◌≡◌, ℕ, ◌≤◌, ◌<◌, ◌↔◌, ◌⊎◌};
+ghost use Rattle.std.specs.Prelude.{◌≡◌, ℕ, ◌≤◌, ◌<◌, ◌↔◌, ◌⊎◌, ◌&&◌, not, pos, int_lt};
+ghost use Rattle.game_trait.specs.declared.limits.TheConstants.{NARROWEST_GRID, WIDEST_GRID, TALLEST_GRID};
 ghost use Rattle.arena_rules.specs.Ground.{open_grid, with_wall, is_walled, IsWalled, is_open, is_free, IsGrid};
 ghost use Rattle.arena_rules.specs.Command.{open_spot, open_ahead};
 
@@ -8,8 +9,9 @@ use crate::face::Face;
 use crate::spot::Spot;
 use std::marker::Model;
 
-/// The ground of an arena: a grid of at most 64 by 64 cells, some of them walled. Cells are (x, y); x rises to the east and y to the
-/// south, both from 0. It has a fixed size, and no call takes memory.
+/// The ground of an arena: a grid of at most 64 by 64 cells, some of them walled. Cells are (x, y);
+/// x rises to the east and y to the south, both from 0. It has a fixed size, and no call takes
+/// memory.
 #[derive(Clone, Copy, Debug, PartialEq, Eq)]
 pub struct Ground {
     width: u8,
@@ -32,8 +34,8 @@ impl Model for Ground {
 impl Ground {
     /// A grid of these sides without walls. The width is from 3 to 64 and the height from 1 to 64.
     pub fn new(width: u8, height: u8) -> Ground
-        requires width { (3 ≤ width) × (width ≤ 64) }
-        requires height { (1 ≤ height) × (height ≤ 64) }
+        requires width { (NARROWEST_GRID ≤ width) × (width ≤ WIDEST_GRID) }
+        requires height { (1 ≤ height) × (height ≤ TALLEST_GRID) }
         ensures open { result ≡ open_grid width height }
         ensures no_wall { (x y : ℕ) → ¬ IsWalled result x y }
         ensures sound { IsGrid result }
@@ -50,7 +52,8 @@ impl Ground {
         requires column { x < self.old.width }
         requires row { y < self.old.height }
         ensures walled { self.new ≡ with_wall self.old x y }
-        ensures cells { (a b : ℕ) → IsWalled self.new a b ↔ (IsWalled self.old a b ⊎ ((a ≡ x) × (b ≡ y))) }
+        ensures cells { (a b : ℕ)
+            → IsWalled self.new a b ↔ (IsWalled self.old a b ⊎ ((a ≡ x) × (b ≡ y))) }
         ensures sides { (self.new.width ≡ self.old.width) × (self.new.height ≡ self.old.height) }
         ensures sound { IsGrid self.new }
     {
@@ -80,7 +83,8 @@ impl Ground {
         x < self.width && y < self.height && !self.is_walled(x, y)
     }
 
-    // The spot one cell ahead with the same facing, where that is a cell of the grid and not walled.
+    // The spot one cell ahead with the same facing, where that is a cell of the grid and not
+    // walled.
     pub(crate) fn open_ahead(&self, spot: Spot) -> Option<Spot>
         ensures { result ≡ open_ahead self.now spot }
     {
@@ -88,23 +92,32 @@ impl Ground {
         self.open_spot(spot.face, x, y)
     }
 
-    // The spot at this column and row with this facing, where that is a cell of the grid and not walled.
-    fn open_spot(&self, face: Face, x: i32, y: i32) -> Option<Spot>
-        ensures { result ≡ open_spot self.now face (x, y) }
+    // Whether the grid has this column and this row.
+    fn has(&self, x: i32, y: i32) -> bool
+        ensures inside { result
+            ≡ ((not (int_lt x (pos 0)) && not (int_lt y (pos 0)))
+            && (int_lt x (pos self.now.width) && int_lt y (pos self.now.height))) }
+        ensures sound { IsGrid self.now }
     {
         // Reads the ground, whose invariant the answers below rest on.
         let _ = &self.width;
-        let Ok(x) = u8::try_from(x) else {
+        x >= 0 && y >= 0 && x < i32::from(self.width) && y < i32::from(self.height)
+    }
+
+    // The spot at this column and row with this facing, where that is a cell of the grid and not
+    // walled.
+    #[tactic(auto, unfolding(crate::specs::Ground::is_open))]
+    fn open_spot(&self, face: Face, x: i32, y: i32) -> Option<Spot>
+        ensures { result ≡ open_spot self.now face (x, y) }
+    {
+        if !self.has(x, y) {
             return None;
-        };
-        let Ok(y) = u8::try_from(y) else {
-            return None;
-        };
-        if self.is_open(x, y) {
-            Some(Spot { x, y, face })
-        } else {
-            None
         }
+        let (x, y) = (x as u8, y as u8);
+        if self.is_walled(x, y) {
+            return None;
+        }
+        Some(Spot { x, y, face })
     }
 
     fn is_walled(&self, x: u8, y: u8) -> bool

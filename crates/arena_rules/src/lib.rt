@@ -1,4 +1,5 @@
-//! The rules of the arena: its ground, its players and its worlds, the game that mirrors keep in step.
+//! The rules of the arena: its ground, its players and its worlds, the game that mirrors keep in
+//! step.
 #![tactic(auto)]
 
 mod arena;

@@ -1,16 +1,16 @@
 //! What lies in the arena to be taken.
 
 ghost use Rattle.std.specs.Prelude.{◌≡◌, ◌≤◌, ◌++◌, map, length, OnOk, OnErr};
+ghost use Rattle.std.specs.List.{list_all};
+ghost use Rattle.game_trait.specs.declared.limits.TheConstants.{MOST_PICKUPS};
 ghost use Rattle.arena_rules.specs.Block.{kind_word, item_line};
 ghost use Rattle.arena_rules.specs.Setup.{spot_cell};
-ghost use Rattle.arena_rules.specs.Pickup.{opening_pickup, lies_ready, ready_kind, emptied, taken, waited};
+ghost use Rattle.arena_rules.specs.Pickup.{opening_pickup, lies_ready, ready_kind, emptied, taken, waited, is_ready};
 
 use crate::spot::Spot;
 use arrayvec::ArrayVec;
+use game_trait::limits::MOST_PICKUPS;
 use tss_io::{NoMemory, Word, push_line};
-
-// The greatest number of pickups.
-pub const MOST_PICKUPS: usize = 32;
 
 /// What a pickup gives to the player who takes it.
 #[derive(Clone, Copy, Debug, Default, PartialEq, Eq)]
@@ -35,17 +35,17 @@ pub struct PickupSpot {
     pub kind: Kind,
 }
 
-// A pickup of the arena.
+/// A pickup of the arena.
 #[derive(Clone, Copy, Debug, Default, PartialEq, Eq)]
 pub struct Pickup {
     pub place: PickupSpot,
-    // For so many beats more it can't be taken, from 0 to 20.
+    /// For so many beats more it can't be taken, from 0 to 20.
     pub wait: u8,
 }
 
 impl Kind {
-    // The word of the kind, as texts have it.
-    fn word(self) -> &'static [u8]
+    /// The word of the kind, as texts have it.
+    pub fn word(self) -> &'static [u8]
         ensures { result.now ≡ kind_word self }
     {
         match self {
@@ -57,7 +57,8 @@ impl Kind {
 }
 
 impl Pickup {
-    /// Appends the pickup's line: its cell, its kind and its wait. On `NoMemory` `out` is unchanged.
+    /// Appends the pickup's line: its cell, its kind and its wait. On `NoMemory` `out` is
+    /// unchanged.
     #[tactic(auto, unfolding(crate::specs::Block::item_line))]
     pub fn push_line(&self, out: &mut Vec<u8>) -> Result<(), NoMemory>
         ensures ok { OnOk result (out.new.items ≡ out.old.items ++ item_line self.now) }
@@ -80,7 +81,8 @@ impl Pickup {
         Pickup { place, wait: 0 }
     }
 
-    /// Whether a pickup lies ready in the cell of this spot: it stands there, and its wait is 0 beats.
+    /// Whether a pickup lies ready in the cell of this spot: it stands there, and its wait is 0
+    /// beats.
     pub fn lies_ready(&self, spot: Spot) -> bool
         ensures { result ≡ lies_ready (spot_cell spot) self.now }
     {
@@ -119,8 +121,18 @@ pub fn ready_kind(pickups: &[Pickup], spot: Spot) -> Option<Kind>
         .map(|p| p.place.kind)
 }
 
-/// Takes what lies ready in the cell of this spot.
-pub fn take(pickups: &mut [Pickup], spot: Spot)
+/// Takes what lies ready in the cell of this spot, which is of this kind, or nothing.
+pub fn take(pickups: &mut [Pickup], spot: Spot, kind: Option<Kind>)
+    requires { kind ≡ ready_kind pickups.old (spot_cell spot) }
+    ensures { pickups.new ≡ taken pickups.old (spot_cell spot) }
+{
+    if kind.is_some() {
+        take_each(pickups, spot);
+    }
+}
+
+// Takes each pickup that lies ready in the cell of this spot.
+fn take_each(pickups: &mut [Pickup], spot: Spot)
     ensures { pickups.new ≡ taken pickups.old (spot_cell spot) }
 {
     for pickup in pickups.iter_mut() {
@@ -128,8 +140,16 @@ pub fn take(pickups: &mut [Pickup], spot: Spot)
     }
 }
 
-/// The third part of a beat.
-pub fn wait(pickups: &mut [Pickup])
+// Whether no pickup waits.
+fn are_ready(pickups: &[Pickup]) -> bool
+    ensures { result ≡ list_all is_ready pickups.now }
+{
+    pickups.iter().all(|p| p.wait == 0)
+}
+
+// Each pickup waits a beat less. It is kept apart from a beat's code, since in most beats none waits.
+#[inline(never)]
+fn wait_each(pickups: &mut [Pickup])
     ensures { pickups.new ≡ map waited pickups.old }
 {
     for pickup in pickups.iter_mut() {
@@ -137,9 +157,19 @@ pub fn wait(pickups: &mut [Pickup])
     }
 }
 
+/// The third part of a beat. Where no pickup waits nothing changes.
+pub fn wait(pickups: &mut [Pickup])
+    ensures { pickups.new ≡ map waited pickups.old }
+{
+    if are_ready(pickups) {
+        return;
+    }
+    wait_each(pickups);
+}
+
 /// The pickups as the match begins.
 pub fn all_ready(places: &[PickupSpot]) -> ArrayVec<Pickup, MOST_PICKUPS>
-    requires { length places.now ≤ 32 }
+    requires { length places.now ≤ MOST_PICKUPS }
     ensures { result.items ≡ map opening_pickup places.now }
 {
     let mut pickups = ArrayVec::new();

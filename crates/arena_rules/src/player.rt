@@ -1,6 +1,7 @@
 //! The players, live or dead.
 
 ghost use Rattle.std.specs.Prelude.{◌≡◌, ◌≤◌, ◌++◌, map, length, OnOk, OnErr};
+ghost use Rattle.game_trait.specs.declared.limits.TheConstants.{MOST_PLAYERS};
 ghost use Rattle.arena_rules.specs.Block.{player_line};
 ghost use Rattle.arena_rules.specs.Setup.{spot_cell};
 ghost use Rattle.arena_rules.specs.Player.{opening_player, body_at_home, turned_to, alive, stands_in, is_held, holder, is_live, struck, with_gain, with_loss};
@@ -11,19 +12,17 @@ use crate::face::Face;
 use crate::pickup::Kind;
 use crate::spot::Spot;
 use arrayvec::ArrayVec;
+use game_trait::limits::MOST_PLAYERS;
 use tss_io::{NoMemory, Word, push_line};
 
-// The greatest number of players.
-pub const MOST_PLAYERS: usize = 32;
-
-// A live player's body.
+/// A live player's body.
 #[derive(Clone, Copy, Debug, Default, PartialEq, Eq)]
 pub struct Body {
-    // Where the player stands, and the facing.
+    /// Where the player stands, and the facing.
     pub spot: Spot,
-    // From 1 to 3.
+    /// From 1 to 3.
     pub health: u8,
-    // From 0 to 9.
+    /// From 0 to 9.
     pub ammo: u8,
 }
 
@@ -50,11 +49,11 @@ impl Body {
     }
 }
 
-// Whether a player is live or dead.
+/// Whether a player is live or dead.
 #[derive(Clone, Copy, Debug, PartialEq, Eq)]
 pub enum State {
     Live(Body),
-    // Dead for so many beats more at least, from 0 to 10.
+    /// Dead for so many beats more at least, from 0 to 10.
     Dead { wait: u8 },
 }
 
@@ -64,12 +63,12 @@ impl Default for State {
     }
 }
 
-// A player of the arena.
+/// A player of the arena.
 #[derive(Clone, Copy, Debug, Default, PartialEq, Eq)]
 pub struct Player {
-    // Where the player starts and returns to, and the facing there.
+    /// Where the player starts and returns to, and the facing there.
     pub home: Spot,
-    // From -1,000,000 to 1,000,000.
+    /// From -1,000,000 to 1,000,000.
     pub score: i32,
     pub state: State,
 }
@@ -123,8 +122,8 @@ impl Player {
         }
     }
 
-    /// Appends the player's line: a live one's name, cell, facing, health, ammunition and score, a dead one's name, wait and score.
-    /// On `NoMemory` `out` is unchanged.
+    /// Appends the player's line: a live one's name, cell, facing, health, ammunition and score, a
+    /// dead one's name, wait and score. On `NoMemory` `out` is unchanged.
     #[tactic(auto, unfolding(crate::specs::Block::player_line))]
     pub fn push_line(&self, name: &[u8], out: &mut Vec<u8>) -> Result<(), NoMemory>
         ensures ok { OnOk result (out.new.items ≡ out.old.items ++ player_line name.now self.now) }
@@ -138,7 +137,7 @@ impl Player {
                     Word::Text(name),
                     Word::Number(i64::from(body.spot.x)),
                     Word::Number(i64::from(body.spot.y)),
-                    Word::Text(body.spot.face.letter()),
+                    Word::Text(body.spot.face.word()),
                     Word::Number(i64::from(body.health)),
                     Word::Number(i64::from(body.ammo)),
                     score,
@@ -233,7 +232,7 @@ pub fn holder(players: &[Player], spot: Spot) -> Option<usize>
 
 /// The players as the match begins.
 pub fn all_at_home(homes: &[Spot]) -> ArrayVec<Player, MOST_PLAYERS>
-    requires { length homes.now ≤ 32 }
+    requires { length homes.now ≤ MOST_PLAYERS }
     ensures { result.items ≡ map opening_player homes.now }
 {
     let mut players = ArrayVec::new();

@@ -1,7 +1,9 @@
 //! How the dead come back: the second part of a beat.
 
 ghost use Rattle.std.specs.Prelude.{◌≡◌, []};
+ghost use Rattle.std.specs.List.{list_all};
 ghost use Rattle.arena_rules.specs.Beat.{returned, returns};
+ghost use Rattle.arena_rules.specs.Player.{is_live};
 
 use crate::player::{Body, Player, State, is_held};
 
@@ -24,11 +26,31 @@ fn returned(players: &[Player], player: Player) -> Player
     }
 }
 
-/// The second part of a beat: the dead wait and return, in player order.
-pub fn return_all(players: &mut [Player])
+// Whether all players are live.
+fn are_live(players: &[Player]) -> bool
+    ensures { result ≡ list_all is_live players.now }
+{
+    players.iter().all(|p| p.is_live())
+}
+
+// The dead wait and return, in player order. It is kept apart from a beat's code, since in most
+// beats all are live.
+#[inline(never)]
+fn return_each(players: &mut [Player])
     ensures { players.new ≡ returns [] players.old }
 {
     for number in 0..players.len() {
         players[number] = returned(players, players[number]);
     }
+}
+
+/// The second part of a beat: the dead wait and return, in player order. Where all players are live
+/// nothing changes.
+pub fn return_all(players: &mut [Player])
+    ensures { players.new ≡ returns [] players.old }
+{
+    if are_live(players) {
+        return;
+    }
+    return_each(players);
 }

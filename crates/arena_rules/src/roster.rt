@@ -36,7 +36,8 @@ impl Roster {
         })
     }
 
-    /// Puts the name last and answers true, or answers false where the name is there already. On `NoMemory` nothing changed.
+    /// Appends the name and answers true, or answers false where the name is there already. On
+    /// `NoMemory` nothing changed.
     pub fn add(&mut self, name: &[u8]) -> Result<bool, NoMemory>
         ensures added { IfOk result (λ added. added ≡ not (is_known self.old name.now)) }
         ensures ok { IfOk result (λ _. self.new ≡ with_name self.old name.now) }
@@ -51,7 +52,8 @@ impl Roster {
         Ok(true)
     }
 
-    /// The name of the player of this number, counted from 0, or None where there are no more than so many names.
+    /// The name of the player of this number, counted from 0, or None where there are no more than
+    /// so many names.
     pub fn name(&self, player: u8) -> Option<&[u8]>
         ensures name { option_copied result ≡ slice_get self.now player }
         ensures distinct { PlayerNamesDiffer self.now }

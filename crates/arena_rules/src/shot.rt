@@ -1,6 +1,7 @@
 //! The shots, and how they fly: the first part of a beat.
 
 ghost use Rattle.std.specs.Prelude.{◌++◌, OnOk, OnErr, ◌≡◌, ◌≤◌, ◌<◌, All, length};
+ghost use Rattle.game_trait.specs.declared.limits.TheConstants.{MOST_SHOTS};
 ghost use Rattle.arena_rules.specs.Block.{shot_line};
 ghost use Rattle.arena_rules.specs.Beat.{hit, scored, flying, flown, flights, Flight, Flights};
 
@@ -9,18 +10,16 @@ use crate::player::{Player, holder};
 use crate::roster::Roster;
 use crate::spot::Spot;
 use arrayvec::ArrayVec;
+use game_trait::limits::MOST_SHOTS;
 use tss_io::{NoMemory, Word, push_line};
 
-// The greatest number of shots at one time.
-pub const MOST_SHOTS: usize = 64;
-
-// A shot that flies.
+/// A shot that flies.
 #[derive(Clone, Copy, Debug, Default, PartialEq, Eq)]
 pub struct Shot {
-    // The number of the player who fired it.
+    /// The number of the player who fired it.
     pub owner: u8,
     pub spot: Spot,
-    // The cells left, from 1 to 8.
+    /// The cells left, from 1 to 8.
     pub left: u8,
 }
 
@@ -36,7 +35,8 @@ impl Shot {
         }
     }
 
-    /// Appends the shot's line: its owner's name, its cell, its facing and the cells left. On `NoMemory` `out` is unchanged.
+    /// Appends the shot's line: its owner's name, its cell, its facing and the cells left. On
+    /// `NoMemory` `out` is unchanged.
     #[tactic(auto, unfolding(crate::specs::Block::shot_line))]
     pub fn push_line(&self, roster: &Roster, out: &mut Vec<u8>) -> Result<(), NoMemory>
         ensures ok { OnOk result (out.new.items ≡ out.old.items ++ shot_line roster.now self.now) }
@@ -47,7 +47,7 @@ impl Shot {
             Word::Text(roster.printed_name(self.owner)),
             Word::Number(i64::from(self.spot.x)),
             Word::Number(i64::from(self.spot.y)),
-            Word::Text(self.spot.face.letter()),
+            Word::Text(self.spot.face.word()),
             Word::Number(i64::from(self.left)),
         ];
         push_line(out, &words)
@@ -108,15 +108,13 @@ fn fly(ground: &Ground, players: &mut [Player], shot: Shot) -> Option<Shot>
     }
 }
 
-/// The first part of a beat: the shots fly in list order, and each sees what those before it did.
-pub fn fly_all(
-    ground: &Ground,
-    players: &mut [Player],
-    shots: &[Shot],
-) -> ArrayVec<Shot, MOST_SHOTS>
-    requires count { length shots.now ≤ 64 }
+// The shots fly in list order, and each sees what those before it did. The answer is those that fly
+// on.
+fn fly_all(ground: &Ground, players: &mut [Player], shots: &[Shot]) -> ArrayVec<Shot, MOST_SHOTS>
+    requires count { length shots.now ≤ MOST_SHOTS }
     requires owners { All (λ s. s.owner < length players.old) shots.now }
-    ensures { flights ground.now players.old shots.now ≡ record { players = players.new; shots = result.items } }
+    ensures { flights ground.now players.old shots.now
+        ≡ record { players = players.new; shots = result.items } }
 {
     let mut flying = ArrayVec::new();
     for &shot in shots {
@@ -127,15 +125,27 @@ pub fn fly_all(
     flying
 }
 
-/// The same of the shots of a world, which become those that fly on. Where no shot flies nothing changes, and no list of
-/// shots is made anew.
+// The shots of a world fly, and become those that fly on. It is kept apart from a beat's code,
+// since most beats have no shots.
+#[inline(never)]
+fn fly_each(ground: &Ground, players: &mut [Player], shots: &mut ArrayVec<Shot, MOST_SHOTS>)
+    requires { All (λ s. s.owner < length players.old) shots.old.items }
+    ensures { flights ground.now players.old shots.old.items
+        ≡ record { players = players.new; shots = shots.new.items } }
+{
+    *shots = fly_all(ground, players, shots);
+}
+
+/// The first part of a beat: the shots of a world fly, and become those that fly on. Where there is
+/// none nothing changes.
 #[tactic(auto, unfolding(crate::specs::Beat::flights))]
 pub fn fly_shots(ground: &Ground, players: &mut [Player], shots: &mut ArrayVec<Shot, MOST_SHOTS>)
     requires { All (λ s. s.owner < length players.old) shots.old.items }
-    ensures { flights ground.now players.old shots.old.items ≡ record { players = players.new; shots = shots.new.items } }
+    ensures { flights ground.now players.old shots.old.items
+        ≡ record { players = players.new; shots = shots.new.items } }
 {
     if shots.is_empty() {
         return;
     }
-    *shots = fly_all(ground, players, shots);
+    fly_each(ground, players, shots);
 }

@@ -6,7 +6,8 @@ ghost use Rattle.arena_rules.specs.Command.{ahead};
 
 use crate::face::Face;
 
-/// A cell and a facing. In a grid x is from 0 to 63 and rises to the east, and y is from 0 to 63 and rises to the south.
+/// A cell and a facing. In a grid x is from 0 to 63 and rises to the east, and y is from 0 to 63
+/// and rises to the south.
 #[derive(Clone, Copy, Debug, Default, PartialEq, Eq)]
 pub struct Spot {
     /// The column of the cell.
@@ -22,13 +23,12 @@ impl Spot {
     pub(crate) fn ahead(self) -> (i32, i32)
         ensures { result ≡ ahead self.face (spot_cell self) }
     {
-        let x = i32::from(self.x);
-        let y = i32::from(self.y);
-        match self.face {
-            Face::N => (x, y - 1),
-            Face::E => (x + 1, y),
-            Face::S => (x, y + 1),
-            Face::W => (x - 1, y),
-        }
+        let (right, down) = match self.face {
+            Face::N => (0, -1),
+            Face::E => (1, 0),
+            Face::S => (0, 1),
+            Face::W => (-1, 0),
+        };
+        (i32::from(self.x) + right, i32::from(self.y) + down)
     }
 }

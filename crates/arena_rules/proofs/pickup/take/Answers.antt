@@ -1,9 +1,7 @@
-use Rattle.std.proofs.Common.{arith}
-use Rattle.std.proofs.lemmas.Grind.{elements}
-use Rattle.std.proofs.lemmas.List.Edits.{map_over_more}
-use Rattle.arena_rules.specs.Setup.{spot_cell}
-use Rattle.arena_rules.specs.Pickup.{emptied}
+use Rattle.std.proofs.Common.{sym, ◌∙◌}
+use Rattle.arena_rules.proofs.Pickups.{no_kind, taken-none}
 use Rattle.arena_rules.proofs.pickup.take.Goals as goal
 
-pub loop-pickup-preserved : goal.loop-pickup-preserved
-loop-pickup-preserved c = rw c.emptied.ensures (map_over_more (emptied (spot_cell c.args.spot)) c.args.pickups.now c.loop-pickup.pickups c.loop-pickup.pickup-index _ c.loop-pickup-test.true c.loop-pickup.invariant (grind (arith, elements)))
+pub returns-else-is_some : goal.returns-else-is_some
+returns-else-is_some c =
+    sym (taken-none _ _ (sym c.requires ∙ no_kind c.args.kind (sym c.is_some.ensures ∙ c.if-is_some.false)))

@@ -1,9 +1,6 @@
-use Rattle.std.proofs.Common.{sym, ◌∙◌, arith}
-use Rattle.arena_rules.proofs.Returns.{returns-next, returns-all}
+use Rattle.std.proofs.Common.{sym, ◌∙◌}
+use Rattle.arena_rules.proofs.Returns.{returns-live}
 use Rattle.arena_rules.proofs.returning.return_all.Goals as goal
 
-pub loop-number-preserved : goal.loop-number-preserved
-loop-number-preserved c = rw c.returned.ensures (returns-next c.loop-number.players c.loop-number.number _ (omega arith) ∙ c.loop-number.invariant)
-
-pub returns : goal.returns
-returns c = sym (returns-all c.loop-number.players c.loop-number.number (omega arith)) ∙ c.loop-number.invariant
+pub returns-then-are_live : goal.returns-then-are_live
+returns-then-are_live c = sym (returns-live c.args.players.now (sym c.are_live.ensures ∙ c.if-are_live.true))

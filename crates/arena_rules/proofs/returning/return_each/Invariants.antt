@@ -1,6 +1,6 @@
 use Rattle.std.proofs.Common.{◌≡◌, [], take, drop}
 use Rattle.arena_rules.specs.Beat.{returns}
-use Rattle.arena_rules.proofs.returning.return_all.Given as goal
+use Rattle.arena_rules.proofs.returning.return_each.Given as goal
 
 abbrev pub invariant-loop-number : goal.invariant-loop-number
 invariant-loop-number l = returns (take l.number l.players) (drop l.number l.players) ≡ returns [] l.fn.players
