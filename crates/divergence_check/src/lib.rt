@@ -1,7 +1,9 @@
-//! Whether a copy's due tick stands next in the copies' runs; stands on `executed_list` and `pending_list`.
+//! Whether a copy's due tick stands next in the copies' runs; stands on `executed_list` and
+//! `pending_list`.
 #![tactic(auto)]
 
-ghost use Rattle.std.specs.Prelude.{◌≡◌, ◌↔◌, ◌+◌, ◌-◌, ◌<◌, ◌≤◌, Option, Some, None, IfSome, true, length, drop, slice_get};
+ghost use Rattle.std.specs.Prelude.{◌≡◌, ◌↔◌, ◌+◌, ◌-◌, ◌<◌, ◌≤◌, Option, Some, None, IfSome, true};
+ghost use Rattle.std.specs.Prelude.{length, drop, slice_get};
 ghost use Rattle.game_trait.specs.Ordered.{tick_of};
 ghost use Rattle.game_trait.specs.Run.{IsPrefix};
 ghost use Rattle.divergence_check.specs.Divergence.{DiffersFirstAt};
@@ -21,13 +23,15 @@ fn stands_at(run: &Segments, place: u32, item: &Item) -> bool
     *item == run.item(place)
 }
 
-/// The first place, from the given one on, at which the list has another item than the tick's commands in key order and their
-/// beat have, or none; `None` exactly where the whole tick stands there (this project's own form of the comparison of the paper
-/// of 2002). The given place is one of the list, or its end.
+/// The first place, from the given one on, at which the list has another item than the tick's
+/// commands in key order and their beat have, or none; `None` exactly where the whole tick stands
+/// there (this project's own form of the comparison of the paper of 2002). The given place is one
+/// of the list, or its end.
 pub fn diverges(run: &Segments, place: u32, list: &Buckets, t: Tick) -> Option<u32>
     requires { place ≤ length run.now.items }
     ensures none { (result ≡ None) ↔ IsPrefix (tick_of list.now.all t) (drop place run.now.items) }
-    ensures first { IfSome result (λ i. (place ≤ i) × DiffersFirstAt (drop place run.now.items) (tick_of list.now.all t) (i - place)) }
+    ensures first { IfSome result (λ i. (place ≤ i)
+        × DiffersFirstAt (drop place run.now.items) (tick_of list.now.all t) (i - place)) }
 {
     let _ = run.len();
     let start = list.start(t);

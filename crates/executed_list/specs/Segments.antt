@@ -1,5 +1,6 @@
 -- What contracts see of the one list that keeps the runs of all copies.
-use Rattle.std.specs.Prelude.{◌≡◌, ℕ, ◌+◌, ◌<◌, ◌-◌, ◌≤◌, ◌^◌, List, [], ◌∷◌, ◌++◌, length, map, take, drop, replicate, slice_index_or, slice_set}
+use Rattle.std.specs.Prelude.{◌≡◌, ℕ, ◌+◌, ◌<◌, ◌-◌, ◌≤◌, ◌^◌, List, [], ◌∷◌, ◌++◌, length, map}
+use Rattle.std.specs.Prelude.{take, drop, replicate, slice_index_or, slice_set}
 use Rattle.game_trait.specs.declared.limits.TheConstants.{MOST_COPIES}
 use Rattle.game_trait.specs.declared.command.Item.{Item}
 use Rattle.game_trait.specs.Run.{beats}
@@ -41,7 +42,8 @@ abbrev pub clocks_at : List Item → List ℕ → List ℕ
 clocks_at items ends = map (λ e. beats (take e items)) ends
 
 -- how the fields belong together
-pub record IsOneList (items : List Item) (ends : List ℕ) (ticks : List ℕ) (spare room : ℕ) : Type 0 where
+pub record IsOneList (items : List Item) (ends : List ℕ) (ticks : List ℕ) (spare room : ℕ) :
+    Type 0 where
   pub some_copy : 0 < length ends
   pub few_copies : length ends ≤ MOST_COPIES
   pub first : end_of ends 0 ≡ length items
@@ -52,4 +54,8 @@ pub record IsOneList (items : List Item) (ends : List ℕ) (ticks : List ℕ) (s
 
 -- the list with so many items more, which are copy 0's
 abbrev pub run_grown : OneList → List Item → OneList
-run_grown s more = record { items = s.items ++ more; ends = slice_set s.ends 0 (length (s.items ++ more)); spare = s.spare - length more }
+run_grown s more = record {
+  items = s.items ++ more;
+  ends = slice_set s.ends 0 (length (s.items ++ more));
+  spare = s.spare - length more;
+}

@@ -1,6 +1,7 @@
 //! One list with an end for each copy.
 
-ghost use Rattle.std.specs.Prelude.{◌≡◌, ◌+◌, ◌-◌, ◌<◌, ◌≤◌, IfOk, [], ◌∷◌, ◌++◌, length, take, replicate, slice_get, slice_set};
+ghost use Rattle.std.specs.Prelude.{◌≡◌, ◌+◌, ◌-◌, ◌<◌, ◌≤◌, IfOk, [], ◌∷◌, ◌++◌, length, take};
+ghost use Rattle.std.specs.Prelude.{replicate, slice_get, slice_set};
 ghost use Rattle.game_trait.specs.declared.limits.TheConstants.{MOST_COPIES};
 ghost use Rattle.game_trait.specs.Run.{beats};
 ghost use Rattle.executed_list.specs.Segments.{end_of, filled, Falls};
@@ -11,9 +12,10 @@ use std::alloc::Global;
 use std::marker::Model;
 use tss_io::NoMemory;
 
-/// The runs of a mirror's copies, which are all fronts of copy 0's run, kept as one list of items with an end for each copy: a
-/// copy's run is the list up to its end (this project's own). No copy's end is past the end of the copy ahead, and copy 0's end
-/// is the list's. Contracts see the items, the ends and the room left, in items. Only `new` takes memory.
+/// The runs of a mirror's copies, which are all fronts of copy 0's run, kept as one list of items
+/// with an end for each copy: a copy's run is the list up to its end (this project's own). No
+/// copy's end is past the end of the copy ahead, and copy 0's end is the list's. Contracts see the
+/// items, the ends and the room left, in items. Only `new` takes memory.
 #[derive(Drop)]
 pub struct Segments {
     items: Vec<Item>,
@@ -31,14 +33,17 @@ impl Model for Segments {
 
     ghost view = { λ s. record { items = s.items.items; ends = s.ends.items; spare = s.spare } };
 
-    ghost invariant = { λ s. IsOneList s.items.items s.ends.items s.clocks.items s.spare (vec_capacity s.items) };
+    ghost invariant = { λ s.
+        IsOneList s.items.items s.ends.items s.clocks.items s.spare (vec_capacity s.items) };
 }
 
 impl Segments {
-    /// No items yet: 1 to 8 copies that have run nothing, and room for so many items. Want of memory makes nothing.
+    /// No items yet: 1 to 8 copies that have run nothing, and room for so many items. Want of
+    /// memory makes nothing.
     pub fn new(alloc: Global, copies: u8, room: u32) -> Result<Segments, NoMemory>
         requires { (0 < copies) × (copies ≤ MOST_COPIES) }
-        ensures { IfOk result (λ s. s ≡ record { items = []; ends = replicate copies 0; spare = room }) }
+        ensures { IfOk result
+            (λ s. s ≡ record { items = []; ends = replicate copies 0; spare = room }) }
     {
         let mut ends = Vec::with_capacity(alloc, copies as usize)?;
         let mut clocks = Vec::with_capacity(alloc, copies as usize)?;
@@ -70,7 +75,8 @@ impl Segments {
         self.spare -= 1;
     }
 
-    /// Keeps the items up to the copy's end, which becomes the end of each copy ahead. The copy is there.
+    /// Keeps the items up to the copy's end, which becomes the end of each copy ahead. The copy is
+    /// there.
     pub fn cut(&mut self, copy: u8)
         requires { copy < length self.old.ends }
         ensures { let end = end_of self.old.ends copy in self.new ≡ record {
@@ -104,11 +110,14 @@ impl Segments {
         self.clocks[c] + beats_of(passed)
     }
 
-    /// The copy's end goes on by so many items, to at most the end of the copy ahead. The copy is there, and isn't copy 0.
+    /// The copy's end goes on by so many items, to at most the end of the copy ahead. The copy is
+    /// there, and isn't copy 0.
     pub fn pass(&mut self, copy: u8, by: u32)
         requires copy { (0 < copy) × (copy < length self.old.ends) }
         requires upto { end_of self.old.ends copy + by ≤ end_of self.old.ends (copy - 1) }
-        ensures { self.new ≡ record self.old { ends = slice_set self.old.ends copy (end_of self.old.ends copy + by) } }
+        ensures { self.new
+            ≡ record self.old
+            { ends = slice_set self.old.ends copy (end_of self.old.ends copy + by) } }
     {
         let c = copy as usize;
         let end = self.ends[c] + by;
@@ -117,7 +126,8 @@ impl Segments {
         self.clocks[c] = clock;
     }
 
-    /// How many items there are. No copy's end is past the end of the copy ahead, and copy 0's is the list's.
+    /// How many items there are. No copy's end is past the end of the copy ahead, and copy 0's is
+    /// the list's.
     pub fn len(&self) -> u32
         ensures len { result ≡ length self.now.items }
         ensures falls { Falls self.now.ends }

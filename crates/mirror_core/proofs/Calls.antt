@@ -1,5 +1,7 @@
 -- The tests that a mirror makes, as the model's.
-use Rattle.std.proofs.Common.{◌≡◌, refl, ◌∙◌, ap, sym, ℕ, zero, suc, ◌+◌, ◌-◌, ◌^◌, ◌≤◌, ◌<◌, Bool, true, false, cond, eqb, leb, eq-eqb, get_or, subst, List, [], ◌∷◌, ◌++◌, length, arith}
+use Rattle.std.proofs.Common.{◌≡◌, refl, ◌∙◌, ap, sym, ℕ, zero, suc, ◌+◌, ◌-◌, ◌^◌, ◌≤◌, ◌<◌, Bool}
+use Rattle.std.proofs.Common.{true, false, cond, eqb, leb, eq-eqb, get_or, subst, List, [], ◌∷◌}
+use Rattle.std.proofs.Common.{◌++◌, length, arith}
 use Rattle.std.proofs.lemmas.Bool.{lt-ltb, le-ltb}
 use Rattle.std.proofs.lemmas.Bool.Decides.{nat_tests}
 use Rattle.std.proofs.lemmas.List.Folds.{list_any-append}
@@ -21,7 +23,8 @@ use Rattle.sync_model.proofs.Trailing.{IsBehindAhead}
 use Rattle.game_trait.specs.Game.{Rules}
 use Rattle.game_trait.specs.declared.event.Event.TheVariants.{Step}
 use Rattle.sync_model.specs.Change.{next}
-use Rattle.sync_model.specs.Drafts.{epoch, run_of, DraftTick, ReadyTick, draft_of, ready_of, IsDueTick, FitsReady}
+use Rattle.sync_model.specs.Drafts.{epoch, run_of, DraftTick, ReadyTick, draft_of, ready_of}
+use Rattle.sync_model.specs.Drafts.{IsDueTick, FitsReady}
 use Rattle.sync_model.proofs.Epochs.{draft_fits}
 use Rattle.game_trait.specs.Ordered.{due_at}
 use Rattle.sync_model.proofs.Cases.{ran}
@@ -33,16 +36,25 @@ use Rattle.mirror_core.proofs.Clocks.{last_clock-at, drained-last}
 use Rattle.mirror_core.proofs.Kept.{some-copies, before-end}
 
 -- one command more is found by its name, and the others as before
-pub has-push : (xs : List Command) (x : Command) (from number : ℕ) → has_command (xs ++ x ∷ []) from number ≡ cond (same_pair (x.from, x.number) (from, number)) true (has_command xs from number)
-has-push xs x from number = list_any-append (is_named from number) xs (x ∷ []) ∙ either (has_command xs from number)
+pub has-push :
+    (xs : List Command) (x : Command) (from number : ℕ)
+    → has_command (xs ++ x ∷ []) from number
+    ≡ cond (same_pair (x.from, x.number) (from, number)) true (has_command xs from number)
+has-push xs x from number =
+    list_any-append (is_named from number) xs (x ∷ []) ∙ either (has_command xs from number)
   where
-    either : (b : Bool) → (b || (is_named from number x || false)) ≡ cond (same_pair (x.from, x.number) (from, number)) true b
+    either :
+        (b : Bool)
+        → (b || (is_named from number x || false))
+        ≡ cond (same_pair (x.from, x.number) (from, number)) true b
     either b = grind (arith, nat_tests)
 
 le-false : (limit clock : ℕ) → clock < limit → leb limit clock ≡ false
 le-false limit clock below = grind (arith, nat_tests)
 
-module _ {W : Type 0} {s : MirrorState W} {plans : List Schedule} {is_taken : ℕ × ℕ → Bool} {repairs_now : ℕ} {numbers : List ℕ} {room : Room} (h : IsKept s plans is_taken repairs_now numbers room) where
+module _ {W : Type 0} {s : MirrorState W} {plans : List Schedule} {is_taken : ℕ × ℕ → Bool}
+    {repairs_now : ℕ} {numbers : List ℕ} {room : Room}
+    (h : IsKept s plans is_taken repairs_now numbers room) where
   -- a tick
   pub clock-fits : s.clock ≤ 9216
   clock-fits =
@@ -59,10 +71,12 @@ module _ {W : Type 0} {s : MirrorState W} {plans : List Schedule} {is_taken : �
       omega arith
 
   -- an arrival
-  pub late-at : (x : Command) (bound : ℕ) → bound ≡ last_clock s.runs → x.time < bound → is_late s x ≡ true
+  pub late-at :
+      (x : Command) (bound : ℕ) → bound ≡ last_clock s.runs → x.time < bound → is_late s x ≡ true
   late-at x bound is late = lt-ltb x.time (last_clock s.runs) (omega arith)
 
-  pub on-time : (x : Command) (bound : ℕ) → bound ≡ last_clock s.runs → bound ≤ x.time → is_late s x ≡ false
+  pub on-time :
+      (x : Command) (bound : ℕ) → bound ≡ last_clock s.runs → bound ≤ x.time → is_late s x ≡ false
   on-time x bound is due = le-ltb x.time (last_clock s.runs) (omega arith)
 
   -- no more repairs than fit
@@ -74,23 +88,31 @@ module _ {W : Type 0} {s : MirrorState W} {plans : List Schedule} {is_taken : �
       omega arith
 
   -- a step
-  pub idle-at : (copy clock limit : ℕ) → clock ≡ copy_clock s.runs copy → limit ≡ step_limit s copy → limit ≤ clock → is_idle s copy ≡ true
+  pub idle-at :
+      (copy clock limit : ℕ) → clock ≡ copy_clock s.runs copy → limit ≡ step_limit s copy
+      → limit ≤ clock → is_idle s copy ≡ true
   idle-at copy clock limit at upto idle = grind (arith, nat_tests)
 
-  pub runs-on : (copy clock limit : ℕ) → clock ≡ copy_clock s.runs copy → limit ≡ step_limit s copy → clock < limit → is_idle s copy ≡ false
+  pub runs-on :
+      (copy clock limit : ℕ) → clock ≡ copy_clock s.runs copy → limit ≡ step_limit s copy
+      → clock < limit → is_idle s copy ≡ false
   runs-on copy clock limit at upto more = grind (arith, nat_tests)
 
   pub below-end : (copy : ℕ) → is_idle s copy ≡ false → copy_clock s.runs copy < s.length
   below-end copy more = (let room = (below_limit s copy more).1 in omega arith)
 
-  pub behind-ahead : (copy : ℕ) → is_idle s copy ≡ false → 0 < copy → copy_clock s.runs copy < copy_clock s.runs (copy - 1)
+  pub behind-ahead :
+      (copy : ℕ) → is_idle s copy ≡ false → 0 < copy
+      → copy_clock s.runs copy < copy_clock s.runs (copy - 1)
   unfolding IsBehindAhead
   behind-ahead zero more some = absurd (omega arith)
-  behind-ahead (suc copy) more some = (let back : suc copy - 1 ≡ copy = omega arith in rw back (below_limit s (suc copy) more).0)
+  behind-ahead (suc copy) more some =
+      (let back : suc copy - 1 ≡ copy = omega arith in rw back (below_limit s (suc copy) more).0)
 
   -- a ready tick of its copy's present epoch is the copy's due tick, which the copy may run
   pub due-now :
-      (rules : Rules W) (r : ReadyTick W) (copy held now : ℕ) → FitsReady rules s r → copy ≡ r.copy → held ≡ r.epoch → now ≡ get_or numbers copy 0 → held ≡ now
+      (rules : Rules W) (r : ReadyTick W) (copy held now : ℕ) → FitsReady rules s r → copy ≡ r.copy
+      → held ≡ r.epoch → now ≡ get_or numbers copy 0 → held ≡ now
       → (r.epoch ≡ epoch s r.copy) × IsDueTick rules s r
   due-now rules r copy held now fits own had kept same =
       let there = fits.there in
@@ -100,7 +122,8 @@ module _ {W : Type 0} {s : MirrorState W} {plans : List Schedule} {is_taken : �
       (current, fits.due current)
 
   pub commit-runs :
-      (rules : Rules W) (r : ReadyTick W) (copy held now : ℕ) → FitsReady rules s r → copy ≡ r.copy → held ≡ r.epoch → now ≡ get_or numbers copy 0 → held ≡ now
+      (rules : Rules W) (r : ReadyTick W) (copy held now : ℕ) → FitsReady rules s r → copy ≡ r.copy
+      → held ≡ r.epoch → now ≡ get_or numbers copy 0 → held ≡ now
       → is_idle s copy ≡ false
   commit-runs rules r copy held now fits own had kept same =
       let due = (due-now rules r copy held now fits own had kept same).1 in
@@ -108,17 +131,23 @@ module _ {W : Type 0} {s : MirrorState W} {plans : List Schedule} {is_taken : �
       ap (is_idle s) own ∙ le-false (step_limit s r.copy) (copy_clock s.runs r.copy) below
 
   pub committed-ran :
-      (rules : Rules W) (r : ReadyTick W) (copy held now : ℕ) → FitsReady rules s r → copy ≡ r.copy → held ≡ r.epoch → now ≡ get_or numbers copy 0 → held ≡ now
+      (rules : Rules W) (r : ReadyTick W) (copy held now : ℕ) → FitsReady rules s r → copy ≡ r.copy
+      → held ≡ r.epoch → now ≡ get_or numbers copy 0 → held ≡ now
       → ran s copy ≡ committed_to s r
   committed-ran rules r copy held now fits own had kept same =
-      let current : is_current s r ≡ true = eq-eqb r.epoch (epoch s r.copy) (due-now rules r copy held now fits own had kept same).0 in
+      let current : is_current s r ≡ true =
+      eq-eqb r.epoch (epoch s r.copy)
+      (due-now rules r copy held now fits own had kept same).0 in
       let more = commit-runs rules r copy held now fits own had kept same in
-      sym (step_ran s copy more).0 ∙ ap (λ (c : ℕ). next s (Step c)) own ∙ sym (ap (λ (b : Bool). cond b (next s (Step r.copy)) s) current)
+      sym (step_ran s copy more).0 ∙ ap (λ (c : ℕ). next s (Step c)) own
+      ∙ sym (ap (λ (b : Bool). cond b (next s (Step r.copy)) s) current)
 
   -- a draft of these parts fits, once it is run
   pub drafted-is :
-      (rules : Rules W) (d : DraftTick W) (copy clock number : ℕ) (world : W) (commands : List Command) → copy < length s.runs → is_idle s copy ≡ false
-      → d ≡ record { copy = copy; epoch = number; clock = clock; world = world; commands = commands }
+      (rules : Rules W) (d : DraftTick W) (copy clock number : ℕ) (world : W)
+      (commands : List Command) → copy < length s.runs → is_idle s copy ≡ false
+      → d
+      ≡ record { copy = copy; epoch = number; clock = clock; world = world; commands = commands }
       → clock ≡ copy_clock s.runs copy → number ≡ get_or numbers copy 0
       → world ≡ world_of rules s.opening (run_of s copy) → commands ≡ due_at s.accepted clock
       → FitsReady rules s (ready_of rules d)
@@ -126,29 +155,48 @@ module _ {W : Type 0} {s : MirrorState W} {plans : List Schedule} {is_taken : �
       let many = h.epochs.as_many in
       let is = kept ∙ h.epochs.each copy (omega arith) in
       let whole : d ≡ draft_of rules s copy =
-      made ∙ (λ i. record { copy = copy; epoch = is i; clock = at i; world = of_run i; commands = (due ∙ ap (due_at s.accepted) at) i }) in
-      subst (λ (e : DraftTick W). FitsReady rules s (ready_of rules e)) (sym whole) (draft_fits rules s copy there more)
+      made
+      ∙ (λ i. record {
+        copy = copy;
+        epoch = is i;
+        clock = at i;
+        world = of_run i;
+        commands = (due ∙ ap (due_at s.accepted) at) i;
+      }) in
+      subst (λ (e : DraftTick W). FitsReady rules s (ready_of rules e)) (sym whole)
+      (draft_fits rules s copy there more)
 
   -- the last copy
-  pub last-is : (copies : ℕ) → copies ≡ length s.runs → copy_clock s.runs (copies - 1) ≡ last_clock s.runs
+  pub last-is :
+      (copies : ℕ) → copies ≡ length s.runs → copy_clock s.runs (copies - 1) ≡ last_clock s.runs
   last-is copies many =
       ap (λ (n : ℕ). copy_clock s.runs (n - 1)) many ∙ sym (last_clock-at s.runs (some-copies h).0)
 
   pub drained-is : eqb (last_clock s.runs) s.length ≡ is_drained s
   unfolding last_of
-  drained-is = by-runs s.runs (some-copies h).0 h.consistent.staggered.trailing.chained h.consistent.staggered.in_bounds.within_match
+  drained-is =
+      by-runs s.runs (some-copies h).0 h.consistent.staggered.trailing.chained
+      h.consistent.staggered.in_bounds.within_match
     where
-      by-runs : (runs : List (List Item)) → 0 < length runs → IsChained runs → AllByRecursion (λ run. beats run ≤ s.length) runs → eqb (last_clock runs) s.length ≡ list_all (λ run. eqb (beats run) s.length) runs
+      by-runs :
+          (runs : List (List Item)) → 0 < length runs → IsChained runs
+          → AllByRecursion (λ run. beats run ≤ s.length) runs
+          → eqb (last_clock runs) s.length ≡ list_all (λ run. eqb (beats run) s.length) runs
       by-runs [] some chained within = absurd (omega arith)
       by-runs (run ∷ runs) some chained within = drained-last s.length run runs chained within
 
 -- the limits of a copy
-pub limit-first : {W : Type 0} (s : MirrorState W) (copy : ℕ) → copy ≡ 0 → limit_at (schedule_of s) copy s.clock 0 ≡ step_limit s copy
+pub limit-first :
+    {W : Type 0} (s : MirrorState W) (copy : ℕ) → copy ≡ 0
+    → limit_at (schedule_of s) copy s.clock 0 ≡ step_limit s copy
 unfolding step_limit
 limit-first s zero first = refl
 limit-first s (suc copy) first = absurd (omega arith)
 
-pub limit-behind : {W : Type 0} (s : MirrorState W) (copy ahead : ℕ) → (copy ≡ 0 → ⊥) → ahead ≡ copy_clock s.runs (copy - 1) → limit_at (schedule_of s) copy s.clock ahead ≡ step_limit s copy
+pub limit-behind :
+    {W : Type 0} (s : MirrorState W) (copy ahead : ℕ) → (copy ≡ 0 → ⊥)
+    → ahead ≡ copy_clock s.runs (copy - 1)
+    → limit_at (schedule_of s) copy s.clock ahead ≡ step_limit s copy
 unfolding step_limit
 limit-behind s zero ahead behind is = absurd (behind refl)
 limit-behind s (suc copy) ahead behind is =

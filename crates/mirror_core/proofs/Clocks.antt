@@ -1,5 +1,5 @@
 -- The clocks of the copies: the last one, the ticks that are left to run, and a mirror that is drained.
-use Rattle.std.proofs.Common.{◌≡◌, refl, ap, ℕ, zero, suc, ◌+◌, ◌-◌, ◌*◌, ◌≤◌, ◌<◌, Bool, ◌&&◌, eqb, List, [], ◌∷◌, map, length, get_or, set, arith}
+use Rattle.std.proofs.Common.{◌≡◌, ap, ℕ, zero, suc, ◌+◌, ◌-◌, ◌*◌, ◌≤◌, ◌<◌, Bool, ◌&&◌, eqb, List, [], ◌∷◌, map, length, get_or, set, arith}
 use Rattle.std.proofs.lemmas.Bool.Decides.{nat_tests}
 use Rattle.std.specs.List.{AllByRecursion, list_all}
 use Rattle.game_trait.specs.declared.command.Item.{Item}
@@ -9,40 +9,50 @@ use Rattle.sync_model.specs.State.{copy_clock, last_clock}
 use Rattle.sync_model.specs.Staggered.{IsAhead, IsChained}
 use Rattle.sync_model.proofs.Trailing.{beats-front}
 use Rattle.mirror_core.specs.Kept.{steps_left}
-
--- the last of a list is at its last place
-last_of-at : {X : Type 0} (x d : X) (xs : List X) → last_of x xs ≡ get_or (x ∷ xs) (length xs) d
-unfolding last_of
-last_of-at x d [] = refl
-last_of-at x d (y ∷ ys) = last_of-at y d ys
+use Rattle.sync_model.proofs.Lists.{last_of-at}
 
 -- the last clock is that of the last copy
-pub last_clock-at : (runs : List (List Item)) → 0 < length runs → last_clock runs ≡ copy_clock runs (length runs - 1)
+pub last_clock-at :
+    (runs : List (List Item)) → 0 < length runs
+    → last_clock runs ≡ copy_clock runs (length runs - 1)
 unfolding last_of
 last_clock-at [] some = absurd (omega arith)
-last_clock-at (run ∷ runs) some = (let back : suc (length runs) - 1 ≡ length runs = omega arith in rw back (ap beats (last_of-at run [] runs)))
+last_clock-at (run ∷ runs) some =
+    (let back : suc (length runs) - 1 ≡ length runs = omega arith in
+    rw back (ap beats (last_of-at run [] runs)))
 
 -- one tick run is one less to run
-pub steps_left-ran : (ticks : ℕ) (clocks : List ℕ) (c : ℕ) → c < length clocks → get_or clocks c 0 < ticks → steps_left ticks (set clocks c (get_or clocks c 0 + 1)) + 1 ≡ steps_left ticks clocks
+pub steps_left-ran :
+    (ticks : ℕ) (clocks : List ℕ) (c : ℕ) → c < length clocks → get_or clocks c 0 < ticks
+    → steps_left ticks (set clocks c (get_or clocks c 0 + 1)) + 1 ≡ steps_left ticks clocks
 unfolding steps_left
 steps_left-ran ticks [] c there below = absurd (omega arith)
 steps_left-ran ticks (k ∷ ks) zero there below = omega arith
-steps_left-ran ticks (k ∷ ks) (suc c) there below = (let rest = steps_left-ran ticks ks c (omega arith) below in omega arith)
+steps_left-ran ticks (k ∷ ks) (suc c) there below =
+    (let rest = steps_left-ran ticks ks c (omega arith) below in omega arith)
 
 -- copies that have run nothing have the whole match to run
-pub steps_left-opening : (ticks : ℕ) (delays : List ℕ) → steps_left ticks (map beats (map (λ delay. []) delays)) ≡ length delays * ticks
+pub steps_left-opening :
+    (ticks : ℕ) (delays : List ℕ)
+    → steps_left ticks (map beats (map (λ delay. []) delays)) ≡ length delays * ticks
 unfolding steps_left beats
 steps_left-opening ticks [] = omega arith
-steps_left-opening ticks (delay ∷ delays) = (let rest = steps_left-opening ticks delays in omega arith)
+steps_left-opening ticks (delay ∷ delays) =
+    (let rest = steps_left-opening ticks delays in omega arith)
 
 -- where no clock is past an end, the last copy's clock is there exactly where every copy's is
-drained-one : (last run r end : ℕ) (rest : Bool) → r ≤ run → run ≤ end → eqb last end ≡ (eqb r end && rest) → eqb last end ≡ (eqb run end && (eqb r end && rest))
+drained-one :
+    (last run r end : ℕ) (rest : Bool) → r ≤ run → run ≤ end → eqb last end ≡ (eqb r end && rest)
+    → eqb last end ≡ (eqb run end && (eqb r end && rest))
 drained-one last run r end rest order below same = grind (arith, nat_tests)
 
 pub drained-last :
-    (end : ℕ) (run : List Item) (runs : List (List Item)) → IsChained (run ∷ runs) → AllByRecursion (λ r. beats r ≤ end) (run ∷ runs)
+    (end : ℕ) (run : List Item) (runs : List (List Item)) → IsChained (run ∷ runs)
+    → AllByRecursion (λ r. beats r ≤ end) (run ∷ runs)
     → eqb (beats (last_of run runs)) end ≡ list_all (λ r. eqb (beats r) end) (run ∷ runs)
 unfolding last_of IsChained IsAhead
 drained-last end run [] chained within = grind (arith, nat_tests)
 drained-last end run (r ∷ rs) chained within =
-    drained-one (beats (last_of r rs)) (beats run) (beats r) end (list_all (λ q. eqb (beats q) end) rs) (beats-front r run chained.0) within.0 (drained-last end r rs chained.1 within.1)
+    drained-one (beats (last_of r rs)) (beats run) (beats r) end
+    (list_all (λ q. eqb (beats q) end) rs) (beats-front r run chained.0) within.0
+    (drained-last end r rs chained.1 within.1)

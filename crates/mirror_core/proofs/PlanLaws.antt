@@ -1,8 +1,10 @@
 -- The plans of a match: their delays, their greatest delay, and the one in force.
-use Rattle.std.proofs.Common.{◌≡◌, refl, ap, ℕ, ◌+◌, ◌≤◌, ◌<◌, max, List, [], ◌∷◌, length, map, replicate, get_or, drop, drop-cons, add-one, arith}
+use Rattle.std.proofs.Common.{◌≡◌, refl, ap, ℕ, ◌+◌, ◌≤◌, ◌<◌, max, List, [], ◌∷◌, length, map}
+use Rattle.std.proofs.Common.{replicate, get_or, drop, drop-cons, add-one, arith}
 use Rattle.std.proofs.lemmas.List.{length-map, drop_all}
 use Rattle.std.specs.List.{AllByRecursion}
-use Rattle.game_trait.specs.declared.limits.TheConstants.{LONGEST_MATCH, MOST_PLANS, MOST_COPIES, LONGEST_DELAY}
+use Rattle.game_trait.specs.declared.limits.TheConstants.{LONGEST_MATCH, MOST_PLANS, MOST_COPIES}
+use Rattle.game_trait.specs.declared.limits.TheConstants.{LONGEST_DELAY}
 use Rattle.game_trait.specs.declared.command.Item.{Item}
 use Rattle.game_trait.proofs.Lists.{all-at}
 use Rattle.sync_model.specs.Schedule.{Schedule, IsSchedule, longest_delay}
@@ -16,8 +18,10 @@ as_many plans = length-map plans (λ (plan : Schedule). plan.delays)
 
 -- each of several plans of as many ticks is a schedule of these
 schedules-each :
-    (plans : List Schedule) (ticks : ℕ) → AllByRecursion IsSchedule plans → AllByRecursion (λ plan. plan.length ≡ ticks) plans
-    → AllByRecursion (λ delays. IsSchedule (record { delays = delays; length = ticks })) (delays_of_each plans)
+    (plans : List Schedule) (ticks : ℕ) → AllByRecursion IsSchedule plans
+    → AllByRecursion (λ plan. plan.length ≡ ticks) plans
+    → AllByRecursion (λ delays. IsSchedule (record { delays = delays; length = ticks }))
+    (delays_of_each plans)
 schedules-each [] ticks are same = tt
 schedules-each (plan ∷ plans) ticks are same =
     let equal : plan.length ≡ ticks = same.0 in (
@@ -32,24 +36,33 @@ schedules-each (plan ∷ plans) ticks are same =
       schedules-each plans ticks are.1 same.1,
     )
 
-copies-each : (plans : List Schedule) (copies : ℕ) → AllByRecursion (λ plan. length plan.delays ≡ copies) plans → AllByRecursion (λ delays. length delays ≡ copies) (delays_of_each plans)
+copies-each :
+    (plans : List Schedule) (copies : ℕ)
+    → AllByRecursion (λ plan. length plan.delays ≡ copies) plans
+    → AllByRecursion (λ delays. length delays ≡ copies) (delays_of_each plans)
 copies-each [] copies each = tt
 copies-each (plan ∷ plans) copies each = (each.0, copies-each plans copies each.1)
 
 -- a run for each delay of a plan
-runs-each : (delays : List ℕ) → map {B = List Item} (λ delay. []) delays ≡ replicate (length delays) []
+runs-each :
+    (delays : List ℕ) → map {B = List Item} (λ delay. []) delays ≡ replicate (length delays) []
 runs-each [] = refl
 runs-each (delay ∷ delays) = ap (λ (runs : List (List Item)). [] ∷ runs) (runs-each delays)
 
 -- and so for each copy of the first plan
-pub first-runs : (plans : List Schedule) → map {B = List Item} (λ delay. []) (get_or (delays_of_each plans) 0 []) ≡ replicate (copies_of_first plans) []
+pub first-runs :
+    (plans : List Schedule)
+    → map {B = List Item} (λ delay. []) (get_or (delays_of_each plans) 0 [])
+    ≡ replicate (copies_of_first plans) []
 first-runs [] = refl
 first-runs (plan ∷ plans) = runs-each plan.delays
 
 -- plans of one match
 pub are_plans :
-    (plans : List Schedule) (ticks copies : ℕ) → 0 < length plans → length plans ≤ MOST_PLANS → AllByRecursion IsSchedule plans
-    → AllByRecursion (λ plan. plan.length ≡ ticks) plans → AllByRecursion (λ plan. length plan.delays ≡ copies) plans
+    (plans : List Schedule) (ticks copies : ℕ) → 0 < length plans → length plans ≤ MOST_PLANS
+    → AllByRecursion IsSchedule plans
+    → AllByRecursion (λ plan. plan.length ≡ ticks) plans
+    → AllByRecursion (λ plan. length plan.delays ≡ copies) plans
     → ArePlans (delays_of_each plans) ticks copies
 are_plans plans ticks copies some few are same each =
     let many = as_many plans in
@@ -62,7 +75,8 @@ are_plans plans ticks copies some few are same each =
 
 -- no delay of a plan is longer than may be
 pub greatest-short :
-    (plans : List (List ℕ)) (ticks : ℕ) → AllByRecursion (λ delays. IsSchedule (record { delays = delays; length = ticks })) plans
+    (plans : List (List ℕ)) (ticks : ℕ)
+    → AllByRecursion (λ delays. IsSchedule (record { delays = delays; length = ticks })) plans
     → greatest_delay plans ≤ LONGEST_DELAY
 unfolding greatest_delay
 greatest-short [] ticks are = omega arith
@@ -72,31 +86,43 @@ greatest-short (delays ∷ plans) ticks are =
     omega arith
 
 -- the match of several plans isn't longer than may be
-pub ticks-few : (plans : List (List ℕ)) (ticks copies : ℕ) → ArePlans plans ticks copies → ticks ≤ LONGEST_MATCH
+pub ticks-few :
+    (plans : List (List ℕ)) (ticks copies : ℕ) → ArePlans plans ticks copies → ticks ≤ LONGEST_MATCH
 ticks-few plans ticks copies are =
-    (all-at (λ delays. IsSchedule (record { delays = delays; length = ticks })) plans 0 [] are.schedules are.some_plan).few_ticks
+    (all-at (λ delays. IsSchedule (record { delays = delays; length = ticks })) plans 0 []
+    are.schedules are.some_plan).few_ticks
 
 -- the first plan's ticks and copies
-pub first-ticks : (plans : List Schedule) (d : Schedule) → 0 < length plans → (get_or plans 0 d).length ≡ ticks_of_first plans
+pub first-ticks :
+    (plans : List Schedule) (d : Schedule) → 0 < length plans
+    → (get_or plans 0 d).length ≡ ticks_of_first plans
 first-ticks [] d some = absurd (omega arith)
 first-ticks (plan ∷ plans) d some = refl
 
-pub first-copies : (plans : List Schedule) (d : Schedule) → 0 < length plans → length (get_or plans 0 d).delays ≡ copies_of_first plans
+pub first-copies :
+    (plans : List Schedule) (d : Schedule) → 0 < length plans
+    → length (get_or plans 0 d).delays ≡ copies_of_first plans
 first-copies [] d some = absurd (omega arith)
 first-copies (plan ∷ plans) d some = refl
 
 -- both are those of a schedule
-pub first-few : (plans : List Schedule) → 0 < length plans → AllByRecursion IsSchedule plans → (copies_of_first plans ≤ MOST_COPIES) × (ticks_of_first plans ≤ LONGEST_MATCH)
+pub first-few :
+    (plans : List Schedule) → 0 < length plans → AllByRecursion IsSchedule plans
+    → (copies_of_first plans ≤ MOST_COPIES) × (ticks_of_first plans ≤ LONGEST_MATCH)
 first-few [] some are = absurd (omega arith)
 first-few (plan ∷ plans) some are = (are.0.few_copies, are.0.few_ticks)
 
 -- the greatest delay, one plan more
 pub greatest-more :
     (plans : List Schedule) (i greatest : ℕ) (d : Schedule) → i < length plans
-    → max greatest (greatest_delay (delays_of_each (drop i plans))) ≡ max (max (longest_delay (get_or plans i d).delays) greatest) (greatest_delay (delays_of_each (drop (i + 1) plans)))
+    → max greatest (greatest_delay (delays_of_each (drop i plans)))
+    ≡ max (max (longest_delay (get_or plans i d).delays) greatest)
+    (greatest_delay (delays_of_each (drop (i + 1) plans)))
 unfolding greatest_delay
 greatest-more plans i greatest d within = rw (add-one, drop-cons plans i d within) (omega arith)
 
-pub greatest-none : (plans : List Schedule) (i greatest : ℕ) → length plans ≤ i → max greatest (greatest_delay (delays_of_each (drop i plans))) ≡ greatest
+pub greatest-none :
+    (plans : List Schedule) (i greatest : ℕ) → length plans ≤ i
+    → max greatest (greatest_delay (delays_of_each (drop i plans))) ≡ greatest
 unfolding greatest_delay
 greatest-none plans i greatest past = rw (drop_all i plans past) (omega arith)

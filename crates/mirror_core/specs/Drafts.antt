@@ -17,7 +17,8 @@ use Rattle.mirror_core.specs.declared.drafts.Committed.TheVariants.{Ran, Stale}
 abbrev pub due_len : {W : Type 0} → MirrorState W → ℕ → ℕ
 due_len s c = length (due_at s.accepted (copy_clock s.runs c))
 
--- Idle where the copy stands at its limit, else Wide where more commands are due than a draft has, and else the due tick
+-- Idle where the copy stands at its limit, else Wide where more commands are due than a draft has,
+-- and else the due tick
 abbrev pub drafted : {W : Type 0} → Rules W → MirrorState W → ℕ → Drafted W
 drafted rules s c =
     if is_idle s c then Idle

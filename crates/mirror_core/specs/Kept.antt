@@ -5,28 +5,15 @@ use Rattle.game_trait.specs.declared.limits.TheConstants.{MOST_COPIES}
 use Rattle.game_trait.specs.Run.{beats}
 use Rattle.game_trait.specs.CommandList.{has_command}
 use Rattle.sync_model.specs.Schedule.{Schedule}
+pub use Rattle.sync_model.specs.Schedule.{delays_of_each, ticks_of_first, copies_of_first}
 use Rattle.sync_model.specs.State.{MirrorState}
 use Rattle.sync_model.specs.Staggered.{greatest_delay}
 use Rattle.sync_model.specs.Consistent.{IsConsistent}
 use Rattle.sync_model.specs.History.{repairs}
 use Rattle.mirror_core.specs.Epochs.{AreEpochs}
 
--- the delays of each plan
-abbrev pub delays_of_each : List Schedule → List (List ℕ)
-delays_of_each plans = map (λ plan. plan.delays) plans
-
--- the ticks of the first plan
-abbrev pub ticks_of_first : List Schedule → ℕ
-ticks_of_first [] = 0
-ticks_of_first (plan ∷ plans) = plan.length
-
--- the copies of the first plan
-abbrev pub copies_of_first : List Schedule → ℕ
-copies_of_first [] = 0
-copies_of_first (plan ∷ plans) = length plan.delays
-
--- for how many more commands the copies have room, and the names; and how much the lists of what was turned away and of events
--- may hold
+-- for how many more commands the copies have room, and the names; and how much the lists of what
+-- was turned away and of events may hold
 pub record Room : Type 0 where
   pub copies : ℕ
   pub names : ℕ
@@ -40,7 +27,9 @@ steps_left ticks (clock ∷ clocks) = (ticks - clock) + steps_left ticks clocks
 
 -- how many events may still change a mirror
 abbrev pub events_left : {W : Type 0} → MirrorState W → ℕ
-events_left s = ((s.length + greatest_delay s.plans) - s.clock) + steps_left s.length (map beats s.runs) + s.spare + s.plan_spare
+events_left s =
+    ((s.length + greatest_delay s.plans) - s.clock) + steps_left s.length (map beats s.runs)
+    + s.spare + s.plan_spare
 
 -- there is room for all that may still come
 pub record HasRoomLeft {W : Type 0} (s : MirrorState W) (room : Room) : Type 0 where
@@ -50,9 +39,11 @@ pub record HasRoomLeft {W : Type 0} (s : MirrorState W) (room : Room) : Type 0 w
   pub to_note : length s.history + events_left s ≤ room.history
   pub short_history : room.history ≤ 2 ^ 22
 
--- what is always true of a mirror with these plans, this test of a mirror and a number, this number of repairs, these numbers of
--- its copies, and this room
-pub record IsKept {W : Type 0} (s : MirrorState W) (plans : List Schedule) (is_taken : ℕ × ℕ → Bool) (repaired : ℕ) (numbers : List ℕ) (room : Room) : Type 0 where
+-- what is always true of a mirror with these plans, this test of a mirror and a number, this number
+-- of repairs, these numbers of its copies, and this room
+pub record IsKept {W : Type 0} (s : MirrorState W) (plans : List Schedule) (is_taken : ℕ × ℕ → Bool)
+    (repaired : ℕ) (numbers : List ℕ) (room : Room) :
+    Type 0 where
   pub consistent : IsConsistent s
   pub ticks_each : AllByRecursion (λ plan. plan.length ≡ s.length) plans
   pub names : (from number : ℕ) → is_taken (from, number) ≡ has_command s.accepted from number

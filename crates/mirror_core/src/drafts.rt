@@ -12,8 +12,8 @@ use std::marker::Model;
 /// How many commands a draft has at most. A tick with more is made by a step.
 pub const MOST_DRAFTED: usize = 64;
 
-/// The due tick of a copy, to be executed away from its mirror: the copy, its epoch, its clock and its world, and the
-/// tick's commands in key order (this project's own). A mirror gives it.
+/// The due tick of a copy, to be executed away from its mirror: the copy, its epoch, its clock and
+/// its world, and the tick's commands in key order (this project's own). A mirror gives it.
 #[derive(Drop)]
 pub struct Draft<G> {
     copy: u8,
@@ -102,7 +102,8 @@ fn execute<G: Game>(world: &mut G, commands: &[Command])
     }
 }
 
-/// A draft that was executed: its copy, its epoch and its clock as they were, and the world after the tick.
+/// A draft that was executed: its copy, its epoch and its clock as they were, and the world after
+/// the tick.
 #[derive(Drop)]
 pub struct Ready<G> {
     copy: u8,

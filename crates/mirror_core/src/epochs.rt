@@ -1,6 +1,8 @@
 //! The epochs of a mirror's copies, kept as numbers.
 
-ghost use Rattle.std.specs.Prelude.{◌≡◌, ◌+◌, ◌<◌, ◌≤◌, ◌^◌, true, ◌==◌, ◌||◌, nat_le, nat_lt, if◌then◌else◌, IfOk, length, replicate, slice_index_or, slice_set};
+ghost use Rattle.std.specs.Prelude.{◌≡◌, ◌+◌, ◌<◌, ◌≤◌, ◌^◌, true, ◌==◌, ◌||◌, nat_le, nat_lt};
+ghost use Rattle.std.specs.Prelude.{if◌then◌else◌, IfOk, length, replicate, slice_index_or};
+ghost use Rattle.std.specs.Prelude.{slice_set};
 ghost use Rattle.game_trait.specs.declared.limits.TheConstants.{MOST_COPIES};
 ghost use Rattle.sync_model.specs.State.{copy_clock};
 ghost use Rattle.mirror_core.specs.Epochs.{AreRenewed, AreSmall};
@@ -11,7 +13,8 @@ use std::marker::Model;
 use trailing_copy::CopyStack;
 use tss_io::NoMemory;
 
-/// A number for each copy: how many events have renewed it. Contracts see the numbers, from copy 0 on.
+/// A number for each copy: how many events have renewed it. Contracts see the numbers, from copy 0
+/// on.
 #[derive(Drop)]
 pub struct Epochs {
     numbers: Vec<u64>,
@@ -61,7 +64,9 @@ impl Epochs {
     fn renew_if(&mut self, copy: u8, is_renewed: bool)
         requires there { copy < length self.old }
         requires small { slice_index_or self.old copy 0 < 2 ^ 63 }
-        ensures { self.new ≡ slice_set self.old copy (slice_index_or self.old copy 0 + (if is_renewed then 1 else 0)) }
+        ensures { self.new
+            ≡ slice_set self.old copy
+            (slice_index_or self.old copy 0 + (if is_renewed then 1 else 0)) }
     {
         self.numbers[copy as usize] += u64::from(is_renewed);
     }

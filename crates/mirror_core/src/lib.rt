@@ -1,5 +1,5 @@
-//! One mirror of a match: it takes ticks, arrivals, steps and changes of its plan, and is at every moment a state of
-//! `sync_model`.
+//! One mirror of a match: it takes ticks, arrivals, steps and changes of its plan, and is at every
+//! moment a state of `sync_model`.
 #![tactic(auto)]
 
 mod drafts;

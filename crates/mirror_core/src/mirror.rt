@@ -3,7 +3,8 @@
 ghost use Rattle.std.specs.Prelude.{◌≡◌, ◌<◌, ◌≤◌, IfOk, [], length, slice_get, slice_index_or};
 ghost use Rattle.std.specs.List.{AllByRecursion};
 ghost use Rattle.game_trait.specs.Run.{world_of};
-ghost use Rattle.sync_model.specs.State.{opening_state, schedule_of, step_limit, copy_clock as clock_of, last_clock as last_clock_of};
+ghost use Rattle.sync_model.specs.State.{opening_state, schedule_of, step_limit};
+ghost use Rattle.sync_model.specs.State.{copy_clock as clock_of, last_clock as last_clock_of};
 ghost use Rattle.sync_model.specs.Change.{next, said, Fits};
 ghost use Rattle.sync_model.specs.Consistent.{IsConsistent};
 ghost use Rattle.sync_model.specs.History.{HasRoom, repairs as repairs_of};
@@ -28,8 +29,9 @@ use sync_model::Turned;
 use trailing_copy::CopyStack;
 use tss_io::NoMemory;
 
-/// A mirror of a match, with 1 to 8 copies of the world: the mirror of the paper of 2002. Contracts see it as a state of the
-/// model, which says what each event changes and what is answered. Only `new` takes memory.
+/// A mirror of a match, with 1 to 8 copies of the world: the mirror of the paper of 2002. Contracts
+/// see it as a state of the model, which says what each event changes and what is answered. Only
+/// `new` takes memory.
 #[derive(Drop)]
 pub struct Mirror<G: Game> {
     // the opening, the match's length, the accepted commands and the copies
@@ -96,10 +98,10 @@ impl<G: Game> Model for Mirror<G> {
 }
 
 impl<G: Game> Mirror<G> {
-    /// A mirror before any event, with 1 to 8 plans of as many ticks each, of which the first is in force, and each of as many
-    /// copies; with room for so many arrivals that are taken or turned away, and so many changes of the plan, each at most
-    /// 1,048,576. It takes all the memory that the mirror ever needs, and keeps twins of the opening. Want of memory makes
-    /// nothing.
+    /// A mirror before any event, with 1 to 8 plans of as many ticks each, of which the first is in
+    /// force, and each of as many copies; with room for so many arrivals that are taken or turned
+    /// away, and so many changes of the plan, each at most 1,048,576. It takes all the memory that
+    /// the mirror ever needs, and keeps twins of the opening. Want of memory makes nothing.
     pub fn new(
         alloc: Global,
         opening: &G,
@@ -111,12 +113,14 @@ impl<G: Game> Mirror<G> {
         requires few_plans { length plans.now ≤ MOST_PLANS }
         requires equal_ticks { AllByRecursion (λ plan. plan.length ≡ ticks_of_first plans.now)
             plans.now }
-        requires equal_copies { AllByRecursion (λ plan. length plan.delays ≡ copies_of_first plans.now)
+        requires equal_copies { AllByRecursion
+            (λ plan. length plan.delays ≡ copies_of_first plans.now)
             plans.now }
         requires room { room ≤ MOST_ROOM }
         requires restaggers { restaggers ≤ MOST_ROOM }
         ensures { IfOk result (λ m. m
-            ≡ opening_state opening.now (ticks_of_first plans.now) (delays_of_each plans.now) room restaggers) }
+            ≡ opening_state opening.now (ticks_of_first plans.now) (delays_of_each plans.now) room
+            restaggers) }
     {
         let ticks = plans[0].length();
         let copies = plans[0].copies();
@@ -140,8 +144,9 @@ impl<G: Game> Mirror<G> {
         })
     }
 
-    /// What always holds of a mirror: it is staggered, its plans are those of a match, and its state is the one that its
-    /// history leads to, of which each event changed the state in which it stood. It does nothing.
+    /// What always holds of a mirror: it is staggered, its plans are those of a match, and its
+    /// state is the one that its history leads to, of which each event changed the state in which
+    /// it stood. It does nothing.
     pub fn always(&self)
         ensures { IsConsistent self.now }
     {
@@ -175,8 +180,8 @@ impl<G: Game> Mirror<G> {
         self.stack.clock(self.stagger().copies() - 1)
     }
 
-    /// The clock goes on by one tick, answered Moved. Where it stands at its end or past it, the match's length plus the
-    /// longest delay in force, nothing changes, and the answer is Over.
+    /// The clock goes on by one tick, answered Moved. Where it stands at its end or past it, the
+    /// match's length plus the longest delay in force, nothing changes, and the answer is Over.
     pub fn tick(&mut self) -> Ticked
         ensures state { self.new ≡ next self.old Event.Tick }
         ensures answer { said self.old Event.Tick ≡ Reply.Tick result }
@@ -189,7 +194,8 @@ impl<G: Game> Mirror<G> {
         Ticked::Moved
     }
 
-    /// Another plan, which is there, is in force from here on. It uses up room for one change of the plan.
+    /// Another plan, which is there, is in force from here on. It uses up room for one change of
+    /// the plan.
     pub fn restagger(&mut self, plan: u8)
         requires there { plan < length self.old.plans }
         requires room { 0 < self.old.plan_spare }
@@ -202,11 +208,12 @@ impl<G: Game> Mirror<G> {
         self.history.push_reserved(Event::Restagger(plan));
     }
 
-    /// A command that is due within the match arrives. Where one with the same mirror and number was accepted before,
-    /// nothing changes, and the answer is Repeat. Where it is older than the last copy's clock it is turned away, answered
-    /// Late with that clock. Else it is accepted: the copies whose clocks are past its time execute it at once, and those that
-    /// were ahead of the last of these are repaired. The answer is Taken, with how many were. Taken and Late each use up room
-    /// for one arrival.
+    /// A command that is due within the match arrives. Where one with the same mirror and number
+    /// was accepted before, nothing changes, and the answer is Repeat. Where it is older than the
+    /// last copy's clock it is turned away, answered Late with that clock. Else it is accepted: the
+    /// copies whose clocks are past its time execute it at once, and those that were ahead of the
+    /// last of these are repaired. The answer is Taken, with how many were. Taken and Late each use
+    /// up room for one arrival.
     pub fn arrive(&mut self, x: &Command) -> Arrived
         requires within_match { x.now.time < self.old.length }
         requires room { 0 < self.old.spare }
@@ -237,9 +244,10 @@ impl<G: Game> Mirror<G> {
         Arrived::Taken { repaired }
     }
 
-    /// The copy, which is there, runs one tick: the commands due then in key order, and one beat. Where the run ahead doesn't
-    /// begin with its new run, the copies ahead are repaired. The answer is Ran, with how many were. Where the copy stands at
-    /// its limit nothing changes, and the answer is Idle.
+    /// The copy, which is there, runs one tick: the commands due then in key order, and one beat.
+    /// Where the run ahead doesn't begin with its new run, the copies ahead are repaired. The
+    /// answer is Ran, with how many were. Where the copy stands at its limit nothing changes, and
+    /// the answer is Idle.
     pub fn step(&mut self, copy: u8) -> Stepped
         requires { copy < length self.old.runs }
         ensures state { self.new ≡ next self.old (Event.Step copy) }
@@ -264,9 +272,10 @@ impl<G: Game> Mirror<G> {
         self.epochs.of(copy)
     }
 
-    /// The copy's due tick, to be executed away from the mirror and then committed. The copy is there. Where it stands at its
-    /// limit the answer is Idle; else, where more than 64 commands are due at its clock, Wide, with how many; else the draft,
-    /// which fits, once it is run, what the mirror is now and whatever it becomes.
+    /// The copy's due tick, to be executed away from the mirror and then committed. The copy is
+    /// there. Where it stands at its limit the answer is Idle; else, where more than 64 commands
+    /// are due at its clock, Wide, with how many; else the draft, which fits, once it is run, what
+    /// the mirror is now and whatever it becomes.
     pub fn draft(&self, copy: u8) -> Drafted<G>
         requires { copy < length self.now.runs }
         ensures answer { result ≡ drafted G.rules self.now copy }
@@ -289,9 +298,9 @@ impl<G: Game> Mirror<G> {
         ))
     }
 
-    /// Makes the step that a ready tick stands for, which fits the mirror, without executing the tick again. Where the copy's
-    /// epoch is no longer that of the tick nothing changes, and the answer is Stale, with both. Else the answer is Ran, with how
-    /// many copies were repaired.
+    /// Makes the step that a ready tick stands for, which fits the mirror, without executing the
+    /// tick again. Where the copy's epoch is no longer that of the tick nothing changes, and the
+    /// answer is Stale, with both. Else the answer is Ran, with how many copies were repaired.
     pub fn commit(&mut self, r: &Ready<G>) -> Committed
         requires { FitsReady G.rules self.old r.now }
         ensures state { self.new ≡ committed_to self.old r.now }
@@ -386,7 +395,8 @@ impl<G: Game> Mirror<G> {
     /// The copy's live world: the opening after all items of its run. The copy is there.
     pub fn world(&self, copy: u8) -> &G
         requires { copy < length self.now.runs }
-        ensures { result.now ≡ world_of G.rules self.now.opening (slice_index_or self.now.runs copy []) }
+        ensures { result.now
+            ≡ world_of G.rules self.now.opening (slice_index_or self.now.runs copy []) }
     {
         self.stack.world(copy)
     }

@@ -1,14 +1,21 @@
-//! Slots of commands in key order.
+//! Commands in key order.
 
-ghost use Rattle.std.specs.Prelude.{◌≡◌, ◌≤◌, true, false};
+ghost use Rattle.std.specs.Prelude.{◌≡◌, ◌≤◌, true, false, nat_lt};
 ghost use Rattle.std.specs.List.Sorted.{IsPartitionPoint};
 ghost use Rattle.std.specs.VecDeque.{deque_len};
 ghost use Rattle.game_trait.specs.Count.{times};
-ghost use Rattle.game_trait.specs.Keys.{before};
-ghost use Rattle.pending_list.specs.Buckets.{is_before, is_due_before, AreSlots};
+ghost use Rattle.game_trait.specs.Keys.{before, KeysRise};
+ghost use Rattle.pending_list.specs.Buckets.{commands_of};
 
 use game_trait::{Command, Tick};
 use std::collections::VecDeque;
+
+/// A command and its slot.
+#[derive(Clone, Copy)]
+pub struct Placed {
+    pub slot: u32,
+    pub command: Command,
+}
 
 // Whether one command stands before the other in key order.
 fn stands_before(y: &Command, x: &Command) -> bool
@@ -17,39 +24,27 @@ fn stands_before(y: &Command, x: &Command) -> bool
     y.key() < x.key()
 }
 
-// Whether the command in a slot stands before the other in key order.
-fn slot_is_before(commands: &[Command], slot: u32, x: &Command) -> bool
-    ensures { result ≡ is_before commands.now x.now slot }
+// Whether a command is due before a tick.
+fn is_due_before(y: &Command, t: Tick) -> bool
+    ensures { result ≡ nat_lt y.now.time t }
 {
-    match commands.get(slot as usize) {
-        Some(y) => stands_before(y, x),
-        None => false,
-    }
+    y.time < t
 }
 
-// Whether the command in a slot is due before a tick.
-fn slot_is_due_before(commands: &[Command], slot: u32, t: Tick) -> bool
-    ensures { result ≡ is_due_before commands.now t slot }
+/// The place at which a command stands among those in key order, behind those before it.
+pub fn place_of(in_order: &VecDeque<Placed>, x: &Command) -> usize
+    requires { KeysRise (commands_of in_order.now.items) }
+    ensures within { result ≤ deque_len in_order.now }
+    ensures point { IsPartitionPoint (λ y. before y.command x.now ≡ true)
+        (λ y. before y.command x.now ≡ false) in_order.now.items result }
 {
-    match commands.get(slot as usize) {
-        Some(y) => y.time < t,
-        None => false,
-    }
+    in_order.partition_point(|y| stands_before(&y.command, x))
 }
 
-/// The place at which a command stands among slots in key order, behind those before it.
-pub fn place_of(commands: &[Command], slots: &VecDeque<u32>, x: &Command) -> usize
-    requires { AreSlots commands.now slots.now.items }
-    ensures within { result ≤ deque_len slots.now }
-    ensures point { IsPartitionPoint (λ slot. is_before commands.now x.now slot ≡ true) (λ slot. is_before commands.now x.now slot ≡ false) slots.now.items result }
+/// How many of the commands in key order are due before a tick.
+pub fn due_before(in_order: &VecDeque<Placed>, t: Tick) -> usize
+    requires { KeysRise (commands_of in_order.now.items) }
+    ensures { result ≡ times (λ y. nat_lt y.command.time t) in_order.now.items }
 {
-    slots.partition_point(|&slot| slot_is_before(commands, slot, x))
-}
-
-/// How many of the slots in key order have a command that is due before a tick.
-pub fn due_before(commands: &[Command], slots: &VecDeque<u32>, t: Tick) -> usize
-    requires { AreSlots commands.now slots.now.items }
-    ensures { result ≡ times (is_due_before commands.now t) slots.now.items }
-{
-    slots.partition_point(|&slot| slot_is_due_before(commands, slot, t))
+    in_order.partition_point(|y| is_due_before(&y.command, t))
 }

@@ -11,7 +11,8 @@ use executed_list::Segments;
 use game_trait::{Game, Item, Tick};
 use pending_list::Buckets;
 
-// Executes a tick's commands in key order, from their start on, and appends them. Answers where the next tick's begin.
+// Executes a tick's commands in key order, from their start on, and appends them. Answers where the
+// next tick's begin.
 fn replay_commands<G: Game>(
     world: &mut G,
     list: &Buckets,
@@ -28,14 +29,15 @@ fn replay_commands<G: Game>(
     let _ = run.len();
     let mut place = start;
     while let Some(x) = list.due(place, t) {
-        world.apply(&x);
         run.push(&Item::Cmd(x));
+        world.apply(&x);
         place += 1;
     }
     place
 }
 
-// Executes a whole tick, whose commands start there in key order, and appends it. Answers where the next tick's begin.
+// Executes a whole tick, whose commands start there in key order, and appends it. Answers where the
+// next tick's begin.
 fn replay_tick<G: Game>(
     world: &mut G,
     list: &Buckets,
@@ -55,8 +57,9 @@ fn replay_tick<G: Game>(
     next
 }
 
-/// Executes the ticks from `start` up to `stop` in time order, and appends each item, for which there is room, to the list. One
-/// search finds the first tick's commands; those of the ticks behind follow them.
+/// Executes the ticks from `start` up to `stop` in time order, and appends each item, for which
+/// there is room, to the list. One search finds the first tick's commands; those of the ticks
+/// behind follow them.
 pub fn replay<G: Game>(world: &mut G, list: &Buckets, start: Tick, stop: Tick, run: &mut Segments)
     requires order { start ≤ stop }
     requires room { length (ordered list.now.all start stop) ≤ run.old.spare }

@@ -1,5 +1,5 @@
 -- Copies that have run nothing.
-use Rattle.std.proofs.Common.{◌≡◌, refl, ◌∙◌, sym, ap, ℕ, zero, suc, ◌+◌, ◌≤◌, ◌<◌, List, [], ◌∷◌, length, map, replicate, subst, arith}
+use Rattle.std.proofs.Common.{◌≡◌, refl, ◌∙◌, sym, ap, ℕ, zero, suc, ◌+◌, ◌≤◌, ◌<◌, List, [], ◌∷◌, map, replicate, subst, arith}
 use Rattle.std.specs.List.{AllByRecursion}
 use Rattle.game_trait.specs.declared.command.Item.{Item}
 use Rattle.game_trait.specs.Game.{Rules}
@@ -11,6 +11,8 @@ use Rattle.sync_model.specs.Staggered.{IsAhead, IsChained, IsComplete, IsNeverEa
 use Rattle.sync_model.specs.Staggered.{IsTrailing}
 use Rattle.executed_list.specs.Segments.{runs_at}
 use Rattle.trailing_copy.specs.Stack.{IsStack}
+use Rattle.game_trait.proofs.Runs.{world_of-none}
+use Rattle.std.proofs.lemmas.List.{length-replicate}
 
 empty-runs : (n : ℕ) → runs_at [] (replicate n 0) ≡ replicate n []
 empty-runs zero = refl
@@ -43,21 +45,16 @@ empty-ordered : ordered [] 0 (beats []) ≡ []
 unfolding ticks beats
 empty-ordered = refl
 
-same-count : {X Y : Type 0} (f : X → Y) (n : ℕ) (x : X) (y : Y) → y ≡ f x → replicate n y ≡ map f (replicate n x)
+same-count :
+    {X Y : Type 0} (f : X → Y) (n : ℕ) (x : X) (y : Y) → y ≡ f x
+    → replicate n y ≡ map f (replicate n x)
 same-count f zero x y e = refl
-same-count {X} {Y} f (suc n) x y e = ap (λ (v : Y). v ∷ replicate n y) e ∙ ap (λ (l : List Y). f x ∷ l) (same-count f n x y e)
+same-count {X} {Y} f (suc n) x y e =
+    ap (λ (v : Y). v ∷ replicate n y) e ∙ ap (λ (l : List Y). f x ∷ l) (same-count f n x y e)
 
 no-beats : 0 ≡ beats []
 unfolding beats
 no-beats = refl
-
-no-world : {W : Type 0} (rules : Rules W) (w : W) → w ≡ world_of rules w []
-unfolding world_of
-no-world rules w = refl
-
-many : {X : Type 0} (n : ℕ) (x : X) → length (replicate n x) ≡ n
-many zero x = refl
-many (suc n) x = ap suc (many n x)
 
 pub same-replicate : (n : ℕ) → runs_at [] (replicate n 0) ≡ replicate n []
 same-replicate n = empty-runs n
@@ -67,22 +64,27 @@ empty-trailing n =
     record {
       chained = empty-chained n;
       complete = all-same (IsComplete []) n [] empty-complete;
-      last_ordered = empty-last n ∙ sym empty-ordered ∙ ap (λ (l : List Item). ordered [] 0 (beats l)) (sym (empty-last n));
+      last_ordered =
+          empty-last n ∙ sym empty-ordered
+          ∙ ap (λ (l : List Item). ordered [] 0 (beats l)) (sym (empty-last n));
       never_early = all-same (IsNeverEarly zero) n [] empty-early;
     }
 
 pub empty-stack :
-    {W : Type 0} (rules : Rules W) (opening : W) (length_ n room : ℕ) → (0 < n) × (n ≤ 8) → length_ ≤ 8192
-    → IsStack rules opening length_ [] room (record { items = []; ends = replicate n 0; spare = length_ + room }) (replicate n opening) (replicate n 0)
+    {W : Type 0} (rules : Rules W) (opening : W) (length_ n room : ℕ) → (0 < n) × (n ≤ 8)
+    → length_ ≤ 8192
+    → IsStack rules opening length_ [] room
+    (record { items = []; ends = replicate n 0; spare = length_ + room }) (replicate n opening)
+    (replicate n 0)
 empty-stack rules opening length_ n room few short =
-    let count = many n zero in
+    let count = length-replicate n zero in
     let some = few.0 in
     let eight = few.1 in
     let back = sym (empty-runs n) in
     record {
       trailing = subst (IsTrailing []) back (empty-trailing n);
       clocks_are = same-count beats n [] 0 no-beats ∙ ap (map beats) back;
-      worlds_are = same-count (world_of rules opening) n [] opening (no-world rules opening) ∙ ap (map (world_of rules opening)) back;
+      worlds_are = same-count (world_of rules opening) n [] opening (world_of-none rules opening) ∙ ap (map (world_of rules opening)) back;
       within = all-same (λ k. k ≤ length_) n 0 (omega arith);
       some_copy = omega arith;
       few_copies = omega arith;

@@ -1,13 +1,12 @@
 -- What a change at one copy, and the repair of the copies ahead, leave of a stack.
-use Rattle.std.proofs.Common.{◌≡◌, refl, ◌∙◌, sym, ap, subst, ℕ, zero, suc, ◌+◌, ◌-◌, ◌≤◌, ◌<◌, Bool, true, List, [], ◌∷◌, ◌++◌, length, map, take, drop, get_or, set, replicate, arith, length-append, ⊎_elim, ltb}
+use Rattle.std.proofs.Common.{◌≡◌, refl, ◌∙◌, sym, ap, subst, ℕ, zero, suc, ◌+◌, ◌-◌, ◌≤◌, ◌<◌, true, List, [], ◌∷◌, ◌++◌, length, map, take, drop, get_or, set, replicate, arith, length-append, ⊎_elim, ltb}
 use Rattle.std.proofs.lemmas.Bool.{cases_lt}
-use Rattle.std.proofs.lemmas.List.{drop-set-lt, length-set, get_or-set_same}
+use Rattle.std.proofs.lemmas.List.{drop-set-lt, length-set, get_or-set_same, get_or-map, length-map, length-take-le}
 use Rattle.std.specs.List.{AllByRecursion}
 use Rattle.game_trait.specs.declared.command.Command.{Command}
 use Rattle.game_trait.specs.declared.command.Item.{Item}
 use Rattle.game_trait.specs.declared.command.Item.TheVariants.{Cmd, Beat}
 use Rattle.game_trait.specs.Game.{Rules}
-use Rattle.game_trait.specs.Count.{times}
 use Rattle.game_trait.specs.Run.{beats, world_of, commands_of}
 use Rattle.game_trait.specs.Ordered.{ordered}
 use Rattle.game_trait.proofs.Runs.{beats-append}
@@ -19,12 +18,14 @@ use Rattle.sync_model.proofs.Trailing.{chained-falls}
 use Rattle.sync_model.specs.Repairs.{rebuild}
 use Rattle.sync_model.specs.Staggered.{IsTrailing}
 use Rattle.executed_list.specs.Segments.{OneList, Falls, StartsAtMost, end_of, filled, runs_at, run_grown}
-use Rattle.executed_list.proofs.Lists.{within, all-at, get-map, length-map, length-filled, length-taken}
+use Rattle.executed_list.proofs.Lists.{within, length-filled}
 use Rattle.trailing_copy.specs.Mixed.{mixed, grown_to, end_to, world_to}
 use Rattle.trailing_copy.specs.Stack.{IsStack}
 use Rattle.trailing_copy.proofs.Lists.{filled-below, filled-at}
 use Rattle.trailing_copy.proofs.Ahead.{Given, falls-between, mixed-length}
 use Rattle.trailing_copy.proofs.Closing.{repaired-runs, repaired-worlds}
+use Rattle.game_trait.proofs.Lists.{all-at}
+use Rattle.game_trait.proofs.Counts.{times-all, times-most}
 
 -- numbers that never rise, in either spelling
 pub falls-from : (ns : List ℕ) → NeverRises ns → Falls ns
@@ -40,78 +41,88 @@ items-count [] = omega arith
 items-count (Cmd x ∷ run) = omega (arith, items-count run)
 items-count (Beat ∷ run) = omega (arith, items-count run)
 
-count-all : {X : Type 0} (xs : List X) → length xs ≡ times (λ _. true) xs
-unfolding times
-count-all [] = refl
-count-all (x ∷ xs) = omega (arith, count-all xs)
-
-count-most : {X : Type 0} (p : X → Bool) (xs : List X) → times p xs ≤ length xs
-unfolding times
-count-most p [] = omega arith
-count-most p (x ∷ xs) = (let more = count-most p xs in grind arith)
-
 pub run-room : (all : List Command) (run : List Item) → IsComplete all run → length run ≤ beats run + length all
 unfolding IsComplete
 run-room all run complete =
     let count = items-count run in
-    let commands = count-all (commands_of run) in
+    let commands = times-all (commands_of run) in
     let same = complete (λ _. true) in
-    let most = count-most (λ (x : Command). ltb x.time (beats run)) all in
+    let most = times-most (λ (x : Command). ltb x.time (beats run)) all in
     omega arith
 
-dropped-first : (ends : List ℕ) (c e n : ℕ) → c < length ends → drop (c + 1) (set (filled c e ends) 0 n) ≡ drop (c + 1) ends
+dropped-first :
+    (ends : List ℕ) (c e n : ℕ) → c < length ends
+    → drop (c + 1) (set (filled c e ends) 0 n) ≡ drop (c + 1) ends
 dropped-first [] c e n there = absurd (omega arith)
 dropped-first (k ∷ ks) zero e n there = refl
 dropped-first (k ∷ ks) (suc c) e n there =
     (let one : suc c + 1 ≡ suc (c + 1) = omega arith in rw one (behind ks c e (omega arith)))
   where
-    behind : (ks : List ℕ) (c e : ℕ) → c < length ks → drop (c + 1) (filled c e ks) ≡ drop (c + 1) ks
+    behind :
+        (ks : List ℕ) (c e : ℕ) → c < length ks → drop (c + 1) (filled c e ks) ≡ drop (c + 1) ks
     behind [] c e there = absurd (omega arith)
     behind (k ∷ ks) zero e there = refl
-    behind (k ∷ ks) (suc c) e there = (let one : suc c + 1 ≡ suc (c + 1) = omega arith in rw one (behind ks c e (omega arith)))
+    behind (k ∷ ks) (suc c) e there =
+        (let one : suc c + 1 ≡ suc (c + 1) = omega arith in rw one (behind ks c e (omega arith)))
 
-filled-twice : (ends : List ℕ) (f c n : ℕ) → f ≤ c → c ≤ length ends → filled f n (filled c n ends) ≡ filled c n ends
+filled-twice :
+    (ends : List ℕ) (f c n : ℕ) → f ≤ c → c ≤ length ends
+    → filled f n (filled c n ends) ≡ filled c n ends
 filled-twice ends zero c n order there = refl
 filled-twice ends (suc f) zero n order there = absurd (omega arith)
 filled-twice [] (suc f) (suc c) n order there = absurd (omega arith)
-filled-twice (k ∷ ks) (suc f) (suc c) n order there = ap (λ (l : List ℕ). n ∷ l) (filled-twice ks f c n (omega arith) (omega arith))
+filled-twice (k ∷ ks) (suc f) (suc c) n order there =
+    ap (λ (l : List ℕ). n ∷ l) (filled-twice ks f c n (omega arith) (omega arith))
 
-module _ {W : Type 0} {rules : Rules W} {opening : W} {ticks : ℕ} {all : List Command} {spare : ℕ} {s : OneList} {worlds : List W} {clocks : List ℕ}
-    (h : IsStack rules opening ticks all spare s worlds clocks) (falls : Falls s.ends) (first : end_of s.ends 0 ≡ length s.items) where
+module _ {W : Type 0} {rules : Rules W} {opening : W} {ticks : ℕ} {all : List Command} {spare : ℕ}
+    {s : OneList} {worlds : List W} {clocks : List ℕ}
+    (h : IsStack rules opening ticks all spare s worlds clocks) (falls : Falls s.ends)
+    (first : end_of s.ends 0 ≡ length s.items) where
   pub run-many : length (runs_at s.items s.ends) ≡ length s.ends
-  run-many = length-map (λ (e : ℕ). take e s.items) s.ends
+  run-many = length-map s.ends (λ (e : ℕ). take e s.items)
 
   pub clock-many : length clocks ≡ length s.ends
-  clock-many = ap (λ (l : List ℕ). length l) h.clocks_are ∙ length-map beats (runs_at s.items s.ends) ∙ run-many
+  clock-many = ap (λ (l : List ℕ). length l) h.clocks_are ∙ length-map (runs_at s.items s.ends) beats ∙ run-many
 
   pub world-many : length worlds ≡ length s.ends
-  world-many = ap (λ (l : List W). length l) h.worlds_are ∙ length-map (world_of rules opening) (runs_at s.items s.ends) ∙ run-many
+  world-many = ap (λ (l : List W). length l) h.worlds_are ∙ length-map (runs_at s.items s.ends) (world_of rules opening) ∙ run-many
 
   pub clock-at : (i : ℕ) → i < length s.ends → get_or clocks i 0 ≡ beats (get_or (runs_at s.items s.ends) i [])
-  clock-at i there = (let many = run-many in ap (λ (l : List ℕ). get_or l i 0) h.clocks_are ∙ get-map beats (runs_at s.items s.ends) i [] 0 (omega arith))
+  clock-at i there = (let many = run-many in ap (λ (l : List ℕ). get_or l i 0) h.clocks_are ∙ get_or-map beats (runs_at s.items s.ends) i [] 0 (omega arith))
 
   pub run-at : (i : ℕ) → i < length s.ends → get_or (runs_at s.items s.ends) i [] ≡ take (end_of s.ends i) s.items
-  run-at i there = get-map (λ (e : ℕ). take e s.items) s.ends i 0 [] there
+  run-at i there = get_or-map (λ (e : ℕ). take e s.items) s.ends i 0 [] there
 
-  pub world-at : (i : ℕ) (d : W) → i < length s.ends → get_or worlds i d ≡ world_of rules opening (take (end_of s.ends i) s.items)
+  pub world-at :
+      (i : ℕ) (d : W) → i < length s.ends
+      → get_or worlds i d ≡ world_of rules opening (take (end_of s.ends i) s.items)
   world-at i d there =
-      (let many = run-many in ap (λ (l : List W). get_or l i d) h.worlds_are ∙ get-map (world_of rules opening) (runs_at s.items s.ends) i [] d (omega arith) ∙ ap (world_of rules opening) (run-at i there))
+      (let many = run-many in ap (λ (l : List W). get_or l i d) h.worlds_are ∙ get_or-map (world_of rules opening) (runs_at s.items s.ends) i [] d (omega arith) ∙ ap (world_of rules opening) (run-at i there))
 
   pub clocks-fall : Falls clocks
-  clocks-fall = subst Falls (sym h.clocks_are) (falls-from (map beats (runs_at s.items s.ends)) (chained-falls (runs_at s.items s.ends) h.trailing.chained))
+  clocks-fall =
+      subst Falls (sym h.clocks_are) (falls-from (map beats (runs_at s.items s.ends))
+      (chained-falls (runs_at s.items s.ends) h.trailing.chained))
 
   pub end-inside : (i : ℕ) → i < length s.ends → end_of s.ends i ≤ length s.items
-  end-inside i there = all-at (λ e. e ≤ length s.items) s.ends i 0 (within s.items s.ends falls first) there
+  end-inside i there =
+      all-at (λ e. e ≤ length s.items) s.ends i 0 (within s.items s.ends falls first) there
 
 -- the worlds from copy f to copy c are that of a run, and those behind are what they were
-pub record Put {W : Type 0} (rules : Rules W) (opening : W) (b : List Item) (f c : ℕ) (worlds put : List W) : Type 0 where
+pub record Put {W : Type 0} (rules : Rules W) (opening : W) (b : List Item) (f c : ℕ)
+    (worlds put : List W) :
+    Type 0 where
   pub len : length put ≡ length worlds
   pub here : (i : ℕ) (d : W) → f ≤ i → i ≤ c → get_or put i d ≡ world_of rules opening b
   pub behind : drop (suc c) put ≡ drop (suc c) worlds
 
--- what an event proposes at copy c: items more, and clocks, of which those from copy f to copy c are one
-pub record Change {W : Type 0} (rules : Rules W) (opening : W) (ticks : ℕ) (all : List Command) (spare : ℕ) (s : OneList) (clocks : List ℕ)
-    (new : List Command) (left : ℕ) (extra : List Item) (f c : ℕ) (ks : List ℕ) (target : List (List Item)) : Type 0 where
+-- what an event proposes at copy c: items more, and clocks, of which those from copy f to copy c
+-- are one
+pub record Change {W : Type 0} (rules : Rules W) (opening : W) (ticks : ℕ) (all : List Command)
+    (spare : ℕ) (s : OneList) (clocks : List ℕ)
+    (new : List Command) (left : ℕ) (extra : List Item) (f c : ℕ) (ks : List ℕ)
+    (target : List (List Item)) :
+    Type 0 where
   pub order : f ≤ c
   pub there : c < length s.ends
   pub ks_many : length ks ≡ length s.ends
@@ -121,17 +132,28 @@ pub record Change {W : Type 0} (rules : Rules W) (opening : W) (ticks : ℕ) (al
   pub ks_own : get_or ks c 0 ≡ beats (take (end_of s.ends c) s.items ++ extra)
   pub ks_within : AllByRecursion (λ k. k ≤ ticks) ks
   pub trailing : IsTrailing new target
-  pub target_is : target ≡ rebuild new (take (end_of s.ends c) s.items ++ extra) (suc c) (runs_at s.items s.ends)
+  pub target_is :
+      target
+      ≡ rebuild new (take (end_of s.ends c) s.items ++ extra) (suc c) (runs_at s.items s.ends)
   pub target_beats : map beats target ≡ ks
   pub whole : IsComplete new (take (end_of s.ends c) s.items ++ extra)
   pub counts : length new + left ≡ length all + spare
 
-module _ {W : Type 0} {rules : Rules W} {opening : W} {ticks : ℕ} {all : List Command} {spare : ℕ} {s : OneList} {worlds : List W} {clocks : List ℕ}
-    (h : IsStack rules opening ticks all spare s worlds clocks) (falls : Falls s.ends) (first : end_of s.ends 0 ≡ length s.items)
-    {new : List Command} {left : ℕ} {extra : List Item} {f c : ℕ} {ks : List ℕ} {target : List (List Item)}
+module _ {W : Type 0} {rules : Rules W} {opening : W} {ticks : ℕ} {all : List Command} {spare : ℕ}
+    {s : OneList} {worlds : List W} {clocks : List ℕ}
+    (h : IsStack rules opening ticks all spare s worlds clocks) (falls : Falls s.ends)
+    (first : end_of s.ends 0 ≡ length s.items)
+    {new : List Command} {left : ℕ} {extra : List Item} {f c : ℕ} {ks : List ℕ}
+    {target : List (List Item)}
     (change : Change rules opening ticks all spare s clocks new left extra f c ks target)
     {s1 : OneList}
-    (cut : s1 ≡ record { items = take (end_of s.ends c) s.items; ends = filled c (end_of s.ends c) s.ends; spare = s.spare + (length s.items - end_of s.ends c) }) where
+    (cut :
+    s1
+    ≡ record {
+      items = take (end_of s.ends c) s.items;
+      ends = filled c (end_of s.ends c) s.ends;
+      spare = s.spare + (length s.items - end_of s.ends c);
+    }) where
   -- the room before the items are put there
   pub room-before : length extra ≤ s1.spare
   room-before =
@@ -141,7 +163,7 @@ module _ {W : Type 0} {rules : Rules W} {opening : W} {ticks : ℕ} {all : List 
       let many = change.ks_many in
       let most = all-at (λ k. k ≤ ticks) ks c 0 change.ks_within (omega arith) in
       let both = length-append (take (end_of s.ends c) s.items) extra in
-      let taken = length-taken (end_of s.ends c) s.items (end-inside h falls first c there) in
+      let taken = length-take-le (end_of s.ends c) s.items (end-inside h falls first c there) in
       let inside = end-inside h falls first c there in
       let spare_of = ap (λ (l : OneList). l.spare) cut in
       let room = h.room in
@@ -156,11 +178,13 @@ module _ {W : Type 0} {rules : Rules W} {opening : W} {ticks : ℕ} {all : List 
     pub ends-many : length s2.ends ≡ length s.ends
     ends-many =
         let there = change.there in
-        ap (λ (l : OneList). length l.ends) grown ∙ length-set s1.ends 0 (length (s1.items ++ extra)) ∙ ap (λ (l : OneList). length l.ends) cut
+        ap (λ (l : OneList). length l.ends) grown
+        ∙ length-set s1.ends 0 (length (s1.items ++ extra))
+        ∙ ap (λ (l : OneList). length l.ends) cut
         ∙ length-filled (end_of s.ends c) s.ends c (omega arith)
 
     pub length-cut : length s1.items ≡ end_of s.ends c
-    length-cut = ap (λ (l : OneList). length l.items) cut ∙ length-taken (end_of s.ends c) s.items (end-inside h falls first c change.there)
+    length-cut = ap (λ (l : OneList). length l.items) cut ∙ length-take-le (end_of s.ends c) s.items (end-inside h falls first c change.there)
 
     pub ends-at : (j : ℕ) → 0 < j → j ≤ c → end_of s2.ends j ≡ length s1.items
     ends-at j some upto =
@@ -170,7 +194,8 @@ module _ {W : Type 0} {rules : Rules W} {opening : W} {ticks : ℕ} {all : List 
         ∙ ap (λ (l : OneList). end_of l.ends j) cut
         ∙ ⊎_elim
         (λ (below : j < c). filled-below s.ends c j (end_of s.ends c) below (omega arith))
-        (λ (level : c ≤ j). (let same : j ≡ c = omega arith in rw same (filled-at s.ends c (end_of s.ends c) there)))
+        (λ (level : c ≤ j). (let same : j ≡ c = omega arith in
+        rw same (filled-at s.ends c (end_of s.ends c) there)))
         (cases_lt j c)
         ∙ sym length-cut
       where
@@ -180,19 +205,28 @@ module _ {W : Type 0} {rules : Rules W} {opening : W} {ticks : ℕ} {all : List 
         set-other (x ∷ xs) (suc j) n some = refl
 
     pub ends-upto : length s1.items ≤ length s2.items
-    ends-upto = (let both = length-append s1.items extra in let items = ap (λ (l : OneList). length l.items) grown in omega arith)
+    ends-upto =
+        (let both = length-append s1.items extra in
+        let items = ap (λ (l : OneList). length l.items) grown in omega arith)
 
-    module _ {s3 : OneList} (brought : s3 ≡ record s2 { ends = filled (c + 1) (length s2.items) s2.ends }) where
+    module _ {s3 : OneList}
+        (brought : s3 ≡ record s2 { ends = filled (c + 1) (length s2.items) s2.ends }) where
       pub items-brought : s3.items ≡ take (end_of s.ends c) s.items ++ extra
       items-brought = ap (λ (l : OneList). l.items) brought ∙ items-grown
 
-      pub ends-brought : s3.ends ≡ filled (c + 1) (length (take (end_of s.ends c) s.items ++ extra)) s.ends
+      pub ends-brought :
+          s3.ends ≡ filled (c + 1) (length (take (end_of s.ends c) s.items ++ extra)) s.ends
       ends-brought =
           ap (λ (l : OneList). l.ends) brought
           ∙ ap (λ (l : List Item). filled (c + 1) (length l) s2.ends) items-grown
-          ∙ ap (λ (l : OneList). filled (c + 1) (length (take (end_of s.ends c) s.items ++ extra)) l.ends) grown
-          ∙ ap (λ (l : OneList). filled (c + 1) (length (take (end_of s.ends c) s.items ++ extra)) (set l.ends 0 (length (l.items ++ extra)))) cut
-          ∙ ap (λ (l : List ℕ). replicate (c + 1) (length (take (end_of s.ends c) s.items ++ extra)) ++ l) (dropped-first s.ends c (end_of s.ends c) (length (take (end_of s.ends c) s.items ++ extra)) change.there)
+          ∙ ap (λ (l : OneList).
+          filled (c + 1) (length (take (end_of s.ends c) s.items ++ extra)) l.ends) grown
+          ∙ ap (λ (l : OneList). filled (c + 1) (length (take (end_of s.ends c) s.items ++ extra))
+          (set l.ends 0 (length (l.items ++ extra)))) cut
+          ∙ ap (λ (l : List ℕ).
+          replicate (c + 1) (length (take (end_of s.ends c) s.items ++ extra)) ++ l)
+          (dropped-first s.ends c (end_of s.ends c)
+          (length (take (end_of s.ends c) s.items ++ extra)) change.there)
 
       pub spare-brought : s3.spare + length s3.items ≡ s.spare + length s.items
       spare-brought =
@@ -204,7 +238,7 @@ module _ {W : Type 0} {rules : Rules W} {opening : W} {ticks : ℕ} {all : List 
           let room = room-before in
           let items = ap (λ (l : List Item). length l) items-brought in
           let both = length-append (take (end_of s.ends c) s.items) extra in
-          let taken = length-taken (end_of s.ends c) s.items inside in
+          let taken = length-take-le (end_of s.ends c) s.items inside in
           omega arith
 
       -- what the repair requires
@@ -216,16 +250,31 @@ module _ {W : Type 0} {rules : Rules W} {opening : W} {ticks : ℕ} {all : List 
           let k = falls-between ks i c change.ks_falls upto (omega arith) in
           omega arith
 
-      room-whole : (q : List Item) → beats q ≡ get_or ks 0 0 → length (ordered new (beats (take (end_of s.ends c) s.items ++ extra)) (get_or ks 0 0)) ≤ s3.spare
+      room-whole :
+          (q : List Item) → beats q ≡ get_or ks 0 0
+          → length (ordered new (beats (take (end_of s.ends c) s.items ++ extra)) (get_or ks 0 0))
+          ≤ s3.spare
       room-whole q at =
           let b = take (end_of s.ends c) s.items ++ extra in
           let there = change.there in
           let many = change.ks_many in
-          let least : beats (take (end_of s.ends c) s.items ++ extra) ≤ beats q = (let k = low 0 (omega arith) in omega arith) in
-          let full = run-room new (rebuilt new q (take (end_of s.ends c) s.items ++ extra)) (complete-rebuilt new q (take (end_of s.ends c) s.items ++ extra) change.whole least) in
+          let least : beats (take (end_of s.ends c) s.items ++ extra) ≤ beats q =
+          (let k = low 0 (omega arith) in omega arith) in
+          let full =
+          run-room new (rebuilt new q (take (end_of s.ends c) s.items ++ extra))
+          (complete-rebuilt new q (take (end_of s.ends c) s.items ++ extra) change.whole
+          least) in
           let clock = beats-rebuilt new q (take (end_of s.ends c) s.items ++ extra) least in
-          let both = length-append (take (end_of s.ends c) s.items ++ extra) (ordered new (beats (take (end_of s.ends c) s.items ++ extra)) (beats q)) in
-          let same : length (ordered new (beats (take (end_of s.ends c) s.items ++ extra)) (beats q)) ≡ length (ordered new (beats (take (end_of s.ends c) s.items ++ extra)) (get_or ks 0 0)) = ap (λ (k : ℕ). length (ordered new (beats (take (end_of s.ends c) s.items ++ extra)) k)) at in
+          let both =
+          length-append (take (end_of s.ends c) s.items ++ extra)
+          (ordered new (beats (take (end_of s.ends c) s.items ++ extra)) (beats q)) in
+          let same :
+          length (ordered new (beats (take (end_of s.ends c) s.items ++ extra)) (beats q))
+          ≡ length
+          (ordered new (beats (take (end_of s.ends c) s.items ++ extra)) (get_or ks 0 0)) =
+          ap
+          (λ (k : ℕ). length (ordered new (beats (take (end_of s.ends c) s.items ++ extra)) k))
+          at in
           let most = all-at (λ k. k ≤ ticks) ks 0 0 change.ks_within (omega arith) in
           let items = ap (λ (l : List Item). length l) items-brought in
           let total = spare-brought in
@@ -237,8 +286,14 @@ module _ {W : Type 0} {rules : Rules W} {opening : W} {ticks : ℕ} {all : List 
       first-run =
           ⊎_elim
           (λ (some : 0 < c).
-          (let there = change.there in (get_or (runs_at s.items s.ends) 0 [], sym (change.ks_same 0 some ∙ clock-at h falls first 0 (omega arith)))))
-          (λ (none : c ≤ 0). (take (end_of s.ends c) s.items ++ extra, sym (let e : 0 ≡ c = omega arith in ap (λ (i : ℕ). get_or ks i 0) e ∙ change.ks_own)))
+          (let there = change.there in (
+            get_or (runs_at s.items s.ends) 0 [],
+            sym (change.ks_same 0 some ∙ clock-at h falls first 0 (omega arith)),
+          )))
+          (λ (none : c ≤ 0). (
+            take (end_of s.ends c) s.items ++ extra,
+            sym (let e : 0 ≡ c = omega arith in ap (λ (i : ℕ). get_or ks i 0) e ∙ change.ks_own),
+          ))
           (cases_lt 0 c)
 
       pub given : (put : List W) → length put ≡ length worlds → Given new ks f s3 put
@@ -248,23 +303,39 @@ module _ {W : Type 0} {rules : Rules W} {opening : W} {ticks : ℕ} {all : List 
           let many = world-many h falls first in
           let ends = ends-brought in
           let b = take (end_of s.ends c) s.items ++ extra in
-          let filled_many = length-filled (length (take (end_of s.ends c) s.items ++ extra)) s.ends (c + 1) (omega arith) in
-          let same : length s3.ends ≡ length s.ends = ap (λ (l : List ℕ). length l) ends ∙ filled_many in
+          let filled_many =
+          length-filled (length (take (end_of s.ends c) s.items ++ extra)) s.ends (c + 1)
+          (omega arith) in
+          let same : length s3.ends ≡ length s.ends =
+          ap (λ (l : List ℕ). length l) ends ∙ filled_many in
           let clocks_many = change.ks_many in
           record {
             there = omega arith;
             as_many_worlds = omega arith;
             as_many_clocks = omega arith;
-            level = ends ∙ sym (filled-twice s.ends (f + 1) (c + 1) (length b) (omega arith) (omega arith)) ∙ ap (λ (l : List ℕ). filled (f + 1) (length b) l) (sym ends) ∙ ap (λ (l : List Item). filled (f + 1) (length l) s3.ends) (sym items-brought);
-            clock = change.ks_level f (omega arith) change.order ∙ change.ks_own ∙ ap beats (sym items-brought);
+            level =
+                ends
+                ∙ sym (filled-twice s.ends (f + 1) (c + 1) (length b) (omega arith) (omega arith))
+                ∙ ap (λ (l : List ℕ). filled (f + 1) (length b) l) (sym ends)
+                ∙ ap (λ (l : List Item). filled (f + 1) (length l) s3.ends) (sym items-brought);
+            clock =
+                change.ks_level f (omega arith) change.order ∙ change.ks_own
+                ∙ ap beats (sym items-brought);
             falls = change.ks_falls;
-            room = subst (λ (l : List Item). length (ordered new (beats l) (get_or ks 0 0)) ≤ s3.spare) (sym items-brought) (room-whole first-run.0 first-run.1);
+            room =
+                subst (λ (l : List Item). length (ordered new (beats l) (get_or ks 0 0)) ≤ s3.spare)
+                (sym items-brought) (room-whole first-run.0 first-run.1);
           }
 
       same-clocks : (i : ℕ) → i < c → get_or ks i 0 ≡ beats (get_or (runs_at s.items s.ends) i [])
-      same-clocks i below = (let there = change.there in change.ks_same i below ∙ clock-at h falls first i (omega arith))
+      same-clocks i below =
+          (let there = change.there in
+          change.ks_same i below ∙ clock-at h falls first i (omega arith))
 
-      level-clocks : (i : ℕ) → f ≤ i → i ≤ c → beats (get_or (runs_at s.items s.ends) i []) ≤ beats (take (end_of s.ends c) s.items ++ extra)
+      level-clocks :
+          (i : ℕ) → f ≤ i → i ≤ c
+          → beats (get_or (runs_at s.items s.ends) i [])
+          ≤ beats (take (end_of s.ends c) s.items ++ extra)
       level-clocks i from upto =
           ⊎_elim
           (λ (below : i < c).
@@ -274,73 +345,100 @@ module _ {W : Type 0} {rules : Rules W} {opening : W} {ticks : ℕ} {all : List 
           omega arith))
           (λ (at_c : c ≤ i).
           (let same : i ≡ c = omega arith in
-          let at : beats (get_or (runs_at s.items s.ends) c []) ≡ beats (take (end_of s.ends c) s.items) = ap beats (run-at h falls first c change.there) in
+          let at :
+          beats (get_or (runs_at s.items s.ends) c [])
+          ≡ beats (take (end_of s.ends c) s.items) =
+          ap beats (run-at h falls first c change.there) in
           let more = beats-append (take (end_of s.ends c) s.items) extra in
-          let low : beats (get_or (runs_at s.items s.ends) c []) ≤ beats (take (end_of s.ends c) s.items ++ extra) = omega arith in
+          let low :
+          beats (get_or (runs_at s.items s.ends) c [])
+          ≤ beats (take (end_of s.ends c) s.items ++ extra) =
+          omega arith in
           rw same low))
           (cases_lt i c)
 
       -- and what stands after it
-      module _ (s4 : OneList) {put : List W} (at_put : Put rules opening (take (end_of s.ends c) s.items ++ extra) f c worlds put) (remade : List W)
+      module _ (s4 : OneList) {put : List W}
+          (at_put : Put rules opening (take (end_of s.ends c) s.items ++ extra) f c worlds put)
+          (remade : List W)
           (items : s4.items ≡ s3.items ++ ordered new (beats s3.items) (get_or ks 0 0))
           (ends : s4.ends ≡ mixed f (end_to new s3.items) ks s3.ends)
           (room : s4.spare + length s4.items ≡ s3.spare + length s3.items)
-          (worlds_are : (d : W) → remade ≡ mixed f (world_to rules new (beats s3.items) (get_or put f d)) ks put) where
-        pub runs-remade : runs_at s4.items s4.ends ≡ target
-        runs-remade =
-            let order = change.order in
-            ap (λ (l : List Item). runs_at l s4.ends) (items ∙ ap (λ (l : List Item). grown_to new l (get_or ks 0 0)) items-brought)
-            ∙ ap (runs_at (grown_to new (take (end_of s.ends c) s.items ++ extra) (get_or ks 0 0))) (ends ∙ ap (λ (l : List Item). mixed f (end_to new l) ks s3.ends) items-brought ∙ ap (mixed f (end_to new (take (end_of s.ends c) s.items ++ extra)) ks) ends-brought)
-            ∙ repaired-runs new s.items extra s.ends ks f c change.order falls (end-inside h falls first c change.there) change.there change.ks_many change.ks_falls (λ i below. same-clocks i (omega arith)) (λ i below. low i (omega arith)) level-clocks
-            ∙ sym change.target_is
+          (worlds_are :
+          (d : W) → remade ≡ mixed f (world_to rules new (beats s3.items) (get_or put f d)) ks put)
+        where
+          pub runs-remade : runs_at s4.items s4.ends ≡ target
+          runs-remade =
+              let order = change.order in
+              ap (λ (l : List Item). runs_at l s4.ends)
+              (items ∙ ap (λ (l : List Item). grown_to new l (get_or ks 0 0)) items-brought)
+              ∙ ap
+              (runs_at (grown_to new (take (end_of s.ends c) s.items ++ extra) (get_or ks 0 0)))
+              (ends ∙ ap (λ (l : List Item). mixed f (end_to new l) ks s3.ends) items-brought
+              ∙ ap (mixed f (end_to new (take (end_of s.ends c) s.items ++ extra)) ks)
+              ends-brought)
+              ∙ repaired-runs new s.items extra s.ends ks f c change.order falls
+              (end-inside h falls first c change.there) change.there change.ks_many change.ks_falls
+              (λ i below. same-clocks i (omega arith)) (λ i below. low i (omega arith)) level-clocks
+              ∙ sym change.target_is
 
-        worlds-remade : remade ≡ map (world_of rules opening) target
-        worlds-remade =
-            let there = change.there in
-            let order = change.order in
-            let many = world-many h falls first in
-            let runs_many = run-many h falls first in
-            let clocks_many = change.ks_many in
-            let put_many = at_put.len in
-            let b = take (end_of s.ends c) s.items ++ extra in
-            let w = world_of rules opening (take (end_of s.ends c) s.items ++ extra) in
-            worlds_are w
-            ∙ ap (λ (l : List Item). mixed f (world_to rules new (beats l) (get_or put f w)) ks put) items-brought
-            ∙ ap (λ (v : W). mixed f (world_to rules new (beats b) v) ks put) (at_put.here f w (omega arith) change.order)
-            ∙ repaired-worlds rules opening new b w f c ks (runs_at s.items s.ends) put change.order (omega arith) (omega arith) (omega arith) refl (λ i below. same-clocks i (omega arith)) level-clocks
-            (λ i from upto. at_put.here i w from upto)
-            (at_put.behind ∙ ap (drop (suc c)) h.worlds_are)
-            ∙ ap (map (world_of rules opening)) (sym change.target_is)
+          worlds-remade : remade ≡ map (world_of rules opening) target
+          worlds-remade =
+              let there = change.there in
+              let order = change.order in
+              let many = world-many h falls first in
+              let runs_many = run-many h falls first in
+              let clocks_many = change.ks_many in
+              let put_many = at_put.len in
+              let b = take (end_of s.ends c) s.items ++ extra in
+              let w = world_of rules opening (take (end_of s.ends c) s.items ++ extra) in
+              worlds_are w
+              ∙ ap
+              (λ (l : List Item). mixed f (world_to rules new (beats l) (get_or put f w)) ks put)
+              items-brought
+              ∙ ap (λ (v : W). mixed f (world_to rules new (beats b) v) ks put)
+              (at_put.here f w (omega arith) change.order)
+              ∙ repaired-worlds rules opening new b w f c ks (runs_at s.items s.ends) put
+              change.order (omega arith) (omega arith) (omega arith) refl
+              (λ i below. same-clocks i (omega arith)) level-clocks
+              (λ i from upto. at_put.here i w from upto)
+              (at_put.behind ∙ ap (drop (suc c)) h.worlds_are)
+              ∙ ap (map (world_of rules opening)) (sym change.target_is)
 
-        pub kept-remade : IsStack rules opening ticks new left s4 remade ks
-        kept-remade =
-            let there = change.there in
-            let some = h.some_copy in
-            let few = h.few_copies in
-            let back = sym runs-remade in
-            let counts = change.counts in
-            let before = h.room in
-            let between = spare-brought in
-            let ends_many : length s4.ends ≡ length s.ends =
-            ap (λ (l : List ℕ). length l) ends ∙ mixed-length f (end_to new s3.items) ks s3.ends ∙ ap (λ (l : List ℕ). length l) ends-brought ∙ length-filled (length (take (end_of s.ends c) s.items ++ extra)) s.ends (c + 1) (omega arith) in
-            record {
-              trailing = subst (IsTrailing new) back change.trailing;
-              clocks_are = sym change.target_beats ∙ ap (map beats) back;
-              worlds_are = worlds-remade ∙ ap (map (world_of rules opening)) back;
-              within = change.ks_within;
-              some_copy = omega arith;
-              few_copies = omega arith;
-              few_ticks = h.few_ticks;
-              room = omega arith;
-            }
+          pub kept-remade : IsStack rules opening ticks new left s4 remade ks
+          kept-remade =
+              let there = change.there in
+              let some = h.some_copy in
+              let few = h.few_copies in
+              let back = sym runs-remade in
+              let counts = change.counts in
+              let before = h.room in
+              let between = spare-brought in
+              let ends_many : length s4.ends ≡ length s.ends =
+              ap (λ (l : List ℕ). length l) ends ∙ mixed-length f (end_to new s3.items) ks s3.ends
+              ∙ ap (λ (l : List ℕ). length l) ends-brought
+              ∙ length-filled (length (take (end_of s.ends c) s.items ++ extra)) s.ends (c + 1)
+              (omega arith) in
+              record {
+                trailing = subst (IsTrailing new) back change.trailing;
+                clocks_are = sym change.target_beats ∙ ap (map beats) back;
+                worlds_are = worlds-remade ∙ ap (map (world_of rules opening)) back;
+                within = change.ks_within;
+                some_copy = omega arith;
+                few_copies = omega arith;
+                few_ticks = h.few_ticks;
+                room = omega arith;
+              }
 
 -- one world put in its place
 pub put-one :
-    {W : Type 0} (rules : Rules W) (opening : W) (b : List Item) (c : ℕ) (worlds : List W) (w : W) → c < length worlds → w ≡ world_of rules opening b
+    {W : Type 0} (rules : Rules W) (opening : W) (b : List Item) (c : ℕ) (worlds : List W) (w : W)
+    → c < length worlds → w ≡ world_of rules opening b
     → Put rules opening b c c worlds (set worlds c w)
 put-one rules opening b c worlds w there own =
     record {
       len = length-set worlds c w;
-      here = λ i d from upto. (let same : i ≡ c = omega arith in rw same (get_or-set_same worlds c w d there ∙ own));
+      here = λ i d from upto.
+          (let same : i ≡ c = omega arith in rw same (get_or-set_same worlds c w d there ∙ own));
       behind = drop-set-lt (suc c) worlds c w (omega arith);
     }

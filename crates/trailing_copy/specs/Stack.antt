@@ -9,8 +9,8 @@ use Rattle.game_trait.specs.Run.{beats, world_of}
 use Rattle.sync_model.specs.Staggered.{IsTrailing}
 use Rattle.executed_list.specs.Segments.{OneList, runs_at}
 
--- the opening world, the match's length in ticks, the accepted commands in order of acceptance, the runs of the copies from copy 0
--- on, and for how many more commands there is room
+-- the opening world, the match's length in ticks, the accepted commands in order of acceptance, the
+-- runs of the copies from copy 0 on, and for how many more commands there is room
 pub record CopyState (W : Type 0) : Type 0 where
   pub opening : W
   pub ticks : ℕ
@@ -18,9 +18,12 @@ pub record CopyState (W : Type 0) : Type 0 where
   pub runs : List (List Item)
   pub spare : ℕ
 
--- how the fields belong together: the runs are chained, complete, in order at the last copy and never early; each clock is that
--- of its run and each world the world of its run; and there is room for every tick and command that is still to come
-pub record IsStack {W : Type 0} (rules : Rules W) (opening : W) (ticks : ℕ) (all : List Command) (spare : ℕ) (s : OneList) (worlds : List W) (clocks : List ℕ) : Type 0 where
+-- how the fields belong together: the runs are chained, complete, in order at the last copy and
+-- never early; each clock is that of its run and each world the world of its run; and there is room
+-- for every tick and command that is still to come
+pub record IsStack {W : Type 0} (rules : Rules W) (opening : W) (ticks : ℕ) (all : List Command)
+    (spare : ℕ) (s : OneList) (worlds : List W) (clocks : List ℕ) :
+    Type 0 where
   pub trailing : IsTrailing all (runs_at s.items s.ends)
   pub clocks_are : clocks ≡ map beats (runs_at s.items s.ends)
   pub worlds_are : worlds ≡ map (world_of rules opening) (runs_at s.items s.ends)

@@ -1,8 +1,10 @@
 //! The copies of a mirror over one list of runs.
 
-ghost use Rattle.std.specs.Prelude.{◌≡◌, ℕ, ◌+◌, ◌-◌, ◌<◌, ◌≤◌, false, true, Some, IfOk, [], ◌∷◌, ◌++◌, length, slice_get, slice_index_or, replicate};
+ghost use Rattle.std.specs.Prelude.{◌≡◌, ℕ, ◌+◌, ◌-◌, ◌<◌, ◌≤◌, false, true, Some, IfOk, [], ◌∷◌};
+ghost use Rattle.std.specs.Prelude.{◌++◌, length, slice_get, slice_index_or, replicate};
 ghost use Rattle.std.specs.List.{list_any};
-ghost use Rattle.game_trait.specs.declared.limits.TheConstants.{LONGEST_MATCH, MOST_COPIES, MOST_ROOM};
+ghost use Rattle.game_trait.specs.declared.limits.TheConstants.{LONGEST_MATCH, MOST_COPIES};
+ghost use Rattle.game_trait.specs.declared.limits.TheConstants.{MOST_ROOM};
 ghost use Rattle.game_trait.specs.Run.{world_of};
 ghost use Rattle.game_trait.specs.Keys.{same_name};
 ghost use Rattle.game_trait.specs.Ordered.{due_at};
@@ -24,10 +26,11 @@ use std::alloc::Global;
 use std::marker::Model;
 use tss_io::NoMemory;
 
-/// The copies of a mirror, each with its run and its live world: the trailing states of the paper of 2002, which execute a late
-/// command on arrival and are compared and repaired tick by tick (this project's own). All runs are kept as one list. Contracts
-/// see the opening world, the match's length in ticks, the accepted commands in order of acceptance, the runs from copy 0 on, and
-/// for how many more commands there is room. Only `new` takes memory.
+/// The copies of a mirror, each with its run and its live world: the trailing states of the paper
+/// of 2002, which execute a late command on arrival and are compared and repaired tick by tick
+/// (this project's own). All runs are kept as one list. Contracts see the opening world, the
+/// match's length in ticks, the accepted commands in order of acceptance, the runs from copy 0 on,
+/// and for how many more commands there is room. Only `new` takes memory.
 #[derive(Drop)]
 pub struct CopyStack<G: Game> {
     opening: G,
@@ -51,12 +54,13 @@ impl<G: Game> Model for CopyStack<G> {
       spare = s.list.spare;
     } };
 
-    ghost invariant = { λ s. IsStack G.rules s.opening s.list.ticks s.list.all s.list.spare s.run s.worlds.items s.clocks.items };
+    ghost invariant = { λ s. IsStack G.rules s.opening s.list.ticks s.list.all s.list.spare s.run
+        s.worlds.items s.clocks.items };
 }
 
 impl<G: Game> CopyStack<G> {
-    /// 1 to 8 copies that have run nothing, in a match of 1 to 8,192 ticks, with room for so many commands, at most 1,048,576.
-    /// Want of memory makes nothing.
+    /// 1 to 8 copies that have run nothing, in a match of 1 to 8,192 ticks, with room for so many
+    /// commands, at most 1,048,576. Want of memory makes nothing.
     pub fn new(
         alloc: Global,
         opening: &G,
@@ -91,15 +95,23 @@ impl<G: Game> CopyStack<G> {
         })
     }
 
-    // A tick of copy 0, or of a copy whose new run the copy ahead doesn't begin with. The copies ahead are repaired.
+    // A tick of copy 0, or of a copy whose new run the copy ahead doesn't begin with. The copies
+    // ahead are repaired.
     fn tick_apart(&mut self, copy: u8)
         requires copy { copy < length self.old.runs }
         requires below { copy_clock self.old.runs copy < self.old.ticks }
-        requires behind { 0 < copy → copy_clock self.old.runs copy < copy_clock self.old.runs (copy - 1) }
+        requires behind { 0 < copy
+            → copy_clock self.old.runs copy < copy_clock self.old.runs (copy - 1) }
         requires apart { 0 < copy
-            → begins_with (slice_index_or self.old.runs (copy - 1) []) (with_tick self.old.accepted (slice_index_or self.old.runs copy [])) ≡ false }
-        ensures runs { self.new ≡ record self.old { runs = settle self.old.accepted (proposed_by_step self.old.accepted self.old.runs copy) } }
-        ensures repaired { copy ≡ repaired self.old.accepted (proposed_by_step self.old.accepted self.old.runs copy) }
+            → begins_with (slice_index_or self.old.runs (copy - 1) [])
+            (with_tick self.old.accepted (slice_index_or self.old.runs copy [])) ≡ false }
+        ensures runs { self.new
+            ≡ record self.old {
+              runs =
+                  settle self.old.accepted (proposed_by_step self.old.accepted self.old.runs copy);
+            } }
+        ensures repaired { copy
+            ≡ repaired self.old.accepted (proposed_by_step self.old.accepted self.old.runs copy) }
     {
         let c = copy as usize;
         let t = self.clocks[c];
@@ -123,12 +135,21 @@ impl<G: Game> CopyStack<G> {
     fn commit_apart(&mut self, copy: u8, world: &G)
         requires copy { copy < length self.old.runs }
         requires below { copy_clock self.old.runs copy < self.old.ticks }
-        requires behind { 0 < copy → copy_clock self.old.runs copy < copy_clock self.old.runs (copy - 1) }
+        requires behind { 0 < copy
+            → copy_clock self.old.runs copy < copy_clock self.old.runs (copy - 1) }
         requires apart { 0 < copy
-            → begins_with (slice_index_or self.old.runs (copy - 1) []) (with_tick self.old.accepted (slice_index_or self.old.runs copy [])) ≡ false }
-        requires world { world.now ≡ world_of G.rules self.old.opening (with_tick self.old.accepted (slice_index_or self.old.runs copy [])) }
-        ensures runs { self.new ≡ record self.old { runs = settle self.old.accepted (proposed_by_step self.old.accepted self.old.runs copy) } }
-        ensures repaired { copy ≡ repaired self.old.accepted (proposed_by_step self.old.accepted self.old.runs copy) }
+            → begins_with (slice_index_or self.old.runs (copy - 1) [])
+            (with_tick self.old.accepted (slice_index_or self.old.runs copy [])) ≡ false }
+        requires world { world.now
+            ≡ world_of G.rules self.old.opening
+            (with_tick self.old.accepted (slice_index_or self.old.runs copy [])) }
+        ensures runs { self.new
+            ≡ record self.old {
+              runs =
+                  settle self.old.accepted (proposed_by_step self.old.accepted self.old.runs copy);
+            } }
+        ensures repaired { copy
+            ≡ repaired self.old.accepted (proposed_by_step self.old.accepted self.old.runs copy) }
     {
         let c = copy as usize;
         let t = self.clocks[c];
@@ -154,9 +175,15 @@ impl<G: Game> CopyStack<G> {
         requires copy { (0 < copy) × (copy < length self.old.runs) }
         requires below { copy_clock self.old.runs copy < self.old.ticks }
         requires behind { copy_clock self.old.runs copy < copy_clock self.old.runs (copy - 1) }
-        requires front { begins_with (slice_index_or self.old.runs (copy - 1) []) (with_tick self.old.accepted (slice_index_or self.old.runs copy [])) ≡ true }
-        ensures runs { self.new ≡ record self.old { runs = settle self.old.accepted (proposed_by_step self.old.accepted self.old.runs copy) } }
-        ensures repaired { 0 ≡ repaired self.old.accepted (proposed_by_step self.old.accepted self.old.runs copy) }
+        requires front { begins_with (slice_index_or self.old.runs (copy - 1) [])
+            (with_tick self.old.accepted (slice_index_or self.old.runs copy [])) ≡ true }
+        ensures runs { self.new
+            ≡ record self.old {
+              runs =
+                  settle self.old.accepted (proposed_by_step self.old.accepted self.old.runs copy);
+            } }
+        ensures repaired { 0
+            ≡ repaired self.old.accepted (proposed_by_step self.old.accepted self.old.runs copy) }
     {
         let c = copy as usize;
         let t = self.clocks[c];
@@ -172,10 +199,18 @@ impl<G: Game> CopyStack<G> {
         requires copy { (0 < copy) × (copy < length self.old.runs) }
         requires below { copy_clock self.old.runs copy < self.old.ticks }
         requires behind { copy_clock self.old.runs copy < copy_clock self.old.runs (copy - 1) }
-        requires front { begins_with (slice_index_or self.old.runs (copy - 1) []) (with_tick self.old.accepted (slice_index_or self.old.runs copy [])) ≡ true }
-        requires world { world.now ≡ world_of G.rules self.old.opening (with_tick self.old.accepted (slice_index_or self.old.runs copy [])) }
-        ensures runs { self.new ≡ record self.old { runs = settle self.old.accepted (proposed_by_step self.old.accepted self.old.runs copy) } }
-        ensures repaired { 0 ≡ repaired self.old.accepted (proposed_by_step self.old.accepted self.old.runs copy) }
+        requires front { begins_with (slice_index_or self.old.runs (copy - 1) [])
+            (with_tick self.old.accepted (slice_index_or self.old.runs copy [])) ≡ true }
+        requires world { world.now
+            ≡ world_of G.rules self.old.opening
+            (with_tick self.old.accepted (slice_index_or self.old.runs copy [])) }
+        ensures runs { self.new
+            ≡ record self.old {
+              runs =
+                  settle self.old.accepted (proposed_by_step self.old.accepted self.old.runs copy);
+            } }
+        ensures repaired { 0
+            ≡ repaired self.old.accepted (proposed_by_step self.old.accepted self.old.runs copy) }
     {
         let c = copy as usize;
         let t = self.clocks[c];
@@ -191,7 +226,9 @@ impl<G: Game> CopyStack<G> {
     fn is_front(&self, copy: u8) -> bool
         requires copy { (0 < copy) × (copy < length self.now.runs) }
         requires behind { copy_clock self.now.runs copy < copy_clock self.now.runs (copy - 1) }
-        ensures { result ≡ begins_with (slice_index_or self.now.runs (copy - 1) []) (with_tick self.now.accepted (slice_index_or self.now.runs copy [])) }
+        ensures { result
+            ≡ begins_with (slice_index_or self.now.runs (copy - 1) [])
+            (with_tick self.now.accepted (slice_index_or self.now.runs copy [])) }
     {
         let t = self.clocks[copy as usize];
         let _ = self.run.len();
@@ -199,15 +236,22 @@ impl<G: Game> CopyStack<G> {
         diverges(&self.run, place, &self.list, t).is_none()
     }
 
-    /// Runs the due tick of a copy, which is there, below the match's end and behind the copy ahead, and compares it with the run
-    /// ahead: where that doesn't begin with the new run, the copies ahead are repaired. Answers how many were repaired. Where
-    /// none is, it costs the tick alone.
+    /// Runs the due tick of a copy, which is there, below the match's end and behind the copy
+    /// ahead, and compares it with the run ahead: where that doesn't begin with the new run, the
+    /// copies ahead are repaired. Answers how many were repaired. Where none is, it costs the tick
+    /// alone.
     pub fn run_tick(&mut self, copy: u8) -> u8
         requires there { copy < length self.old.runs }
         requires below { copy_clock self.old.runs copy < self.old.ticks }
-        requires behind { 0 < copy → copy_clock self.old.runs copy < copy_clock self.old.runs (copy - 1) }
-        ensures state { self.new ≡ record self.old { runs = settle self.old.accepted (proposed_by_step self.old.accepted self.old.runs copy) } }
-        ensures repaired { result ≡ repaired self.old.accepted (proposed_by_step self.old.accepted self.old.runs copy) }
+        requires behind { 0 < copy
+            → copy_clock self.old.runs copy < copy_clock self.old.runs (copy - 1) }
+        ensures state { self.new
+            ≡ record self.old {
+              runs =
+                  settle self.old.accepted (proposed_by_step self.old.accepted self.old.runs copy);
+            } }
+        ensures repaired { result
+            ≡ repaired self.old.accepted (proposed_by_step self.old.accepted self.old.runs copy) }
     {
         if copy == 0 {
             self.tick_apart(copy);
@@ -221,14 +265,23 @@ impl<G: Game> CopyStack<G> {
         copy
     }
 
-    /// Does what `run_tick` does, with the copy's world after its due tick given, which isn't executed again.
+    /// Does what `run_tick` does, with the copy's world after its due tick given, which isn't
+    /// executed again.
     pub fn commit_tick(&mut self, copy: u8, world: &G) -> u8
         requires there { copy < length self.old.runs }
         requires below { copy_clock self.old.runs copy < self.old.ticks }
-        requires behind { 0 < copy → copy_clock self.old.runs copy < copy_clock self.old.runs (copy - 1) }
-        requires world { world.now ≡ world_of G.rules self.old.opening (with_tick self.old.accepted (slice_index_or self.old.runs copy [])) }
-        ensures state { self.new ≡ record self.old { runs = settle self.old.accepted (proposed_by_step self.old.accepted self.old.runs copy) } }
-        ensures repaired { result ≡ repaired self.old.accepted (proposed_by_step self.old.accepted self.old.runs copy) }
+        requires behind { 0 < copy
+            → copy_clock self.old.runs copy < copy_clock self.old.runs (copy - 1) }
+        requires world { world.now
+            ≡ world_of G.rules self.old.opening
+            (with_tick self.old.accepted (slice_index_or self.old.runs copy [])) }
+        ensures state { self.new
+            ≡ record self.old {
+              runs =
+                  settle self.old.accepted (proposed_by_step self.old.accepted self.old.runs copy);
+            } }
+        ensures repaired { result
+            ≡ repaired self.old.accepted (proposed_by_step self.old.accepted self.old.runs copy) }
     {
         if copy == 0 {
             self.commit_apart(copy, world);
@@ -242,7 +295,8 @@ impl<G: Game> CopyStack<G> {
         copy
     }
 
-    // The arrival of a command that is late at the copies up to `last`, of which those from `first` on have one clock.
+    // The arrival of a command that is late at the copies up to `last`, of which those from `first`
+    // on have one clock.
     fn arrive_late(&mut self, x: &Command, first: u8, last: u8)
         requires room { 0 < self.old.spare }
         requires within { x.now.time < self.old.ticks }
@@ -250,7 +304,8 @@ impl<G: Game> CopyStack<G> {
         requires due { last_clock self.old.runs ≤ x.now.time }
         requires late { IsLastLate x.now self.old.runs last }
         requires order { first ≤ last }
-        requires level { (i : ℕ) → first ≤ i → i ≤ last → copy_clock self.old.runs i ≡ copy_clock self.old.runs last }
+        requires level { (i : ℕ) → first ≤ i → i ≤ last
+            → copy_clock self.old.runs i ≡ copy_clock self.old.runs last }
         ensures { self.new ≡ record self.old {
           accepted = self.old.accepted ++ x.now ∷ [];
           runs = settle (self.old.accepted ++ x.now ∷ []) (proposed_by_arrival x.now self.old.runs);
@@ -290,9 +345,10 @@ impl<G: Game> CopyStack<G> {
         self.list.insert(x);
     }
 
-    /// Accepts a command of a new name that is due within the match and not before the last copy's clock, where there is room.
-    /// The copies at which it is late execute it at once; those whose clock is above that of the last of these are repaired.
-    /// Answers how many were repaired. Where none is, it costs the command's place alone.
+    /// Accepts a command of a new name that is due within the match and not before the last copy's
+    /// clock, where there is room. The copies at which it is late execute it at once; those whose
+    /// clock is above that of the last of these are repaired. Answers how many were repaired. Where
+    /// none is, it costs the command's place alone.
     pub fn accept(&mut self, x: &Command) -> u8
         requires room { 0 < self.old.spare }
         requires within { x.now.time < self.old.ticks }
@@ -303,7 +359,8 @@ impl<G: Game> CopyStack<G> {
           runs = settle (self.old.accepted ++ x.now ∷ []) (proposed_by_arrival x.now self.old.runs);
           spare = self.old.spare - 1;
         } }
-        ensures repaired { result ≡ repaired (self.old.accepted ++ x.now ∷ []) (proposed_by_arrival x.now self.old.runs) }
+        ensures repaired { result
+            ≡ repaired (self.old.accepted ++ x.now ∷ []) (proposed_by_arrival x.now self.old.runs) }
     {
         let _ = self.run.len();
         let late = count_above(&self.clocks, x.time);
@@ -347,7 +404,8 @@ impl<G: Game> CopyStack<G> {
         self.list.start(t + 1) - self.list.start(t)
     }
 
-    /// The accepted commands that are due at a tick, in key order. They are no more than the list holds.
+    /// The accepted commands that are due at a tick, in key order. They are no more than the list
+    /// holds.
     pub fn due<const N: usize>(&self, t: Tick) -> ArrayVec<Command, N>
         requires { length (due_at self.now.accepted t) ≤ N }
         ensures { result.items ≡ due_at self.now.accepted t }
@@ -367,7 +425,8 @@ impl<G: Game> CopyStack<G> {
     /// The copy's live world, which is the world of its run. The copy is there.
     pub fn world(&self, copy: u8) -> &G
         requires { copy < length self.now.runs }
-        ensures { result.now ≡ world_of G.rules self.now.opening (slice_index_or self.now.runs copy []) }
+        ensures { result.now
+            ≡ world_of G.rules self.now.opening (slice_index_or self.now.runs copy []) }
     {
         let _ = self.run.len();
         &self.worlds[copy as usize]

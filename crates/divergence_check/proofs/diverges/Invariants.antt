@@ -8,7 +8,9 @@ invariant-loop-x l = record {
   walked : IsWalked l.list.all l.t l.start l.next;
   upto : l.at ≤ length l.run.items;
   level : l.at ≡ l.place + (l.next - l.start);
-  so_far : take (l.next - l.start) (drop l.place l.run.items) ≡ take (l.next - l.start) (tick_of l.list.all l.t);
+  so_far :
+      take (l.next - l.start) (drop l.place l.run.items)
+      ≡ take (l.next - l.start) (tick_of l.list.all l.t);
 }
 
 abbrev pub decreases-loop-x : goal.decreases-loop-x

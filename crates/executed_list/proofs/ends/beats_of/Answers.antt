@@ -8,5 +8,8 @@ unfolding beats
 loop-item-init c = (refl, omega arith)
 
 pub loop-item-preserved : goal.loop-item-preserved
-loop-item-preserved c =
-    (beats-more c.args.items.now c.loop-item.item-index _ _ _ c.loop-item-test.true c.loop-item.invariant.0 c.beats_in-n.ensures.count, omega arith)
+loop-item-preserved c = (
+  beats-more c.args.items.now c.loop-item.item-index _ _ _ c.loop-item-test.true
+      c.loop-item.invariant.0 c.beats_in-n.ensures.count,
+  omega arith,
+)

@@ -8,7 +8,9 @@ use Rattle.mirror_core.proofs.plans.greatest.Given as goal
 
 abbrev pub invariant-loop-plan : goal.invariant-loop-plan
 invariant-loop-plan l = record {
-  greatest : max l.greatest (greatest_delay (delays_of_each (drop l.plan-index l.plans))) ≡ greatest_delay (delays_of_each l.plans);
+  greatest :
+      max l.greatest (greatest_delay (delays_of_each (drop l.plan-index l.plans)))
+      ≡ greatest_delay (delays_of_each l.plans);
   short : l.greatest ≤ LONGEST_DELAY;
   schedules : AllByRecursion IsSchedule (take l.plan-index l.plans);
 }

@@ -4,19 +4,36 @@ use Rattle.repair_copy.proofs.Walking.{room-more, appended-none, appended-more, 
 use Rattle.repair_copy.proofs.append.append_commands.Goals as goal
 
 pub loop-x-init : goal.loop-x-init
-loop-x-init c = record { walked = (walk-begun c.args.list.now.all c.args.t c.start-start.result c.start-start.ensures.start).0; run = appended-none c.args.list.now.all c.args.t c.start-start.result c.args.run.now c.start-start.ensures.start c.len.ensures.first }
+loop-x-init c = record {
+  walked =
+      (walk-begun c.args.list.now.all c.args.t c.start-start.result c.start-start.ensures.start).0;
+  run =
+      appended-none c.args.list.now.all c.args.t c.start-start.result c.args.run.now
+      c.start-start.ensures.start c.len.ensures.first;
+}
 
 pub push-requires : goal.push-requires
-push-requires c = room-more c.loop-x.invariant.walked c.args.run.now c.loop-x.run c.in-Some.x c.requires c.loop-x.invariant.run c.in-Some.ensures.due
+push-requires c =
+    room-more c.loop-x.invariant.walked c.args.run.now c.loop-x.run c.in-Some.x c.requires
+    c.loop-x.invariant.run c.in-Some.ensures.due
 
 pub loop-x-smaller : goal.loop-x-smaller
-loop-x-smaller c = (let left = walk-left c.loop-x.invariant.walked c.in-Some.x c.in-Some.ensures.due in let from = c.loop-x.invariant.walked.from in omega arith)
+loop-x-smaller c =
+    (let left = walk-left c.loop-x.invariant.walked c.in-Some.x c.in-Some.ensures.due in
+    let from = c.loop-x.invariant.walked.from in omega arith)
 
 pub loop-x-preserved : goal.loop-x-preserved
 loop-x-preserved c =
     let walked = c.loop-x.invariant.walked in
     let due = c.in-Some.ensures.due in
-    record { walked = (walk-more walked c.in-Some.x due).0; run = appended-more walked c.args.run.now c.loop-x.run c.push.new.self c.in-Some.x c.loop-x.invariant.run due c.push.ensures }
+    record {
+      walked = (walk-more walked c.in-Some.x due).0;
+      run =
+          appended-more walked c.args.run.now c.loop-x.run c.push.new.self c.in-Some.x
+          c.loop-x.invariant.run due c.push.ensures;
+    }
 
 pub returns : goal.returns
-returns c = appended-all c.loop-x.invariant.walked c.args.run.now c.loop-x.run c.loop-x.invariant.run c.in_default.ensures.due
+returns c =
+    appended-all c.loop-x.invariant.walked c.args.run.now c.loop-x.run c.loop-x.invariant.run
+    c.in_default.ensures.due

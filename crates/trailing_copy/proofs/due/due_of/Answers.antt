@@ -8,8 +8,12 @@ loop-x-preserved g c =
     let more = walk-more c.loop-x.invariant.walked c.in-Some.x c.in-Some.ensures.due in
     record {
       walked = more.0;
-      commands = c.push.ensures.items ∙ ap (λ (xs : List Command). xs ++ c.in-Some.x ∷ []) c.loop-x.invariant.commands ∙ sym more.1;
+      commands =
+          c.push.ensures.items
+          ∙ ap (λ (xs : List Command). xs ++ c.in-Some.x ∷ []) c.loop-x.invariant.commands
+          ∙ sym more.1;
     }
 
 pub returns : goal.returns
-returns g c = c.loop-x.invariant.commands ∙ (walk-done c.loop-x.invariant.walked c.in_default.ensures.due).0
+returns g c =
+    c.loop-x.invariant.commands ∙ (walk-done c.loop-x.invariant.walked c.in_default.ensures.due).0

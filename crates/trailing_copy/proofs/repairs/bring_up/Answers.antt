@@ -14,4 +14,5 @@ loop-c-preserved c =
     ∙ filled-at c.args.run.now.ends c.loop-c.c (length c.args.run.now.items) (omega arith)
     ∙ c.requires.at c.loop-c.c (let from = c.loop-c.auto.c in omega arith) (omega arith) in
     c.pass.ensures
-    ∙ brought-more c.args.run.now c.loop-c.run c.loop-c.c (length c.args.run.now.items) 0 _ c.loop-c.invariant (omega arith) (omega arith)
+    ∙ brought-more c.args.run.now c.loop-c.run c.loop-c.c (length c.args.run.now.items) 0 _
+    c.loop-c.invariant (omega arith) (omega arith)

@@ -6,7 +6,9 @@ abbrev pub invariant-loop-c : goal.invariant-loop-c
 invariant-loop-c g l = record {
   upto : l.c ≤ l.last;
   given : Given l.list.all l.clocks l.last l.fn.run l.fn.worlds.items;
-  so_far : SoFar g.G.Game.rules l.list.all l.clocks l.last l.fn.run l.fn.worlds.items l.c l.run l.worlds.items;
+  so_far :
+      SoFar g.G.Game.rules l.list.all l.clocks l.last l.fn.run l.fn.worlds.items l.c l.run
+      l.worlds.items;
   len : vec_len l.worlds ≡ vec_len l.fn.worlds;
 }
 

@@ -4,4 +4,5 @@ use Rattle.mirror_core.proofs.mirror.Mirror.drained.Goals as goal
 pub returns : goal.returns
 returns g c =
     let schedule = c.stagger.ensures.schedule in
-    rw (c.last_clock.ensures, c.length.ensures.length, schedule, ← c.self.view_is) (drained-is c.self.invariant)
+    rw (c.last_clock.ensures, c.length.ensures.length, schedule, ← c.self.view_is)
+    (drained-is c.self.invariant)

@@ -32,7 +32,8 @@ pub invariant_of-self : goal.invariant_of-self
 invariant_of-self g c =
     let at : false ≡ is_at_end c.stagger.result c.self.inside.clock = c.if-at_end.ensures in
     let more = rw (c.stagger.ensures.schedule, ← c.self.view_is) at at in
-    rw (c.push_reserved.ensures.items, c.push_reserved.ensures.capacity) (kept_moved c.self.invariant (sym more))
+    rw (c.push_reserved.ensures.items, c.push_reserved.ensures.capacity)
+    (kept_moved c.self.invariant (sym more))
 
 pub returns-clause-state : goal.returns-clause-state
 returns-clause-state g c =

@@ -5,9 +5,12 @@ use Rattle.trailing_copy.proofs.stack.CopyStack.arrive_early.Goals as goal
 pub invariant_of-self : goal.invariant_of-self
 invariant_of-self g c =
     rw c.insert.ensures
-    (early-kept c.self.invariant c.len.ensures.falls c.len.ensures.first c.args.x.now (rw (← c.self.view_is) at c.requires.room) (rw (← c.self.view_is) at c.requires.due) (rw (← c.self.view_is) at c.requires.early))
+    (early-kept c.self.invariant c.len.ensures.falls c.len.ensures.first c.args.x.now
+    (rw (← c.self.view_is) at c.requires.room) (rw (← c.self.view_is) at c.requires.due)
+    (rw (← c.self.view_is) at c.requires.early))
 
 pub returns : goal.returns
 returns g c =
     rw (← c.self.view_is, c.insert.ensures)
-    (same-state _ _ _ _ _ _ (early-settled c.self.invariant c.len.ensures.falls c.len.ensures.first c.args.x.now (rw (← c.self.view_is) at c.requires.early)))
+    (same-state _ _ _ _ _ _ (early-settled c.self.invariant c.len.ensures.falls c.len.ensures.first
+    c.args.x.now (rw (← c.self.view_is) at c.requires.early)))

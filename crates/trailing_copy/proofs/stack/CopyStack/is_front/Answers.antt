@@ -8,7 +8,8 @@ diverges-requires g c =
     (let there = rw (← c.self.view_is) at c.requires.copy in
     let inside = there.1 in
     let many = run-many c.self.invariant c.len.ensures.falls c.len.ensures.first in
-    rw c.end-place.ensures (end-inside c.self.invariant c.len.ensures.falls c.len.ensures.first c.args.copy (omega arith)))
+    rw c.end-place.ensures
+    (end-inside c.self.invariant c.len.ensures.falls c.len.ensures.first c.args.copy (omega arith)))
 
 pub returns : goal.returns
 returns g c =
@@ -16,4 +17,6 @@ returns g c =
     rw (← c.self.view_is)
     (none-told c.is_none.result c.diverges.result c.is_none.ensures
     ∙ none-stands c.diverges.result _ _ (rw c.end-place.ensures at c.diverges.ensures.none)
-    ∙ test-same c.self.invariant c.len.ensures.falls c.len.ensures.first c.args.copy c.index-t.result.now there.0 there.1 c.index-t.ensures (rw (← c.self.view_is) at c.requires.behind))
+    ∙ test-same c.self.invariant c.len.ensures.falls c.len.ensures.first c.args.copy
+    c.index-t.result.now there.0 there.1 c.index-t.ensures
+    (rw (← c.self.view_is) at c.requires.behind))

@@ -7,16 +7,24 @@ use Rattle.trailing_copy.proofs.stack.CopyStack.tick_front.Goals as goal
 pub pass-requires-clause-upto : goal.pass-requires-clause-upto
 pass-requires-clause-upto g c =
     let there = rw (← c.self.view_is) at c.requires.copy in
-    rw c.execute_tick-by.ensures.count (front-fits c.self.invariant c.len.ensures.falls c.len.ensures.first c.index-t.result.now c.args.copy there.0 there.1 c.index-t.ensures (rw (← c.self.view_is) at c.requires.below) (rw (← c.self.view_is) at c.requires.behind) (rw (← c.self.view_is) at c.requires.front))
+    rw c.execute_tick-by.ensures.count (front-fits c.self.invariant c.len.ensures.falls
+    c.len.ensures.first c.index-t.result.now c.args.copy there.0 there.1 c.index-t.ensures
+    (rw (← c.self.view_is) at c.requires.below) (rw (← c.self.view_is) at c.requires.behind)
+    (rw (← c.self.view_is) at c.requires.front))
 
 pub execute_tick-by-requires : goal.execute_tick-by-requires
 execute_tick-by-requires g c =
     let there = rw (← c.self.view_is) at c.requires.copy in
-    let fits = front-fits c.self.invariant c.len.ensures.falls c.len.ensures.first c.index-t.result.now c.args.copy there.0 there.1 c.index-t.ensures (rw (← c.self.view_is) at c.requires.below) (rw (← c.self.view_is) at c.requires.behind) (rw (← c.self.view_is) at c.requires.front) in
+    let fits =
+    front-fits c.self.invariant c.len.ensures.falls c.len.ensures.first c.index-t.result.now
+    c.args.copy there.0 there.1 c.index-t.ensures (rw (← c.self.view_is) at c.requires.below)
+    (rw (← c.self.view_is) at c.requires.behind) (rw (← c.self.view_is) at c.requires.front) in
     (let some = there.0 in
     let within = there.1 in
     let many = run-many c.self.invariant c.len.ensures.falls c.len.ensures.first in
-    let inside = end-inside c.self.invariant c.len.ensures.falls c.len.ensures.first (c.args.copy - 1) (omega arith) in
+    let inside =
+    end-inside c.self.invariant c.len.ensures.falls c.len.ensures.first (c.args.copy - 1)
+    (omega arith) in
     let len = c.len.ensures.len in
     let small = c.len.type_inv in
     omega arith)
@@ -27,18 +35,29 @@ invariant_of-self g c =
     let many = run-many c.self.invariant c.len.ensures.falls c.len.ensures.first in
     let inside = there.1 in
     rw (c.pass.ensures, c.execute_tick-by.ensures.count)
-    (front-kept c.self.invariant c.len.ensures.falls c.len.ensures.first c.index-t.result.now c.args.copy c.execute_tick-by.new.world there.0 there.1 c.index-t.ensures (rw (← c.self.view_is) at c.requires.below) (rw (← c.self.view_is) at c.requires.behind) (rw (← c.self.view_is) at c.requires.front)
-    (own-world c.self.invariant c.len.ensures.falls c.len.ensures.first c.args.copy c.index-t.result.now c.execute_tick-by.new.world (omega arith) c.index-t.ensures
-    (ticked-world c.self.invariant c.len.ensures.falls c.len.ensures.first c.args.copy c.index-t.result.now c.index_mut.result.now c.execute_tick-by.new.world (omega arith) c.index_mut.ensures.value c.execute_tick-by.ensures.world)))
+    (front-kept c.self.invariant c.len.ensures.falls c.len.ensures.first c.index-t.result.now
+    c.args.copy c.execute_tick-by.new.world there.0 there.1 c.index-t.ensures
+    (rw (← c.self.view_is) at c.requires.below) (rw (← c.self.view_is) at c.requires.behind)
+    (rw (← c.self.view_is) at c.requires.front)
+    (own-world c.self.invariant c.len.ensures.falls c.len.ensures.first c.args.copy
+    c.index-t.result.now c.execute_tick-by.new.world (omega arith) c.index-t.ensures
+    (ticked-world c.self.invariant c.len.ensures.falls c.len.ensures.first c.args.copy
+    c.index-t.result.now c.index_mut.result.now c.execute_tick-by.new.world (omega arith)
+    c.index_mut.ensures.value c.execute_tick-by.ensures.world)))
 
 pub returns-clause-runs : goal.returns-clause-runs
 returns-clause-runs g c =
     let there = rw (← c.self.view_is) at c.requires.copy in
     rw (← c.self.view_is, c.pass.ensures, c.execute_tick-by.ensures.count)
-    (same-state _ _ _ _ _ _ (front-runs c.self.invariant c.len.ensures.falls c.len.ensures.first c.index-t.result.now c.args.copy there.0 there.1 c.index-t.ensures (rw (← c.self.view_is) at c.requires.below) (rw (← c.self.view_is) at c.requires.behind) (rw (← c.self.view_is) at c.requires.front)).0)
+    (same-state _ _ _ _ _ _ (front-runs c.self.invariant c.len.ensures.falls c.len.ensures.first
+    c.index-t.result.now c.args.copy there.0 there.1 c.index-t.ensures
+    (rw (← c.self.view_is) at c.requires.below) (rw (← c.self.view_is) at c.requires.behind)
+    (rw (← c.self.view_is) at c.requires.front)).0)
 
 pub returns-clause-repaired : goal.returns-clause-repaired
 returns-clause-repaired g c =
     let there = rw (← c.self.view_is) at c.requires.copy in
     rw (← c.self.view_is)
-    (front-runs c.self.invariant c.len.ensures.falls c.len.ensures.first c.index-t.result.now c.args.copy there.0 there.1 c.index-t.ensures (rw (← c.self.view_is) at c.requires.below) (rw (← c.self.view_is) at c.requires.behind) (rw (← c.self.view_is) at c.requires.front)).1
+    (front-runs c.self.invariant c.len.ensures.falls c.len.ensures.first c.index-t.result.now
+    c.args.copy there.0 there.1 c.index-t.ensures (rw (← c.self.view_is) at c.requires.below)
+    (rw (← c.self.view_is) at c.requires.behind) (rw (← c.self.view_is) at c.requires.front)).1
