@@ -11,9 +11,10 @@ use Rattle.copy_workers.specs.Asking.{arrival}
 use Rattle.copy_workers.specs.Feed.{Task, Hearing, Feed, missed, with_mark, with_command, heard, fed}
 use Rattle.copy_workers.specs.Feeding.{Hears, IsFed}
 use Rattle.copy_workers.specs.Refining.{Came, Outcome, HearsOnce, IsHeardAs, AllHeard, AllKept, HeardTo}
-use Rattle.copy_workers.proofs.Lists.{all-append, all-at}
+use Rattle.copy_workers.proofs.Lists.{all-at}
 use Rattle.copy_workers.proofs.Along.{all-get}
 use Rattle.copy_workers.proofs.Machine.{fed-missed, fed-mark, fed-command, fed-dropped}
+use Rattle.game_trait.proofs.Lists.{all-append}
 
 -- the link at a place, among those heard
 pub heard-at :

@@ -1,5 +1,5 @@
 -- Issuing a tick: the commands that are due, what is asked, what is sent.
-use Rattle.std.proofs.Common.{◌≡◌, ◌≢◌, ℕ, zero, suc, ◌+◌, ◌<◌, ◌≤◌, Bool, true, false, cond, List, [], ◌∷◌, ◌++◌, map, filter, length, take, drop, get_or, refl, ap, sym, ◌∙◌, subst, append_assoc, arith, length-append, append-nil}
+use Rattle.std.proofs.Common.{◌≡◌, ◌≢◌, ℕ, zero, suc, ◌+◌, ◌<◌, ◌≤◌, true, false, List, [], ◌∷◌, ◌++◌, map, filter, length, take, drop, get_or, refl, ap, sym, ◌∙◌, subst, append_assoc, arith, length-append, append-nil}
 use Rattle.std.specs.Prelude.{◌==◌}
 use Rattle.std.proofs.lemmas.Bool.Decides.{nat_tests}
 use Rattle.std.proofs.Math.Seq.{drop-cons}
@@ -13,20 +13,20 @@ use Rattle.game_trait.proofs.KeyOrder.{all-weaker, before-time, KeysRise-filter,
 use Rattle.link_ring.specs.declared.send.LinkSend.{LinkSend}
 use Rattle.link_ring.specs.declared.message.Message.{Message}
 use Rattle.link_ring.specs.declared.message.Message.TheVariants.{Cmd}
-use Rattle.link_ring.specs.Ends.{sent_of, SameSend}
+use Rattle.link_ring.specs.Ends.{sent_of}
 use Rattle.copy_workers.specs.declared.post.Asked.{Asked}
 use Rattle.copy_workers.specs.Asking.{is_moved, arrival, AreArrivals, HasArrival, HasArrivals}
 use Rattle.copy_workers.specs.Sending.{HasRoom, IsSent, IsFrom, Issuing}
-use Rattle.copy_workers.proofs.Lists.{all-append}
+use Rattle.game_trait.proofs.Lists.{all-append, all-second}
+use Rattle.std.proofs.lemmas.List.{take-append-drop}
+use Rattle.std.proofs.lemmas.List.Elements.{filter-append}
+use Rattle.link_ring.proofs.Later.{same_send-trans}
+use Rattle.game_trait.proofs.Due.{none-due}
 
 -- nothing is sent
 pub sent-none : (xs : List LinkSend) → AllZip (IsSent []) xs xs
 sent-none [] = tt
 sent-none (x ∷ xs) = (record { sent = sym (append-nil (sent_of x)); room = refl; same = ((refl, refl, refl, refl), refl) }, sent-none xs)
-
--- the same end, twice
-same_send-trans : (a b c : LinkSend) → SameSend a b → SameSend b c → SameSend a c
-same_send-trans a b c h k = ((k.0.0 ∙ h.0.0, k.0.1 ∙ h.0.1, k.0.2 ∙ h.0.2, k.0.3 ∙ h.0.3), k.1 ∙ h.1)
 
 -- what is sent after what was sent
 pub sent-both : (more rest : List Message) (xs ys zs : List LinkSend) → AllZip (IsSent more) xs ys → AllZip (IsSent rest) ys zs → AllZip (IsSent (more ++ rest)) xs zs
@@ -126,15 +126,6 @@ all-behind t (x ∷ rest) rises low stops =
     let late : t < x.time = (let a = low.0 in let b : x.time ≢ t = stops x rest refl in omega arith) in
     (omega arith, all-weaker (λ y. t < y.time) (λ y. t + 1 ≤ y.time) rest (λ y h. omega arith) (rising-behind t x rest rises.0 late))
 
--- none is due
-filter-none : (t : ℕ) (xs : List Command) → AllByRecursion (λ x. x.time ≢ t) xs → filter (λ x. x.time == t) xs ≡ []
-filter-none t [] h = refl
-filter-none t (x ∷ xs) h =
-    let other : (x.time == t) ≡ false = not_same x.time t h.0 in rw other (filter-none t xs h.1)
-  where
-    not_same : (a b : ℕ) → a ≢ b → (a == b) ≡ false
-    not_same a b h = grind (arith, nat_tests)
-
 -- all are due
 filter-all : (t : ℕ) (xs : List Command) → AllByRecursion (λ x. x.time ≡ t) xs → filter (λ x. x.time == t) xs ≡ xs
 filter-all t [] h = refl
@@ -144,19 +135,6 @@ filter-all t (x ∷ xs) h =
     is_same : (a b : ℕ) → a ≡ b → (a == b) ≡ true
     is_same a b h = grind (arith, nat_tests)
 
--- what is due of two lists
-filter-append : {X : Type 0} (p : X → Bool) (xs ys : List X) → filter p (xs ++ ys) ≡ filter p xs ++ filter p ys
-filter-append p [] ys = refl
-filter-append {X} p (x ∷ xs) ys =
-    elim (p x) as (λ v. cond v (x ∷ filter p (xs ++ ys)) (filter p (xs ++ ys)) ≡ cond v (x ∷ filter p xs) (filter p xs) ++ filter p ys)
-    [ true ↦ ap (λ (l : List X). x ∷ l) (filter-append p xs ys) | false ↦ filter-append p xs ys ]
-
--- a list up to a place, and from there on
-take_drop : {X : Type 0} (n : ℕ) (xs : List X) → xs ≡ take n xs ++ drop n xs
-take_drop zero xs = refl
-take_drop (suc n) [] = refl
-take_drop {X} (suc n) (x ∷ xs) = ap (λ (l : List X). x ∷ l) (take_drop n xs)
-
 -- the commands of a tick are those between what is due before and what is due behind
 pub due-between :
     (plan : List Command) (issued t : ℕ) (some rest : List Command) → KeysRise plan → AllByRecursion (λ x. x.time < t) (take issued plan)
@@ -164,11 +142,11 @@ pub due-between :
 due-between plan issued t some rest rises front parts due behind =
     let p = λ (x : Command). x.time == t in
     in_key_order-rising (filter p plan) (KeysRise-filter p plan rises)
-    ∙ ap (filter p) (take_drop issued plan ∙ ap (λ (l : List Command). take issued plan ++ l) parts)
+    ∙ ap (filter p) (sym (take-append-drop issued plan) ∙ ap (λ (l : List Command). take issued plan ++ l) parts)
     ∙ filter-append p (take issued plan) (some ++ rest)
-    ∙ ap (λ (l : List Command). l ++ filter p (some ++ rest)) (filter-none t (take issued plan) (all-weaker (λ x. x.time < t) (λ x. x.time ≢ t) (take issued plan) (λ x h. omega arith) front))
+    ∙ ap (λ (l : List Command). l ++ filter p (some ++ rest)) (none-due t (take issued plan) (all-weaker (λ x. x.time < t) (λ x. x.time ≢ t) (take issued plan) (λ x h. omega arith) front))
     ∙ filter-append p some rest
-    ∙ ap (λ (l : List Command). filter p some ++ l) (filter-none t rest (all-weaker (λ x. t + 1 ≤ x.time) (λ x. x.time ≢ t) rest (λ x h. omega arith) behind))
+    ∙ ap (λ (l : List Command). filter p some ++ l) (none-due t rest (all-weaker (λ x. t + 1 ≤ x.time) (λ x. x.time ≢ t) rest (λ x h. omega arith) behind))
     ∙ append-nil (filter p some)
     ∙ filter-all t some due
 
@@ -185,11 +163,6 @@ all-drop P zero xs h = h
 all-drop P (suc n) [] h = tt
 all-drop P (suc n) (x ∷ xs) h = all-drop P n xs h.1
 
--- what holds of all holds at the end
-all-suffix : {X : Type 0} (P : X → Type 0) (xs ys : List X) → AllByRecursion P (xs ++ ys) → AllByRecursion P ys
-all-suffix P [] ys h = h
-all-suffix P (x ∷ xs) ys h = all-suffix P xs ys h.1
-
 -- the loop has come to a command that isn't due, or to the end
 pub issuing-stops :
     (plan : List Command) (issued t next : ℕ) (asked asked_now : List Asked) (sends sends_now : List LinkSend) (d : Command) → KeysRise plan → IsFrom plan issued t
@@ -197,7 +170,7 @@ pub issuing-stops :
     → AllByRecursion (λ x. t + 1 ≤ x.time) (drop next plan)
 issuing-stops plan issued t next asked asked_now sends sends_now d rises from stops h =
     all-behind t (drop next plan) (rising-drop next plan rises)
-    (all-suffix (λ x. t ≤ x.time) h.some (drop next plan) (subst (AllByRecursion (λ x. t ≤ x.time)) h.parts from.behind))
+    (all-second (λ x. t ≤ x.time) h.some (drop next plan) (subst (AllByRecursion (λ x. t ≤ x.time)) h.parts from.behind))
     (λ x more is. first next plan x more is stops)
   where
     first : (n : ℕ) (xs : List Command) (x : Command) (more : List Command) → drop n xs ≡ x ∷ more → (n < length xs → (get_or xs n d).time ≢ t) → x.time ≢ t

@@ -15,10 +15,11 @@ use Rattle.copy_workers.specs.Messages.{tick_messages, messages, commands_in, la
 use Rattle.copy_workers.specs.Asking.{IsFeeding, is_moved, is_tick, is_arrival_of, arrival, moves, ticks_in, arrivals_of, ArrivesAt, ArrivesBy, AreArrivals}
 use Rattle.copy_workers.specs.Feed.{Task, Hearing, Feed, total, issued, missed, with_mark, with_command, heard, fed}
 use Rattle.copy_workers.specs.Feeding.{Turns, Hears, IsFair, InTime, IsBound, Keeps, IsFed}
-use Rattle.copy_workers.proofs.Lists.{all-append, all-at, all-changed, total-at, joined-more}
+use Rattle.copy_workers.proofs.Lists.{all-at, all-changed, total-at, joined-more}
 use Rattle.copy_workers.proofs.MessageLists.{messages-more, commands_in-tick, commands_in-mark, commands_in-command, orderly-mark, orderly-command}
 use Rattle.copy_workers.proofs.Arrivals.{moves-append, ticks-append, arrivals-append, one, at-later, in_time-later, in_time-mark, in_time-command, arrivals-moves, arrivals-ticks, arrivals-count, arrivals-feeding, arrivals-each}
 use Rattle.copy_workers.proofs.Links.{hears-missed, hears-mark, hears-command, heard_commands, commands-mark, commands-command, fair-missed, fair-mark, fair-command}
+use Rattle.game_trait.proofs.Lists.{all-append}
 
 -- a tick is issued
 pub fed-issued :

@@ -6,7 +6,7 @@ use Rattle.std.specs.List.{AllByRecursion}
 use Rattle.game_trait.specs.declared.command.Command.{Command}
 use Rattle.game_trait.specs.Ordered.{due_at}
 use Rattle.game_trait.specs.Count.{times}
-use Rattle.game_trait.proofs.Counts.{times-append, times-in_key_order, times-filter}
+use Rattle.game_trait.proofs.Counts.{times-append, times-in_key_order, times-filter, times-apart, times-all, times-most}
 use Rattle.link_ring.specs.declared.receive.LinkReceive.{LinkReceive}
 use Rattle.link_ring.specs.declared.send.LinkSend.{LinkSend}
 use Rattle.link_ring.specs.Ends.{sent_of, received_of}
@@ -53,12 +53,6 @@ orderly-messages length plan (suc n) most =
 pub orderly-received : (length : ℕ) (plan : List Command) (n : ℕ) (got rest : List Message) → n ≤ length → messages plan n ≡ got ++ rest → IsOrderly length got
 orderly-received length plan n got rest most parts = orderly-front length 0 got rest (subst (IsOrderly length) parts (orderly-messages length plan n most))
 
--- how often commands were issued
-times-apart : {X : Type 0} (p q r : X → Bool) (xs : List X) → ((x : X) → cond {A = ℕ} (r x) 1 0 ≡ cond {A = ℕ} (p x) 1 0 + cond {A = ℕ} (q x) 1 0) → times r xs ≡ times p xs + times q xs
-unfolding times
-times-apart p q r [] apart = omega arith
-times-apart p q r (x ∷ xs) apart = omega (arith, apart x, times-apart p q r xs apart)
-
 -- below the next tick, or at this one
 split-below : (p : Command → Bool) (n : ℕ) (x : Command) →
     cond {A = ℕ} (p x && nat_lt x.time (suc n)) 1 0 ≡ cond {A = ℕ} (p x && nat_lt x.time n) 1 0 + cond {A = ℕ} (p x && (x.time == n)) 1 0
@@ -86,18 +80,6 @@ pub times-received : (p : Command → Bool) (plan : List Command) (n : ℕ) (got
     → times p (commands_in got) + times p (commands_in rest) ≡ times (λ x. p x && nat_lt x.time n) plan
 times-received p plan n got rest parts =
     sym (times-append p (commands_in got) (commands_in rest)) ∙ ap (times p) (sym (commands_in-append got rest)) ∙ ap (λ (l : List Message). times p (commands_in l)) (sym parts) ∙ times-messages p plan n
-
--- all are counted
-times-all : {X : Type 0} (xs : List X) → times (λ x. true) xs ≡ length xs
-unfolding times
-times-all [] = refl
-times-all (x ∷ xs) = omega (arith, times-all xs)
-
--- no more than all are counted
-times-most : {X : Type 0} (p : X → Bool) (xs : List X) → times p xs ≤ length xs
-unfolding times
-times-most p [] = omega arith
-times-most p (x ∷ xs) = elim (p x) as (λ v. cond v 1 0 + times p xs ≤ suc (length xs)) [ true ↦ omega (arith, times-most p xs) | false ↦ omega (arith, times-most p xs) ]
 
 -- no more is received than the plan has
 pub few-received : (plan : List Command) (n : ℕ) (got rest : List Message) → messages plan n ≡ got ++ rest → length (commands_in got) ≤ length plan

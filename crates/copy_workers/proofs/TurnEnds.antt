@@ -1,5 +1,5 @@
 -- The start of a feeder, and the ends of its turns.
-use Rattle.std.proofs.Common.{◌≡◌, ℕ, ◌+◌, ◌<◌, ◌≤◌, ◌⊎◌, min, Bool, true, false, cond, List, [], ◌∷◌, ◌++◌, length, refl, ap, sym, ◌∙◌, subst, inl, inr, arith, length-append}
+use Rattle.std.proofs.Common.{◌≡◌, ℕ, ◌+◌, ◌<◌, ◌≤◌, ◌⊎◌, min, true, false, cond, List, [], ◌∷◌, ◌++◌, length, refl, ap, sym, ◌∙◌, subst, inl, inr, arith, length-append}
 use Rattle.std.specs.List.{AllByRecursion}
 use Rattle.game_trait.specs.declared.command.Command.{Command}
 use Rattle.game_trait.specs.declared.event.Reply.{Reply}
@@ -12,15 +12,12 @@ use Rattle.copy_workers.specs.Messages.{messages, commands_in, last_mark, mark_a
 use Rattle.copy_workers.specs.Asking.{IsFeeding, is_moved, is_tick, is_arrival_of, ticking, moves, ticks_in, arrivals_of, ArrivesAt}
 use Rattle.copy_workers.specs.Feed.{Task, Hearing, Feed, last_clock, least_mark, IsHeld, total, ticked, rested, at_start}
 use Rattle.copy_workers.specs.Feeding.{Hears, InTime, IsBound, IsFed, IsBetween, GoesOn, joined}
-use Rattle.copy_workers.proofs.Lists.{all-append, joined-end, joined-rest, push-last}
+use Rattle.copy_workers.proofs.Lists.{joined-end, joined-rest, push-last}
 use Rattle.copy_workers.proofs.MessageLists.{orderly-most}
 use Rattle.copy_workers.proofs.Arrivals.{moves-append, ticks-append, arrivals-append, one, at-later, in_time-later}
 use Rattle.copy_workers.proofs.Links.{least-all, least-tries}
-
--- nothing is counted of no list
-nothing : {X : Type 0} (p : X → Bool) → times p [] ≡ 0
-unfolding times
-nothing p = refl
+use Rattle.game_trait.proofs.Lists.{all-append, all-both}
+use Rattle.game_trait.proofs.Counts.{times-nothing}
 
 -- with no link the least mark is the length
 least-none : (length : ℕ) → least_mark length [] ≡ length
@@ -40,7 +37,7 @@ nothing_in_time pace = tt
 -- one more turn that began below the last clock
 goes_on-push : (last clock : ℕ) (turns : List (List Asked)) (turn : List Asked) → GoesOn last clock turns → clock + moves (joined turns) < last → GoesOn last clock (turns ++ turn ∷ [])
 unfolding GoesOn joined
-goes_on-push last clock [] turn h below = ((let e : moves [] ≡ 0 = nothing (λ p. is_moved p.reply) in omega arith), tt)
+goes_on-push last clock [] turn h below = ((let e : moves [] ≡ 0 = times-nothing (λ p. is_moved p.reply) in omega arith), tt)
 goes_on-push last clock (t ∷ turns) turn h below =
     (h.0, goes_on-push last (clock + moves t) turns turn h.1 (omega (arith, moves-append t (joined turns))))
 
@@ -58,11 +55,6 @@ bound-tick job clock more least h one (inr e) k = inr (let a = k.0 in let b = k.
 -- no mark is above the length
 kept-most : (job : Task) (h : Hearing) → Hears h → IsOrderly job.length h.got → h.kept ≤ job.length
 kept-most job h hears orderly = (let a = hears.kept in let b = orderly-most job.length 0 h.got (omega arith) orderly in omega arith)
-
--- what follows of two facts
-all-both : {X : Type 0} (P Q R : X → Type 0) (xs : List X) → ((x : X) → P x → Q x → R x) → AllByRecursion P xs → AllByRecursion Q xs → AllByRecursion R xs
-all-both P Q R [] step h k = tt
-all-both P Q R (x ∷ xs) step h k = (step x h.0 k.0, all-both P Q R xs step h.1 k.1)
 
 -- a turn ends with a tick
 pub fed-ticked :
@@ -92,9 +84,9 @@ fed-ticked job s reply below free marked f =
           pieces = joined-end s.turns s.here more s.asked turns.pieces;
           feeding = all-append (λ p. IsFeeding p.event) s.asked more turns.feeding (tt, tt);
           single = all-append (λ turn. ticks_in turn ≤ 1) s.turns ((s.here ++ more) ∷ []) turns.single ((let a = ticks-append s.here more in let b = turns.none_here in omega arith), tt);
-          none_here = nothing (λ p. is_tick p.event);
+          none_here = times-nothing (λ p. is_tick p.event);
           clock = omega (arith, moves-append s.asked more, turns.clock);
-          unmoved = nothing (λ p. is_moved p.reply);
+          unmoved = times-nothing (λ p. is_moved p.reply);
           moved = omega (arith, ticks-append s.asked more, turns.moved);
           within = omega (arith, turns.within);
           going = goes_on-push (last_clock job) 0 s.turns (s.here ++ more) turns.going (let a = ap (λ (l : List Asked). moves l) turns.pieces in let b = moves-append (joined s.turns) s.here in let c = turns.unmoved in let d = turns.clock in omega arith);
@@ -132,9 +124,9 @@ fed-rested job s below held tries f =
           pieces = joined-rest s.turns s.here s.asked turns.pieces;
           feeding = turns.feeding;
           single = all-append (λ turn. ticks_in turn ≤ 1) s.turns (s.here ∷ []) turns.single ((let b = turns.none_here in omega arith), tt);
-          none_here = nothing (λ p. is_tick p.event);
+          none_here = times-nothing (λ p. is_tick p.event);
           clock = turns.clock;
-          unmoved = nothing (λ p. is_moved p.reply);
+          unmoved = times-nothing (λ p. is_moved p.reply);
           moved = turns.moved;
           within = turns.within;
           going = goes_on-push (last_clock job) 0 s.turns s.here turns.going (let a = ap (λ (l : List Asked). moves l) turns.pieces in let b = moves-append (joined s.turns) s.here in let c = turns.unmoved in let d = turns.clock in omega arith);

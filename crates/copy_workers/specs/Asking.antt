@@ -75,7 +75,8 @@ unfoldable pub AreArrivals : List Command → List Asked → Type 0
 AreArrivals [] [] = Unit {0}
 AreArrivals [] (p ∷ ps) = ⊥
 AreArrivals (x ∷ xs) [] = ⊥
-AreArrivals (x ∷ xs) (p ∷ ps) = (p ≡ arrival x p.reply) × (is_moved p.reply ≡ false) × AreArrivals xs ps
+AreArrivals (x ∷ xs) (p ∷ ps) =
+    (p ≡ arrival x p.reply) × (is_moved p.reply ≡ false) × AreArrivals xs ps
 
 -- an event is a tick, or the arrival of a command that is due within the match
 abbrev pub IsFeedingBelow : ℕ → Event → Type 0

@@ -13,8 +13,8 @@ use Rattle.copy_workers.specs.declared.post.TrailMark.{TrailMark}
 use Rattle.copy_workers.specs.declared.post.TrailMark.TheVariants.{Asked as AskedMark, Drawn as DrawnMark, Idle as IdleMark, Wide as WideMark, Ran as RanMark, Stale as StaleMark}
 use Rattle.copy_workers.specs.Asking.{pair_of}
 
--- what became of a turn: no tick was due; too many commands were, and the step that was asked was answered so; the drawn tick
--- became the copy's, with so many copies repaired; or it was stale
+-- what became of a turn: no tick was due; too many commands were, and the step that was asked was
+-- answered so; the drawn tick became the copy's, with so many copies repaired; or it was stale
 pub data CopyTurn : Type 0 where
   idle : CopyTurn
   wide : Stepped → CopyTurn
@@ -48,7 +48,8 @@ abbrev pub runs_in : List Asked → ℕ
 runs_in asked = times (λ p. is_ran p.reply) asked
 
 -- one turn of copy c, in which it ran so many ticks
-pub record IsTurn (c count : ℕ) (asked asked_now : List Asked) (trail trail_now : List TrailMark) : Type 0 where
+pub record IsTurn (c count : ℕ) (asked asked_now : List Asked)
+    (trail trail_now : List TrailMark) : Type 0 where
   pub turn : CopyTurn
   pub asks : asked_now ≡ asked ++ asked_of c turn
   pub marks : trail_now ≡ trail ++ marks_of c turn
@@ -57,10 +58,12 @@ pub record IsTurn (c count : ℕ) (asked asked_now : List Asked) (trail trail_no
 -- before each turn the copy had run fewer ticks than the match has
 unfoldable pub RunsOn : ℕ → ℕ → ℕ → List CopyTurn → Type 0
 RunsOn c length count [] = Unit {0}
-RunsOn c length count (turn ∷ rest) = (count < length) × RunsOn c length (count + runs_in (asked_of c turn)) rest
+RunsOn c length count (turn ∷ rest) =
+    (count < length) × RunsOn c length (count + runs_in (asked_of c turn)) rest
 
 -- what the worker did so far
-pub record Works (job : CopyJob) (end : CopyEnd) (asked asked_now : List Asked) (trail trail_now : List TrailMark) : Type 0 where
+pub record Works (job : CopyJob) (end : CopyEnd) (asked asked_now : List Asked)
+    (trail trail_now : List TrailMark) : Type 0 where
   -- what became of each turn
   pub turns : List CopyTurn
   pub count : end.turns ≡ length turns
@@ -74,7 +77,9 @@ pub record Works (job : CopyJob) (end : CopyEnd) (asked asked_now : List Asked) 
   pub within : end.turns ≤ job.budget
   pub most : end.ran ≤ job.length
 
--- what the worker of a copy does: it ends exactly where the copy has run all ticks or the budget is spent
-pub record CopyEnds (job : CopyJob) (end : CopyEnd) (asked asked_now : List Asked) (trail trail_now : List TrailMark) : Type 0 where
+-- what the worker of a copy does: it ends exactly where the copy has run all ticks or the budget is
+-- spent
+pub record CopyEnds (job : CopyJob) (end : CopyEnd) (asked asked_now : List Asked)
+    (trail trail_now : List TrailMark) : Type 0 where
   pub works : Works job end asked asked_now trail trail_now
   pub ends : (end.ran ≡ job.length) ⊎ (end.turns ≡ job.budget)

@@ -20,9 +20,11 @@ use Rattle.copy_workers.specs.Sending.{IsSent}
 
 -- each command received arrives at a clock that the mark before it allows
 abbrev pub ArriveInTime : List Asked → ℕ → List Message → Type 0
-ArriveInTime asked pace got = (front back : List Message) (x : Command) → got ≡ front ++ Cmd x ∷ back → ArrivesBy asked x (last_mark front + pace)
+ArriveInTime asked pace got = (front back : List Message) (x : Command)
+    → got ≡ front ++ Cmd x ∷ back → ArrivesBy asked x (last_mark front + pace)
 
--- one link's end, as it was handed in and as it is given back, with what was received meanwhile in so many turns
+-- one link's end, as it was handed in and as it is given back, with what was received meanwhile in
+-- so many turns
 pub record Receives (turns : ℕ) (first now : LinkReceive) (got : List Message) : Type 0 where
   pub same : SameReceive first now
   pub received : received_of now ≡ received_of first ++ got
@@ -33,7 +35,8 @@ pub record Receives (turns : ℕ) (first now : LinkReceive) (got : List Message)
 -- each link's end, with what it received
 unfoldable pub AllReceive : ℕ → List LinkReceive → List LinkReceive → List (List Message) → Type 0
 AllReceive turns [] [] [] = Unit {0}
-AllReceive turns (a ∷ xs) (b ∷ ys) (got ∷ gots) = Receives turns a b got × AllReceive turns xs ys gots
+AllReceive turns (a ∷ xs) (b ∷ ys) (got ∷ gots) =
+    Receives turns a b got × AllReceive turns xs ys gots
 AllReceive turns xs ys gots = ⊥
 
 -- how often nothing came, over all links
@@ -47,18 +50,25 @@ unfoldable pub least_last : ℕ → List (List Message) → ℕ
 least_last length [] = length
 least_last length (got ∷ gots) = min (last_mark got) (least_last length gots)
 
--- what is promised of a feeder besides, where what each link received is orderly and has few commands
-pub record FairlyFed (job : FeederJob) (end : FeederEnd) (asked : List Asked) (gots : List (List Message)) : Type 0 where
+-- what is promised of a feeder besides, where what each link received is orderly and has few
+-- commands
+pub record FairlyFed (job : FeederJob) (end : FeederEnd) (asked : List Asked)
+    (gots : List (List Message)) : Type 0 where
   -- each command that was received arrives in time
   pub in_time : AllByRecursion (ArriveInTime asked job.pace) gots
   -- each command arrives as often as it was issued and received
   pub counts :
       (x : Command) → arrivals_of x asked
-      ≡ times (same_command x) (commands_in (messages job.plan.items end.marked)) + total (λ got. times (same_command x) (commands_in got)) gots
+      ≡ times (same_command x) (commands_in (messages job.plan.items end.marked))
+      + total (λ got. times (same_command x) (commands_in got)) gots
   -- each link holds the clock: to the pace past its last mark, unless that is the length
-  pub bounds : AllByRecursion (λ got. (end.clock ≤ last_mark got + job.pace) ⊎ (last_mark got ≡ job.stagger.length)) gots
+  pub bounds : AllByRecursion
+      (λ got. (end.clock ≤ last_mark got + job.pace) ⊎ (last_mark got ≡ job.stagger.length)) gots
   -- each turn has a tick, a command that came, or a link on which nothing came
-  pub few : end.turns ≤ ticks_in asked + (total (λ got. length (commands_in got)) gots + misses_between job.receives.items end.receives.items)
+  pub few : end.turns
+      ≤ ticks_in asked
+      + (total (λ got. length (commands_in got)) gots
+      + misses_between job.receives.items end.receives.items)
 
 -- what a feeder does: the job, what it gives back, what was asked before the call and after it
 pub record FeederEnds (job : FeederJob) (end : FeederEnd) (before after : List Asked) : Type 0 where
@@ -67,7 +77,8 @@ pub record FeederEnds (job : FeederJob) (end : FeederEnd) (before after : List A
   pub turns : List (List Asked)
   pub gots : List (List Message)
   pub asks : after ≡ before ++ asked
-  -- the plan and the links come back; each link was asked once a turn, and gave what it was known to hold
+  -- the plan and the links come back; each link was asked once a turn, and gave what it was known
+  -- to hold
   pub plan : end.plan.items ≡ job.plan.items
   pub receives : AllReceive end.turns job.receives.items end.receives.items gots
   -- every link was sent the same: the plan up to the mark, which is the clock or the tick after it
@@ -76,7 +87,8 @@ pub record FeederEnds (job : FeederJob) (end : FeederEnd) (before after : List A
   pub least : min job.stagger.length end.clock ≤ end.marked
   pub most : end.marked ≤ min job.stagger.length (end.clock + 1)
   -- each command that was issued arrives at its time
-  pub arrive : AllByRecursion (λ x. ArrivesAt asked x x.time) (commands_in (messages job.plan.items end.marked))
+  pub arrive : AllByRecursion (λ x. ArrivesAt asked x x.time)
+      (commands_in (messages job.plan.items end.marked))
   -- all else that is asked is a tick, at most one a turn, and the clock is how often it went on
   pub pieces : asked ≡ joined turns
   pub count : end.turns ≡ length turns
@@ -87,11 +99,14 @@ pub record FeederEnds (job : FeederJob) (end : FeederEnd) (before after : List A
   pub alone : job.receives.items ≡ [] → ticks_in asked ≡ end.turns
   -- where the last turn had none, and the clock isn't at its end, the marks hold the clock
   pub held :
-      (front : List (List Asked)) (turn : List Asked) → turns ≡ front ++ turn ∷ [] → ticks_in turn ≡ 0 → end.clock < clock_end job.stagger
-      → (least_last job.stagger.length gots + job.pace < end.clock + 1) × (least_last job.stagger.length gots < job.stagger.length)
+      (front : List (List Asked)) (turn : List Asked) → turns ≡ front ++ turn ∷ []
+      → ticks_in turn ≡ 0 → end.clock < clock_end job.stagger
+      → (least_last job.stagger.length gots + job.pace < end.clock + 1)
+      × (least_last job.stagger.length gots < job.stagger.length)
   -- it ends exactly where the clock is at its end or the budget is spent
   pub within : end.turns ≤ job.budget
   pub going : GoesOn (clock_end job.stagger) 0 turns
   pub ends : (end.clock ≡ clock_end job.stagger) ⊎ (end.turns ≡ job.budget)
   -- and the rest, where the other mirrors are fair
-  pub fair : AllByRecursion (IsOrderly job.stagger.length) gots → total (λ got. length (commands_in got)) gots ≤ job.foreign → FairlyFed job end asked gots
+  pub fair : AllByRecursion (IsOrderly job.stagger.length) gots
+      → total (λ got. length (commands_in got)) gots ≤ job.foreign → FairlyFed job end asked gots

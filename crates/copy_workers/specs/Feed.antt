@@ -55,7 +55,9 @@ least_mark length (h ∷ rest) = min h.kept (least_mark length rest)
 
 -- the marks hold the clock where it is
 abbrev pub IsHeld : Task → Feed → Type 0
-IsHeld job s = (least_mark job.length s.hearings + job.pace < s.clock + 1) × (least_mark job.length s.hearings < job.length)
+IsHeld job s =
+    (least_mark job.length s.hearings + job.pace < s.clock + 1)
+    × (least_mark job.length s.hearings < job.length)
 
 -- the sum over links
 unfoldable pub total : {X : Type 0} → (X → ℕ) → List X → ℕ
@@ -65,7 +67,12 @@ total f (x ∷ xs) = f x + total f xs
 -- a tick is issued
 abbrev pub issued : Task → List Asked → Feed → Feed
 issued job pairs s =
-    record s { marked = s.marked + 1; sent = s.sent ++ tick_messages job.plan s.clock; asked = s.asked ++ pairs; here = s.here ++ pairs }
+    record s {
+      marked = s.marked + 1;
+      sent = s.sent ++ tick_messages job.plan s.clock;
+      asked = s.asked ++ pairs;
+      here = s.here ++ pairs;
+    }
 
 -- nothing came on a link
 abbrev pub missed : Hearing → ℕ → Hearing
@@ -73,7 +80,8 @@ missed h known = record h { risen = h.risen + 1; tries = h.tries + 1; known = kn
 
 -- a mark came
 abbrev pub with_mark : Hearing → ℕ → ℕ → Hearing
-with_mark h n known = record h { kept = n; got = h.got ++ Mark n ∷ []; tries = h.tries + 1; known = known }
+with_mark h n known =
+    record h { kept = n; got = h.got ++ Mark n ∷ []; tries = h.tries + 1; known = known }
 
 -- a command came
 abbrev pub with_command : Hearing → Command → ℕ → Hearing
@@ -86,7 +94,12 @@ heard s hearings = record s { hearings = hearings }
 -- a received command was asked, and its link has changed
 abbrev pub fed : Feed → List Hearing → Command → Reply → Feed
 fed s hearings x reply =
-    record s { hearings = hearings; asked = s.asked ++ arrival x reply ∷ []; here = s.here ++ arrival x reply ∷ []; taken = s.taken + 1 }
+    record s {
+      hearings = hearings;
+      asked = s.asked ++ arrival x reply ∷ [];
+      here = s.here ++ arrival x reply ∷ [];
+      taken = s.taken + 1;
+    }
 
 -- a turn ends with a tick
 abbrev pub ticked : Reply → Feed → Feed
@@ -105,4 +118,13 @@ rested s = record s { turns = s.turns ++ s.here ∷ []; here = [] }
 -- a feeder at its start
 abbrev pub at_start : List Hearing → Feed
 at_start hearings =
-    record { clock = 0; marked = 0; sent = []; hearings = hearings; asked = []; turns = []; here = []; taken = 0 }
+    record {
+      clock = 0;
+      marked = 0;
+      sent = [];
+      hearings = hearings;
+      asked = [];
+      turns = [];
+      here = [];
+      taken = 0;
+    }

@@ -80,11 +80,15 @@ pub record Keeps (job : Task) (s : Feed) : Type 0 where
   -- each received command arrives in time
   pub in_time : AllByRecursion (λ h. InTime s.asked job.pace 0 h.got) s.hearings
   -- each command arrives as often as it was issued and received
-  pub counts : (x : Command) → arrivals_of x s.asked ≡ times (same_command x) (commands_in s.sent) + total (λ h. times (same_command x) (commands_in h.got)) s.hearings
+  pub counts : (x : Command)
+      → arrivals_of x s.asked
+      ≡ times (same_command x) (commands_in s.sent)
+      + total (λ h. times (same_command x) (commands_in h.got)) s.hearings
   -- each link holds the clock
   pub bounds : AllByRecursion (IsBound job s.clock) s.hearings
   -- each turn has a tick, a command that came, or a link on which nothing came
-  pub few : length s.turns ≤ ticks_in s.asked + total (λ h. length (commands_in h.got) + h.risen) s.hearings
+  pub few : length s.turns
+      ≤ ticks_in s.asked + total (λ h. length (commands_in h.got) + h.risen) s.hearings
 
 -- all of it, within a turn
 pub record IsFed (job : Task) (s : Feed) : Type 0 where
@@ -95,4 +99,5 @@ pub record IsFed (job : Task) (s : Feed) : Type 0 where
 pub record IsBetween (job : Task) (s : Feed) : Type 0 where
   pub here : s.here ≡ []
   pub tries : AllByRecursion (λ h. h.tries ≡ length s.turns) s.hearings
-  pub held : (front : List (List Asked)) (turn : List Asked) → s.turns ≡ front ++ turn ∷ [] → ticks_in turn ≡ 0 → s.clock < last_clock job → IsHeld job s
+  pub held : (front : List (List Asked)) (turn : List Asked) → s.turns ≡ front ++ turn ∷ []
+      → ticks_in turn ≡ 0 → s.clock < last_clock job → IsHeld job s

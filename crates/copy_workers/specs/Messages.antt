@@ -36,12 +36,14 @@ mark_after m (Mark n ∷ rest) = mark_after n rest
 abbrev pub last_mark : List Message → ℕ
 last_mark list = mark_after 0 list
 
--- after mark m: marks rise up to the length, nothing follows a mark of the length, commands are due below it
+-- after mark m: marks rise up to the length, nothing follows a mark of the length, commands are due
+-- below it
 unfoldable pub OrderlyAfter : ℕ → ℕ → List Message → Type 0
 OrderlyAfter length m [] = Unit {0}
 OrderlyAfter length m (Cmd x ∷ rest) = (m < length) × (x.time < length) × OrderlyAfter length m rest
 OrderlyAfter length m (Mark n ∷ rest) = (m < n) × (n ≤ length) × OrderlyAfter length n rest
 
--- the marks rise and are from 1 to the length, nothing follows a mark of the length, each command is due below it
+-- the marks rise and are from 1 to the length, nothing follows a mark of the length, each command
+-- is due below it
 abbrev pub IsOrderly : ℕ → List Message → Type 0
 IsOrderly length list = OrderlyAfter length 0 list

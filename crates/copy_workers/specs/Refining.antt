@@ -13,20 +13,28 @@ use Rattle.copy_workers.specs.Feeding.{IsFed}
 
 -- what came on a link that was asked once
 abbrev pub Came : Option Message → LinkReceive → LinkReceive → Type 0
-Came None old new = (received_of new ≡ received_of old) × (misses_of new ≡ misses_of old + 1) × (waiting_of old ≡ [])
-Came (Some x) old new = (received_of new ≡ received_of old ++ x ∷ []) × (misses_of new ≡ misses_of old) × IsPrefix (waiting_of old) (x ∷ waiting_of new)
+Came None old new =
+    (received_of new ≡ received_of old) × (misses_of new ≡ misses_of old + 1)
+    × (waiting_of old ≡ [])
+Came (Some x) old new =
+    (received_of new ≡ received_of old ++ x ∷ []) × (misses_of new ≡ misses_of old)
+    × IsPrefix (waiting_of old) (x ∷ waiting_of new)
 
--- what is done with it: the limit of times, how many commands may be asked, how many were, the mark kept, what was asked
+-- what is done with it: the limit of times, how many commands may be asked, how many were, the mark
+-- kept, what was asked
 abbrev pub Outcome : Option Message → ℕ → ℕ → ℕ → ℕ → ℕ → ℕ → List Asked → List Asked → Type 0
-Outcome None limit foreign taken taken_now mark mark_now asked asked_now = (taken_now ≡ taken) × (mark_now ≡ mark) × (asked_now ≡ asked)
-Outcome (Some (Mark n)) limit foreign taken taken_now mark mark_now asked asked_now = (taken_now ≡ taken) × (mark_now ≡ n) × (asked_now ≡ asked)
+Outcome None limit foreign taken taken_now mark mark_now asked asked_now =
+    (taken_now ≡ taken) × (mark_now ≡ mark) × (asked_now ≡ asked)
+Outcome (Some (Mark n)) limit foreign taken taken_now mark mark_now asked asked_now =
+    (taken_now ≡ taken) × (mark_now ≡ n) × (asked_now ≡ asked)
 Outcome (Some (Cmd x)) limit foreign taken taken_now mark mark_now asked asked_now =
     (mark_now ≡ mark)
     × (((taken_now ≡ taken + 1) × HasArrival x asked asked_now)
     ⊎ ((x.time < limit → taken < foreign → ⊥) × (taken_now ≡ taken) × (asked_now ≡ asked)))
 
 -- one link was asked once
-pub record HearsOnce (limit foreign : ℕ) (old new : LinkReceive) (mark mark_now taken taken_now : ℕ) (before after : List Asked) : Type 0 where
+pub record HearsOnce (limit foreign : ℕ) (old new : LinkReceive) (mark mark_now taken taken_now : ℕ)
+    (before after : List Asked) : Type 0 where
   pub message : Option Message
   pub came : Came message old new
   pub same : SameReceive old new
@@ -55,7 +63,8 @@ AllKept (m ∷ ms) (h ∷ hs) = (m ≡ h.kept) × AllKept ms hs
 -- links before this place were asked in this turn too, the others not yet
 pub record HeardTo
     (job : Task) (first : List LinkReceive) (asked_first : List Asked) (s0 : Feed)
-    (receives : List LinkReceive) (marks : List ℕ) (taken : ℕ) (asked : List Asked) (i : ℕ) : Type 0 where
+    (receives : List LinkReceive) (marks : List ℕ) (taken : ℕ) (asked : List Asked)
+    (i : ℕ) : Type 0 where
   pub state : Feed
   pub fed : IsFed job state
   pub asks : asked ≡ asked_first ++ state.asked

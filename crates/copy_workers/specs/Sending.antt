@@ -33,8 +33,10 @@ pub record IsFrom (plan : List Command) (place t : ℕ) : Type 0 where
   pub before : AllByRecursion (λ x. x.time < t) (take place plan)
   pub behind : AllByRecursion (λ x. t ≤ x.time) (drop place plan)
 
--- in the course of issuing tick t: the commands from place `issued` up to place `next` are asked and sent
-pub record Issuing (plan : List Command) (issued t next : ℕ) (asked asked_now : List Asked) (sends sends_now : List LinkSend) : Type 0 where
+-- in the course of issuing tick t: the commands from place `issued` up to place `next` are asked
+-- and sent
+pub record Issuing (plan : List Command) (issued t next : ℕ) (asked asked_now : List Asked)
+    (sends sends_now : List LinkSend) : Type 0 where
   pub some : List Command
   pub parts : drop issued plan ≡ some ++ drop next plan
   pub count : issued + length some ≡ next

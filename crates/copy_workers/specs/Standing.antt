@@ -31,7 +31,8 @@ pub record Start : Type 0 where
   pub fits : job.length + job.delay < 2 ^ 32
 
 -- its values are those of the machine; so many calls of this turn are spent
-pub record Stands (c : Start) (f : Feeder) (asked : List Asked) (calls grows spent : ℕ) : Type 0 where
+pub record Stands (c : Start) (f : Feeder) (asked : List Asked)
+    (calls grows spent : ℕ) : Type 0 where
   pub state : Feed
   pub fed : IsFed c.job state
   pub plan : f.plan.items ≡ c.job.plan
@@ -54,7 +55,8 @@ pub record Stands (c : Start) (f : Feeder) (asked : List Asked) (calls grows spe
   pub few : f.taken ≤ f.bounds.foreign
 
 -- within a turn: each link was asked so often in it
-pub record InTurn (c : Start) (f : Feeder) (asked : List Asked) (calls grows spent tried : ℕ) : Type 0 where
+pub record InTurn (c : Start) (f : Feeder) (asked : List Asked)
+    (calls grows spent tried : ℕ) : Type 0 where
   pub stands : Stands c f asked calls grows spent
   pub tries : AllByRecursion (λ h. h.tries ≡ f.turns + tried) stands.state.hearings
   pub below : f.clock < last_clock c.job
@@ -71,7 +73,14 @@ pub record Rests (c : Start) (f : Feeder) (asked : List Asked) (calls grows : �
 
 -- what the machine is given of a job
 abbrev pub task_of : FeederJob → Task
-task_of job = record { plan = job.plan.items; length = job.stagger.length; delay = longest_delay job.stagger.delays; pace = job.pace; foreign = job.foreign }
+task_of job =
+    record {
+      plan = job.plan.items;
+      length = job.stagger.length;
+      delay = longest_delay job.stagger.delays;
+      pace = job.pace;
+      foreign = job.foreign;
+    }
 
 -- what a feeder began with is its job, and what was asked before
 pub record BeginsWith (c : Start) (job : FeederJob) (asked : List Asked) : Type 0 where

@@ -8,6 +8,7 @@ ghost use Rattle.copy_workers.specs.Copied.{is_ran, IsTurn, CopyEnds};
 use crate::copy_job::{CopyEnd, CopyJob};
 use crate::draft_post::DraftPost;
 use crate::gate::Gate;
+use crate::rest::rest_if;
 use game_trait::{Event, Game, Reply, Stepped, Tick};
 use mirror_core::{Committed, Drafted};
 
@@ -44,10 +45,11 @@ fn run_turn<G: Game, P: DraftPost<G>>(post: &mut P, copy: u8) -> Tick
     }
 }
 
-/// Runs one copy of a mirror, turn by turn, until it has run as many ticks as the match has or the budget is spent. Each turn
-/// passes the gate and asks the post for the copy's due tick. A draft is executed away from the mirror and given back; where
-/// the tick has too many commands for one, the copy's step is asked; where no tick is due, nothing is. It takes no memory. It
-/// may wait where the post or the gate does.
+/// Runs one copy of a mirror, turn by turn, until it has run as many ticks as the match has or the
+/// budget is spent. Each turn passes the gate and asks the post for the copy's due tick. A draft is
+/// executed away from the mirror and given back; where the tick has too many commands for one, the
+/// copy's step is asked; where no tick is due, nothing is. It takes no memory. It may wait where
+/// the post or the gate does.
 pub fn run_copy<G: Game, P: DraftPost<G>, Q: Gate>(post: &mut P, gate: &Q, job: CopyJob) -> CopyEnd
     requires takes { P.takes post.old (Step job.copy) }
     requires calls { 2 * job.budget ≤ P.calls post.old }
@@ -58,7 +60,9 @@ pub fn run_copy<G: Game, P: DraftPost<G>, Q: Gate>(post: &mut P, gate: &Q, job: 
     let mut end = CopyEnd { ran: 0, turns: 0 };
     'turns: while end.ran < job.length && end.turns < job.budget {
         gate.pass(job.mirror, job.copy, end.turns);
-        end.ran += run_turn::<G, P>(post, job.copy);
+        let ran = run_turn::<G, P>(post, job.copy);
+        rest_if(ran == 0);
+        end.ran += ran;
         end.turns += 1;
     }
     end

@@ -15,6 +15,7 @@ use crate::gate::Gate;
 use crate::hearing::{hear_all, least};
 use crate::issues::issue_tick;
 use crate::post::Post;
+use crate::rest::rest_if;
 use game_trait::{Command, Event, Reply, Tick, Ticked};
 use link_ring::{LinkReceive, LinkSend};
 
@@ -46,11 +47,14 @@ impl Feeder {
     ghost use Rattle.copy_workers.specs.Asking.{IsFeedingBelow};
     ghost use Rattle.copy_workers.specs.Standing.{Start, InTurn, IsIssued};
 
-    /// Issues the tick of the clock, where it is within the match and isn't issued.
+    // Issues the tick of the clock, where it is within the match and isn't issued.
     fn issue<P: Post>(&mut self, post: &mut P)
-        requires stands { (c : Start) × InTurn c self.old (P.asked post.old) (P.calls post.old) (P.grows post.old) 0 0 }
-        requires takes { (e : Event) → IsFeedingBelow self.old.bounds.length e → P.takes post.old e }
-        ensures stands { (c : Start) → InTurn c self.old (P.asked post.old) (P.calls post.old) (P.grows post.old) 0 0
+        requires stands { (c : Start)
+            × InTurn c self.old (P.asked post.old) (P.calls post.old) (P.grows post.old) 0 0 }
+        requires takes { (e : Event) → IsFeedingBelow self.old.bounds.length e
+            → P.takes post.old e }
+        ensures stands { (c : Start)
+            → InTurn c self.old (P.asked post.old) (P.calls post.old) (P.grows post.old) 0 0
             → InTurn c self.new (P.asked post.new) (P.calls post.new) (P.grows post.new) 0 0 }
         ensures issued { IsIssued self.new }
         ensures takes { (e : Event) → P.takes post.old e → P.takes post.new e }
@@ -77,11 +81,14 @@ impl Feeder {
     ghost use Rattle.copy_workers.specs.Asking.{IsFeedingBelow};
     ghost use Rattle.copy_workers.specs.Standing.{Start, InTurn, IsIssued};
 
-    /// Asks each link once.
+    // Asks each link once.
     fn hear<P: Post>(&mut self, post: &mut P)
-        requires stands { (c : Start) × InTurn c self.old (P.asked post.old) (P.calls post.old) (P.grows post.old) 0 0 }
-        requires takes { (e : Event) → IsFeedingBelow self.old.bounds.length e → P.takes post.old e }
-        ensures stands { (c : Start) → InTurn c self.old (P.asked post.old) (P.calls post.old) (P.grows post.old) 0 0
+        requires stands { (c : Start)
+            × InTurn c self.old (P.asked post.old) (P.calls post.old) (P.grows post.old) 0 0 }
+        requires takes { (e : Event) → IsFeedingBelow self.old.bounds.length e
+            → P.takes post.old e }
+        ensures stands { (c : Start)
+            → InTurn c self.old (P.asked post.old) (P.calls post.old) (P.grows post.old) 0 0
             → InTurn c self.new (P.asked post.new) (P.calls post.new) (P.grows post.new) 7 1 }
         ensures issued { IsIssued self.old → IsIssued self.new }
         ensures takes { (e : Event) → P.takes post.old e → P.takes post.new e }
@@ -100,7 +107,7 @@ impl Feeder {
     }
 }
 
-/// How far a reply moves the clock.
+// How far a reply moves the clock.
 fn moves_by(reply: Reply) -> Tick
     ensures { result ≡ cond (is_moved reply) 1 0 }
 {
@@ -121,11 +128,14 @@ impl Feeder {
     ghost use Rattle.copy_workers.specs.Refining.{AllKept};
     ghost use Rattle.copy_workers.specs.Standing.{Start, InTurn, IsIssued, Rests};
 
-    /// The marks don't hold the clock.
+    // The marks don't hold the clock.
     fn is_free(&self) -> bool
         requires { vec_len self.now.receives ≤ length self.now.marks }
-        ensures { (hearings : List Hearing) → length hearings ≡ vec_len self.now.receives → AllKept self.now.marks hearings
-            → IsTrue result ↔ ((self.now.clock + 1 ≤ least_mark self.now.bounds.length hearings + self.now.bounds.pace)
+        ensures { (hearings : List Hearing) → length hearings ≡ vec_len self.now.receives
+            → AllKept self.now.marks hearings
+            → IsTrue result
+            ↔ ((self.now.clock + 1
+            ≤ least_mark self.now.bounds.length hearings + self.now.bounds.pace)
             ⊎ (self.now.bounds.length ≤ least_mark self.now.bounds.length hearings)) }
     {
         let least = least(&self.marks, self.receives.len(), self.bounds.length);
@@ -133,12 +143,15 @@ impl Feeder {
             || self.bounds.length <= least
     }
 
-    /// Ends the turn: with a tick, unless the marks hold the clock.
+    // Ends the turn: with a tick, unless the marks hold the clock.
     fn end_turn<P: Post>(&mut self, post: &mut P)
-        requires stands { (c : Start) × InTurn c self.old (P.asked post.old) (P.calls post.old) (P.grows post.old) 7 1 }
+        requires stands { (c : Start)
+            × InTurn c self.old (P.asked post.old) (P.calls post.old) (P.grows post.old) 7 1 }
         requires issued { IsIssued self.old }
-        requires takes { (e : Event) → IsFeedingBelow self.old.bounds.length e → P.takes post.old e }
-        ensures stands { (c : Start) → InTurn c self.old (P.asked post.old) (P.calls post.old) (P.grows post.old) 7 1
+        requires takes { (e : Event) → IsFeedingBelow self.old.bounds.length e
+            → P.takes post.old e }
+        ensures stands { (c : Start)
+            → InTurn c self.old (P.asked post.old) (P.calls post.old) (P.grows post.old) 7 1
             → Rests c self.new (P.asked post.new) (P.calls post.new) (P.grows post.new) }
         ensures takes { (e : Event) → P.takes post.old e → P.takes post.new e }
         ensures same { (p : P) → P.same p post.old → P.same p post.new }
@@ -162,11 +175,14 @@ impl Feeder {
     ghost use Rattle.copy_workers.specs.Feed.{last_clock};
     ghost use Rattle.copy_workers.specs.Standing.{Start, Rests, Goes};
 
-    /// One turn.
+    // One turn.
     fn turn<P: Post>(&mut self, post: &mut P)
-        requires stands { (c : Start) × Goes c self.old (P.asked post.old) (P.calls post.old) (P.grows post.old) }
-        requires takes { (e : Event) → IsFeedingBelow self.old.bounds.length e → P.takes post.old e }
-        ensures stands { (c : Start) → Goes c self.old (P.asked post.old) (P.calls post.old) (P.grows post.old)
+        requires stands { (c : Start)
+            × Goes c self.old (P.asked post.old) (P.calls post.old) (P.grows post.old) }
+        requires takes { (e : Event) → IsFeedingBelow self.old.bounds.length e
+            → P.takes post.old e }
+        ensures stands { (c : Start)
+            → Goes c self.old (P.asked post.old) (P.calls post.old) (P.grows post.old)
             → Rests c self.new (P.asked post.new) (P.calls post.new) (P.grows post.new) }
         ensures takes { (e : Event) → P.takes post.old e → P.takes post.new e }
         ensures same { (p : P) → P.same p post.old → P.same p post.new }
@@ -180,7 +196,7 @@ impl Feeder {
 }
 
 impl Feeder {
-    /// What the feeder gives back.
+    // What the feeder gives back.
     fn ended(self) -> FeederEnd
         requires { self.issued < 2 ^ 32 }
         ensures plan { result.plan ≡ self.plan }
@@ -215,11 +231,12 @@ impl Feeder {
     }
 }
 
-/// Feeds a mirror, turn by turn, until the clock stands at the match's length plus the longest delay or the budget is
-/// spent.
+/// Feeds a mirror, turn by turn, until the clock stands at the match's length plus the longest
+/// delay or the budget is spent.
 pub fn run_feeder<P: Post, Q: Gate>(post: &mut P, gate: &Q, job: FeederJob) -> FeederEnd
     requires rises { KeysRise job.plan.items }
-    requires room { AllByRecursion (HasRoom (length job.plan.items + job.stagger.length)) job.sends.items }
+    requires room { AllByRecursion
+        (HasRoom (length job.plan.items + job.stagger.length)) job.sends.items }
     requires misses { AllByRecursion (λ r. misses_of r < 2 ^ 63) job.receives.items }
     requires seven { length job.receives.items ≤ 7 }
     requires budget { job.budget < 2 ^ 63 }
@@ -262,8 +279,10 @@ pub fn run_feeder<P: Post, Q: Gate>(post: &mut P, gate: &Q, job: FeederJob) -> F
         turns: 0,
     };
     while feeder.clock < end && feeder.turns < budget {
+        let clock = feeder.clock;
         gate.pass(mirror, copies, feeder.turns);
         feeder.turn(post);
+        rest_if(feeder.clock == clock);
     }
     feeder.ended()
 }

@@ -2,8 +2,8 @@
 
 /// What a worker passes at the start of each turn.
 pub trait Gate {
-    /// Passes the gate: worker c of a mirror is the worker of its copy c, and the one behind all copies' is the feeder. Turns
-    /// count from 0. It may wait.
+    /// Passes the gate: worker c of a mirror is the worker of its copy c, and the one behind all
+    /// copies' is the feeder. Turns count from 0. It may wait.
     fn pass(&self, mirror: u8, worker: u8, turn: u64);
 }
 

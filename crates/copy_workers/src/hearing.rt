@@ -14,8 +14,8 @@ use crate::post::Post;
 use game_trait::{Event, Tick};
 use link_ring::{LinkReceive, Message};
 
-/// Asks one link once. A mark is kept; a command that is due within the match is asked, as long as fewer than `foreign`
-/// were.
+/// Asks one link once. A mark is kept; a command that is due within the match is asked, as long as
+/// fewer than `foreign` were.
 pub fn hear_one<P: Post>(
     post: &mut P,
     receive: &mut LinkReceive,
@@ -28,7 +28,8 @@ pub fn hear_one<P: Post>(
     requires calls { 0 < P.calls post.old }
     requires grows { taken.old < foreign → 0 < P.grows post.old }
     requires misses { misses_of receive.old + 1 < 2 ^ 64 }
-    ensures heard { HearsOnce limit foreign receive.old receive.new mark.old mark.new taken.old taken.new (P.asked post.old) (P.asked post.new) }
+    ensures heard { HearsOnce limit foreign receive.old receive.new mark.old mark.new
+        taken.old taken.new (P.asked post.old) (P.asked post.new) }
     ensures calls { P.calls post.old ≤ P.calls post.new + 1 }
     ensures grows { P.grows post.new + taken.new ≡ P.grows post.old + taken.old }
     ensures within { taken.old ≤ foreign → taken.new ≤ foreign }
@@ -63,9 +64,11 @@ pub fn hear_all<P: Post>(
     requires grows { foreign ≤ P.grows post.old + taken }
     requires misses { AllByRecursion (λ r. misses_of r + 1 < 2 ^ 64) receives.old }
     requires marks { length receives.old ≤ length marks.old }
-    ensures heard { (job : Task) (first : List LinkReceive) (asked : List Asked) (s : Feed) → job.length ≡ limit → job.foreign ≡ foreign
+    ensures heard { (job : Task) (first : List LinkReceive) (asked : List Asked) (s : Feed)
+        → job.length ≡ limit → job.foreign ≡ foreign
         → HeardTo job first asked s receives.old marks.old taken (P.asked post.old) 0
-        → HeardTo job first asked s receives.new marks.new result (P.asked post.new) (length receives.new) }
+        → HeardTo job first asked s receives.new marks.new result (P.asked post.new)
+        (length receives.new) }
     ensures calls { P.calls post.old ≤ P.calls post.new + length receives.old }
     ensures grows { P.grows post.new + result ≡ P.grows post.old + taken }
     ensures within { taken ≤ foreign → result ≤ foreign }
@@ -89,7 +92,8 @@ pub fn hear_all<P: Post>(
 /// The least of the first so many marks; where there are none, the limit.
 pub fn least(marks: &[Tick], count: usize, limit: Tick) -> Tick
     requires { count ≤ length marks.now }
-    ensures { (hearings : List Hearing) → length hearings ≡ count → AllKept marks.now hearings → result ≡ least_mark limit hearings }
+    ensures { (hearings : List Hearing) → length hearings ≡ count → AllKept marks.now hearings
+        → result ≡ least_mark limit hearings }
 {
     let mut least = limit;
     for i in 0..count {

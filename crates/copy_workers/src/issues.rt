@@ -33,8 +33,8 @@ pub fn issue_one<P: Post>(post: &mut P, sends: &mut [LinkSend], x: &Command, len
     send_all(sends, &Message::Cmd(*x));
 }
 
-/// Issues tick t: each command of that time in key order, from the place `issued` on, and then the mark above them. The
-/// place behind them.
+/// Issues tick t: each command of that time in key order, from the place `issued` on, and then the
+/// mark above them. The place behind them.
 pub fn issue_tick<P: Post>(
     post: &mut P,
     sends: &mut [LinkSend],

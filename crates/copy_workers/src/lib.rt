@@ -1,5 +1,6 @@
-//! The threads' work, as calls that a thread can make alone: a worker that runs one copy of a mirror, and a feeder that feeds a
-//! mirror with ticks and arrivals, its own and those that come over links.
+//! The threads' work, as calls that a thread can make alone: a worker that runs one copy of a
+//! mirror, and a feeder that feeds a mirror with ticks and arrivals, its own and those that come
+//! over links.
 #![tactic(auto)]
 
 mod copy_job;
@@ -11,6 +12,7 @@ mod gate;
 mod hearing;
 mod issues;
 mod post;
+mod rest;
 mod sends;
 
 pub use copy_job::{CopyEnd, CopyJob};

@@ -14,8 +14,8 @@ pub struct Asked {
     pub reply: Reply,
 }
 
-/// What a call of a post came to, for a trail of all its calls. `Asked` is an event that was asked; the others are of a draft
-/// of that copy.
+/// What a call of a post came to, for a trail of all its calls. `Asked` is an event that was asked;
+/// the others are of a draft of that copy.
 #[derive(Clone, Copy, Debug, PartialEq, Eq)]
 pub enum TrailMark {
     /// An event was asked.
@@ -50,10 +50,12 @@ pub trait Post {
     ghost grows: { Self → ℕ };
     /// The events that may be asked, which no call takes back.
     ghost takes: { Self → AnEvent → Type 0 };
-    /// Two values of one post: what tells it from other posts is the same. No call makes it another one.
+    /// Two values of one post: what tells it from other posts is the same. No call makes it another
+    /// one.
     ghost same: { Self → Self → Type 0 };
 
-    /// Asks one event, and answers in its kind. It uses up a call, and an arrival one of the arrivals. It may wait.
+    /// Asks one event, and answers in its kind. It uses up a call, and an arrival one of the
+    /// arrivals. It may wait.
     fn ask(&mut self, event: &Event) -> Reply
         requires takes { takes self.old event.now }
         requires calls { 0 < calls self.old }

@@ -33,5 +33,6 @@ IsLink s r = IsPair s.producer r.consumer
 abbrev pub SameSend : LinkSend → LinkSend → Type 0
 SameSend a b = SameProducer a.producer b.producer
 
+-- the same of the other end
 abbrev pub SameReceive : LinkReceive → LinkReceive → Type 0
 SameReceive a b = SameConsumer a.consumer b.consumer

@@ -7,8 +7,9 @@ ghost use Rattle.link_ring.specs.Ends.{sent_of, room_of, received_of, waiting_of
 use crate::receive::LinkReceive;
 use crate::send::LinkSend;
 
-/// How many messages are left in a link. The two are ends of one link. What was received, and then what is left, is what was
-/// sent; what is left is known to be on its way from then on. It takes no memory.
+/// How many messages are left in a link. The two are ends of one link. What was received, and then
+/// what is left, is what was sent; what is left is known to be on its way from then on. It takes no
+/// memory.
 pub fn rest(send: &mut LinkSend, receive: &mut LinkReceive) -> u32
     requires { IsLink send.old receive.old }
     ensures whole { received_of receive.new ++ waiting_of receive.new ≡ sent_of send.new }

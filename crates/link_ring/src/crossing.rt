@@ -6,8 +6,8 @@ use crate::receive::LinkReceive;
 use crate::send::LinkSend;
 use std::thread::{Threads, join};
 
-/// Sends the two ends to a thread each and back. Nothing goes over the link. That this is proved shows that each end may be
-/// sent to another thread.
+/// Sends the two ends to a thread each and back. Nothing goes over the link. That this is proved
+/// shows that each end may be sent to another thread.
 pub fn cross<R: Threads + Sync>(
     rt: &R,
     send: LinkSend,

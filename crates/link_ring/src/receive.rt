@@ -6,8 +6,8 @@ ghost use Rattle.rtrb.specs.Ring.{consumer_capacity};
 use crate::message::Message;
 use rtrb::Consumer;
 
-/// The end of a link that receives. Contracts see what was received so far, what is known to be on its way, and how often
-/// nothing was seen.
+/// The end of a link that receives. Contracts see what was received so far, what is known to be on
+/// its way, and how often nothing was seen.
 #[derive(Drop)]
 pub struct LinkReceive {
     pub(crate) consumer: Consumer<Message>,
@@ -31,15 +31,19 @@ impl LinkReceive {
         }
     }
 
-    /// Asks the link once: the next message, or `None` where none was seen on its way. `None` is counted, and never comes
-    /// where a message is known to be on its way. It takes no memory and waits for nobody.
+    /// Asks the link once: the next message, or `None` where none was seen on its way. `None` is
+    /// counted, and never comes where a message is known to be on its way. It takes no memory and
+    /// waits for nobody.
     pub fn receive(&mut self) -> Option<Message>
-        ensures received { IfSome result (λ x. received_of self.new ≡ received_of self.old ++ x ∷ []) }
-        ensures next { IfSome result (λ x. IsPrefix (waiting_of self.old) (x ∷ waiting_of self.new)) }
+        ensures received { IfSome result
+            (λ x. received_of self.new ≡ received_of self.old ++ x ∷ []) }
+        ensures next { IfSome result
+            (λ x. IsPrefix (waiting_of self.old) (x ∷ waiting_of self.new)) }
         ensures seen { IfSome result (λ x. misses_of self.new ≡ misses_of self.old) }
         ensures nothing { IfNone result (received_of self.new ≡ received_of self.old) }
         ensures none_known { IfNone result (waiting_of self.old ≡ []) }
-        ensures missed { IfNone result (misses_of self.new ≡ min (misses_of self.old + 1) (2 ^ 64 - 1)) }
+        ensures missed { IfNone result
+            (misses_of self.new ≡ min (misses_of self.old + 1) (2 ^ 64 - 1)) }
         ensures same { SameReceive self.old self.new }
     {
         match self.consumer.pop() {
@@ -51,8 +55,8 @@ impl LinkReceive {
         }
     }
 
-    /// How many messages are known to be on their way: those that `rest` has shown and `receive` hasn't given yet, and maybe
-    /// more.
+    /// How many messages are known to be on their way: those that `rest` has shown and `receive`
+    /// hasn't given yet, and maybe more.
     pub fn known(&self) -> u32
         ensures { result ≡ length (waiting_of self.now) }
     {

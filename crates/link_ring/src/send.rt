@@ -6,7 +6,8 @@ ghost use Rattle.rtrb.specs.Ring.{sent, known_free, producer_capacity};
 use crate::message::Message;
 use rtrb::Producer;
 
-/// The end of a link that sends. Contracts see what was sent so far, and how many messages may be sent in all.
+/// The end of a link that sends. Contracts see what was sent so far, and how many messages may be
+/// sent in all.
 #[derive(Drop)]
 pub struct LinkSend {
     pub(crate) producer: Producer<Message>,
@@ -24,7 +25,8 @@ impl LinkSend {
         LinkSend { producer }
     }
 
-    /// Sends a message. Fewer than the link has room for were sent before. It takes no memory and waits for nobody.
+    /// Sends a message. Fewer than the link has room for were sent before. It takes no memory and
+    /// waits for nobody.
     pub fn send(&mut self, x: &Message)
         requires { length (sent_of self.old) < room_of self.old }
         ensures sent { sent_of self.new ≡ sent_of self.old ++ x.now ∷ [] }

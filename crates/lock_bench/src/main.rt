@@ -1,5 +1,6 @@
-//! Calls of a counter by so many threads, each with a seat of a turn lock, or behind std's mutex. It measures alone: `turn` or
-//! `mutex`, how many threads, and how many calls each of them makes. What it prints is the same whatever the schedule.
+//! Calls of a counter by so many threads, each with a seat of a turn lock, or behind std's mutex.
+//! It measures alone: `turn` or `mutex`, how many threads, and how many calls each of them makes.
+//! What it prints is the same whatever the schedule.
 #![tactic(auto)]
 
 ghost use Rattle.std.specs.Prelude.{◌≡◌, ◌<◌, ◌≤◌, ◌^◌, length};
@@ -12,7 +13,7 @@ use std::thread::{Threads, map_indices, map_vec};
 use std::{env, io};
 use turn_lock::{Held, Share, TurnLock, TurnSeat};
 
-/// Counts what is added.
+// Counts what is added.
 #[derive(Drop)]
 struct Counter {
     count: u64,

@@ -17,7 +17,8 @@ use Rattle.turn_lock.specs.declared.history.Entry.{Entry}
 use Rattle.turn_lock.specs.declared.view.Member.{Member}
 use Rattle.turn_lock.specs.Closing.{IsHistoryOf}
 
--- the event that a call with its reply stands for, if it stands for one: a commit that ran stands for a step of its copy
+-- the event that a call with its reply stands for, if it stands for one: a commit that ran stands
+-- for a step of its copy
 abbrev pub events_in : {W : Type 0} → LockCall W → LockReply W → List AnEvent
 events_in (Event e) reply = e ∷ []
 events_in (Draft c) reply = []
@@ -32,9 +33,11 @@ events_of [] = []
 events_of (e ∷ log) = events_in e.call e.reply ++ events_of log
 
 -- the mirror is at the end of one history of these seats
-pub record EndsAs {W : Type 0} (game : GameRules W) (opening : MirrorState W) (seats : List (Member (LockCall W) (LockReply W))) (mirror : MirrorState W) : Type 0 where
+pub record EndsAs {W : Type 0} (game : GameRules W) (opening : MirrorState W)
+    (seats : List (Member (LockCall W) (LockReply W))) (mirror : MirrorState W) : Type 0 where
   pub whole : IsHistoryOf (mirror_rules game) opening seats mirror
-  -- those of its events that changed the mirror are what the mirror's history gained, and lead to its state
+  -- those of its events that changed the mirror are what the mirror's history gained, and lead to
+  -- its state
   pub history : mirror.history ≡ opening.history ++ changing opening (events_of whole.log)
   pub state : mirror ≡ after opening (changing opening (events_of whole.log))
   -- the plan is the one that was in force

@@ -15,7 +15,8 @@ use Rattle.turn_lock.specs.declared.view.View.{View}
 use Rattle.turn_lock.specs.Rules.{Rules}
 use Rattle.turn_lock.specs.Views.{FitsSeat}
 
--- the state after a call: an event is made, a draft changes nothing, and a commit is the step that it stands for, or nothing
+-- the state after a call: an event is made, a draft changes nothing, and a commit is the step that
+-- it stands for, or nothing
 abbrev pub next_locked : {W : Type 0} → MirrorState W → LockCall W → MirrorState W
 next_locked s (Event e) = next s e
 next_locked s (Draft c) = s
@@ -27,8 +28,8 @@ said_locked game s (Event e) = ToEvent (said s e)
 said_locked game s (Draft c) = ToDraft (drafted game s c)
 said_locked game s (Commit r) = ToCommit (committed s r)
 
--- a call that may be made: an event that may be made and puts no other plan in force, a draft of a copy that is there, a commit
--- of a ready tick that fits
+-- a call that may be made: an event that may be made and puts no other plan in force, a draft of a
+-- copy that is there, a commit of a ready tick that fits
 abbrev pub FitsCall : {W : Type 0} → GameRules W → MirrorState W → LockCall W → Type 0
 FitsCall game s (Event e) = (is_restagger e ≡ false) × Fits s e
 FitsCall game s (Draft c) = c < length s.runs
@@ -45,10 +46,18 @@ is_growing (Draft c) = false
 is_growing (Commit r) = false
 
 -- a locked mirror, as an object
-abbrev pub mirror_rules : {W : Type 0} → GameRules W → Rules (MirrorState W) (LockCall W) (LockReply W)
+abbrev pub mirror_rules : {W : Type 0} → GameRules W
+    → Rules (MirrorState W) (LockCall W) (LockReply W)
 mirror_rules game =
-    record { next = next_locked; said = said_locked game; Fits = FitsLocked game; spare = λ s. s.spare; grows = is_growing }
+    record {
+      next = next_locked;
+      said = said_locked game;
+      Fits = FitsLocked game;
+      spare = λ s. s.spare;
+      grows = is_growing;
+    }
 
 -- a seat takes every call that fits a mirror
-pub record TakesFrom {W : Type 0} (game : GameRules W) (s : MirrorState W) (v : View (MirrorState W) (LockCall W) (LockReply W)) : Type 0 where
+pub record TakesFrom {W : Type 0} (game : GameRules W) (s : MirrorState W)
+    (v : View (MirrorState W) (LockCall W) (LockReply W)) : Type 0 where
   pub takes : (call : LockCall W) → FitsCall game s call → FitsSeat (mirror_rules game) v call

@@ -9,8 +9,8 @@ use mirror_core::Mirror;
 use std::marker::Model;
 use turn_lock::Held;
 
-/// A mirror behind a lock. Contracts see it as the mirror's state. A call is an event other than a change of the plan, or it takes
-/// out a draft, or commits one. An arrival is a growing call.
+/// A mirror behind a lock. Contracts see it as the mirror's state. A call is an event other than a
+/// change of the plan, or it takes out a draft, or commits one. An arrival is a growing call.
 #[derive(Drop)]
 pub struct HeldMirror<G: Game> {
     mirror: Mirror<G>,
@@ -65,5 +65,8 @@ impl<G: Game> Held for HeldMirror<G> {
         }
     }
 
-    ghost laws = { record { stays = λ s p q _ fits. stays G.rules s p q fits; spends = λ s q _. spends s q } };
+    ghost laws = { record {
+      stays = λ s p q _ fits. stays G.rules s p q fits;
+      spends = λ s q _. spends s q;
+    } };
 }

@@ -28,7 +28,8 @@ pub struct MirrorOver<L> {
     lock: L,
 }
 
-/// The lock of a mirror of the game `G`. Threads share it by reference, each with a seat of its own.
+/// The lock of a mirror of the game `G`. Threads share it by reference, each with a seat of its
+/// own.
 pub type MirrorLock<G> = MirrorOver<TurnLock<HeldMirror<G>>>;
 
 /// A seat of a mirror's lock.
@@ -55,9 +56,9 @@ impl<L> MirrorOver<L> {
 }
 
 impl<G: Game> MirrorLock<G> {
-    /// A lock of the mirror, and a seat for each share, numbered from 0 on. No seat has seen anything, and what fits the
-    /// mirror fits each seat. The shares' arrivals are at most what the mirror has room for, in sum. Want of memory makes
-    /// nothing, and lets the mirror go.
+    /// A lock of the mirror, and a seat for each share, numbered from 0 on. No seat has seen
+    /// anything, and what fits the mirror fits each seat. The shares' arrivals are at most what the
+    /// mirror has room for, in sum. Want of memory makes nothing, and lets the mirror go.
     pub fn start(
         alloc: Global,
         mirror: Mirror<G>,
@@ -69,9 +70,12 @@ impl<G: Game> MirrorLock<G> {
         ensures opening { IfOk result (λ t. t.0.lock.table.shared.key.opening.value ≡ mirror) }
         ensures counted { IfOk result (λ t. t.0.lock.seats ≡ length shares.now) }
         ensures all { IfOk result (λ t. vec_len t.1 ≡ t.0.lock.seats) }
-        ensures own { IfOk result (λ t. All (λ s. s.seat.table_id ≡ t.0.lock.table.shared.table_id) t.1.items) }
-        ensures seats { IfOk result (λ t. map (λ s. view s.seat) t.1.items ≡ fresh_views mirror 0 shares.now) }
-        ensures fits { IfOk result (λ t. All (λ s. TakesFrom G.rules mirror (view s.seat)) t.1.items) }
+        ensures own { IfOk result
+            (λ t. All (λ s. s.seat.table_id ≡ t.0.lock.table.shared.table_id) t.1.items) }
+        ensures seats { IfOk result
+            (λ t. map (λ s. view s.seat) t.1.items ≡ fresh_views mirror 0 shares.now) }
+        ensures fits { IfOk result
+            (λ t. All (λ s. TakesFrom G.rules mirror (view s.seat)) t.1.items) }
     {
         mirror.always();
         let (lock, seats) = TurnLock::<HeldMirror<G>>::start(
@@ -82,17 +86,19 @@ impl<G: Game> MirrorLock<G> {
         Ok((MirrorOver { lock }, seats))
     }
 
-    /// Waits for the seat's turn, and makes the event. It has to be due within the match, or to name a copy that is there; no
-    /// seat puts another plan in force. The answer is the mirror's at that point of one history, of which the seat has then
-    /// seen a front that ends with this event. It uses up one call of the seat's share, and an arrival one growing call.
-    /// While it waits, it yields the processor between two looks. It takes no memory.
+    /// Waits for the seat's turn, and makes the event. It has to be due within the match, or to
+    /// name a copy that is there; no seat puts another plan in force. The answer is the mirror's at
+    /// that point of one history, of which the seat has then seen a front that ends with this
+    /// event. It uses up one call of the seat's share, and an arrival one growing call. While it
+    /// waits, it yields the processor between two looks. It takes no memory.
     pub fn ask<W: Wait>(&self, rt: &W, seat: &mut MirrorSeat<G>, event: &Event) -> Reply
         requires own { seat.old.seat.table_id ≡ self.now.lock.table.shared.table_id }
         requires fits { FitsSeat (mirror_rules G.rules) (view seat.old.seat) (AskEvent event.now) }
         requires calls { 0 < seat.old.calls }
         requires arrivals { IsTrue (is_arrival event.now) → 0 < seat.old.grows }
         ensures own { seat.new.seat.table_id ≡ seat.old.seat.table_id }
-        ensures called { IsCall (mirror_rules G.rules) (view seat.old.seat) (AskEvent event.now) (ToEvent result) (view seat.new.seat) }
+        ensures called { IsCall (mirror_rules G.rules) (view seat.old.seat) (AskEvent event.now)
+            (ToEvent result) (view seat.new.seat) }
         ensures fits { StillFits (mirror_rules G.rules) (view seat.old.seat) (view seat.new.seat) }
         ensures calls { seat.new.calls + 1 ≡ seat.old.calls }
         ensures arrivals { seat.new.grows + one_if (is_arrival event.now) ≡ seat.old.grows }
@@ -103,17 +109,21 @@ impl<G: Game> MirrorLock<G> {
         }
     }
 
-    /// Waits for the seat's turn, and takes out the due tick of a copy, which is there, to be executed outside the lock. What is
-    /// answered is told by `Mirror::draft`; once it is run, a draft may be committed, whatever others ask before. It uses up one
-    /// call of the seat's share. It takes no memory.
+    /// Waits for the seat's turn, and takes out the due tick of a copy, which is there, to be
+    /// executed outside the lock. What is answered is told by `Mirror::draft`; once it is run, a
+    /// draft may be committed, whatever others ask before. It uses up one call of the seat's share.
+    /// It takes no memory.
     pub fn draft<W: Wait>(&self, rt: &W, seat: &mut MirrorSeat<G>, copy: u8) -> Drafted<G>
         requires own { seat.old.seat.table_id ≡ self.now.lock.table.shared.table_id }
         requires fits { FitsSeat (mirror_rules G.rules) (view seat.old.seat) (AskDraft copy) }
         requires calls { 0 < seat.old.calls }
         ensures own { seat.new.seat.table_id ≡ seat.old.seat.table_id }
-        ensures called { IsCall (mirror_rules G.rules) (view seat.old.seat) (AskDraft copy) (ToDraft result) (view seat.new.seat) }
+        ensures called { IsCall (mirror_rules G.rules) (view seat.old.seat) (AskDraft copy)
+            (ToDraft result) (view seat.new.seat) }
         ensures fits { StillFits (mirror_rules G.rules) (view seat.old.seat) (view seat.new.seat) }
-        ensures ready { IfDraft result (λ d. FitsSeat (mirror_rules G.rules) (view seat.new.seat) (AskCommit (ready_of G.rules d))) }
+        ensures ready { IfDraft result
+            (λ d. FitsSeat (mirror_rules G.rules) (view seat.new.seat)
+            (AskCommit (ready_of G.rules d))) }
         ensures calls { seat.new.calls + 1 ≡ seat.old.calls }
         ensures arrivals { seat.new.grows ≡ seat.old.grows }
     {
@@ -123,15 +133,16 @@ impl<G: Game> MirrorLock<G> {
         }
     }
 
-    /// Waits for the seat's turn, and commits a tick that was executed outside the lock. What is answered and changed is told by
-    /// `Mirror::commit`: where the copy was renewed since, nothing changes. It uses up one call of the seat's share. It takes no
-    /// memory.
+    /// Waits for the seat's turn, and commits a tick that was executed outside the lock. What is
+    /// answered and changed is told by `Mirror::commit`: where the copy was renewed since, nothing
+    /// changes. It uses up one call of the seat's share. It takes no memory.
     pub fn commit<W: Wait>(&self, rt: &W, seat: &mut MirrorSeat<G>, r: Ready<G>) -> Committed
         requires own { seat.old.seat.table_id ≡ self.now.lock.table.shared.table_id }
         requires fits { FitsSeat (mirror_rules G.rules) (view seat.old.seat) (AskCommit r) }
         requires calls { 0 < seat.old.calls }
         ensures own { seat.new.seat.table_id ≡ seat.old.seat.table_id }
-        ensures called { IsCall (mirror_rules G.rules) (view seat.old.seat) (AskCommit r) (ToCommit result) (view seat.new.seat) }
+        ensures called { IsCall (mirror_rules G.rules) (view seat.old.seat) (AskCommit r)
+            (ToCommit result) (view seat.new.seat) }
         ensures fits { StillFits (mirror_rules G.rules) (view seat.old.seat) (view seat.new.seat) }
         ensures calls { seat.new.calls + 1 ≡ seat.old.calls }
         ensures arrivals { seat.new.grows ≡ seat.old.grows }
@@ -142,12 +153,14 @@ impl<G: Game> MirrorLock<G> {
         }
     }
 
-    /// The mirror, once all seats are back, at the end of one history: the events of these seats, each once, with the answers
-    /// that they got. Its own history gained those that changed it, in order. It waits for nobody and takes no memory.
+    /// The mirror, once all seats are back, at the end of one history: the events of these seats,
+    /// each once, with the answers that they got. Its own history gained those that changed it, in
+    /// order. It waits for nobody and takes no memory.
     pub fn close(self, seats: Vec<MirrorSeat<G>>) -> Mirror<G>
         requires own { All (λ s. s.seat.table_id ≡ self.lock.table.shared.table_id) seats.items }
         requires all { vec_len seats ≡ self.lock.seats }
-        ensures { EndsAs G.rules self.lock.table.shared.key.opening.value (map (λ s. member_of (view s.seat)) seats.items) result }
+        ensures { EndsAs G.rules self.lock.table.shared.key.opening.value
+            (map (λ s. member_of (view s.seat)) seats.items) result }
     {
         self.into_lock().close(seats).into_mirror()
     }

@@ -17,4 +17,5 @@ module _ {S V : Type 0} where
 
 -- the token of a seat at this stage, which has nothing in its hand
 abbrev pub IsTokenAt : {S H C R : Type 0} → Stage → Seat S (View H C R) → Type 0
-IsTokenAt stage token = IsSeat stage token.me.0.calls token.me.0.grows token.me.0 × (token.me.1 ≡ [])
+IsTokenAt stage token =
+    IsSeat stage token.me.0.calls token.me.0.grows token.me.0 × (token.me.1 ≡ [])

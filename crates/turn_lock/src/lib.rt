@@ -1,19 +1,23 @@
-//! A lock that hands out turns: threads share one object, and its whole history is known when the lock is closed.
+//! A lock that hands out turns: threads share one object, and its whole history is known when the
+//! lock is closed.
 //!
-//! An object is a [`Held`]: its rules say what each call changes and replies. `TurnLock::start` takes it and gives a seat for
-//! each share. A thread calls with its own seat; contracts see what the seat has seen of the one history of all calls, which
-//! ends with the seat's own call when that returns. `TurnLock::close` takes all seats, and gives the object at the end of the
-//! history.
+//! An object is a [`Held`]: its rules say what each call changes and replies. `TurnLock::start`
+//! takes it and gives a seat for each share. A thread calls with its own seat; contracts see what
+//! the seat has seen of the one history of all calls, which ends with the seat's own call when that
+//! returns. `TurnLock::close` takes all seats, and gives the object at the end of the history.
 //!
-//! A thread waits by tickets: it draws one, and then looks whether its ticket is served, again and again. Between two looks it
-//! yields the processor; it never sleeps. Where it needn't wait, a call costs two atomic additions, one atomic load and what
-//! the object does. Where others wait too, each call hands the turn to the thread that drew the next ticket, which costs more
-//! than a mutex, above all where threads share a processor. `start` takes all memory; `call` and `close` take none.
+//! A thread waits by tickets: it draws one, and then looks whether its ticket is served, again and
+//! again. Between two looks it yields the processor; it never sleeps. Where it needn't wait, a call
+//! costs two atomic additions, one atomic load and what the object does. Where others wait too,
+//! each call hands the turn to the thread that drew the next ticket, which costs more than a mutex,
+//! above all where threads share a processor. `start` takes all memory; `call` and `close` take
+//! none.
 //!
-//! What isn't promised: that a turn ever comes, or when. A seat that was dropped can't be brought to `close`. Before `close`
-//! no clause says how what two seats have seen compares.
+//! What isn't promised: that a turn ever comes, or when. A seat that was dropped can't be brought
+//! to `close`. Before `close` no clause says how what two seats have seen compares.
 //!
-//! It stands on `atomic_table` of the kit, and on `tss_io` for its want of memory. The design is this project's own.
+//! It stands on `atomic_table` of the kit, and on `tss_io` for its want of memory. The design is
+//! this project's own.
 #![tactic(auto)]
 
 mod crossing;
