@@ -15,9 +15,9 @@ use Rattle.tss_io.proofs.FormLaws.{Chosen, ExactField, number_exact, choice_exac
 use Rattle.tss_io.proofs.KindLaws.{ExactKind}
 use Rattle.match_file.specs.declared.opening.Opening.{Opening}
 use Rattle.match_file.specs.Names.{is_letter, is_name_byte, is_name}
-use Rattle.match_file.specs.Text.{face_word, kind_word}
 use Rattle.match_file.specs.Kinds.{greatest, number_kind, length_kind, grid_kind, mirrors_kind, delays_kind, pace_kind, plan_kind, wall_kind, pickup_kind, player_kind, command_kind, tick_kind, turn_kind, arrive_kind, step_kind, world_kind, run_kind, restagger_kind}
 use Rattle.match_file.specs.Sections.{PlanFits, WallFits, PickupFits, PlayerFits, OrderFits, MirrorFits, CopyFits, ArriveFits, NextPlanFits}
+use Rattle.arena_rules.specs.Block.{face_word, kind_word}
 
 -- an opening whose numbers are small enough for its lines
 pub record IsSmall (o : Opening) : Type 0 where

@@ -11,7 +11,7 @@ use Rattle.tss_io.specs.Forms.{front_at}
 use Rattle.tss_io.specs.Kinds.{Kind, first_failing, is_right, line_at, once, keyword_step, fault_of}
 use Rattle.tss_io.specs.Runs.{at, Stop, run_to, ended, Follows, StopsAt, stop_at, FirstFault}
 use Rattle.tss_io.proofs.FormLaws.{through, front_err}
-use Rattle.tss_io.proofs.KindLaws.{once_is, step_fault, keyword_takes, keyword_fault}
+use Rattle.tss_io.proofs.KindLaws.{once_is, step_fault, keyword_takes, keyword_fault, fault_if, one_test}
 use Rattle.tss_io.proofs.RunLaws.{run_fault, line_first, bind_assoc, follows_keeps}
 use Rattle.tss_io.proofs.RunToLaws.{run_is, to_fault, first_checked}
 use Rattle.match_file.specs.declared.body.Body.{Body}
@@ -111,14 +111,6 @@ text_first n lines refused e =
 
 -- ---- the fault of a line is the first of its checks that fails
 
-fault_if : {T : Type 0} (b : Bool) (x y : Result T Cause) (xs ys : List (Bool × Cause)) → fault_of x ≡ first_failing xs → fault_of y ≡ first_failing ys → fault_of (cond b x y) ≡ first_failing (cond b xs ys)
-fault_if true x y xs ys h k = h
-fault_if false x y xs ys h k = k
-
-one_test : {T : Type 0} (b : Bool) (t : T) (c : Cause) → fault_of (cond b (Ok t) (Err c)) ≡ first_failing ((b, c) ∷ [])
-one_test true t c = refl
-one_test false t c = refl
-
 by_word_fault : (o : Opening) → IsSmall o → (b : Body) (word : List ℕ) (words : List (List ℕ)) → fault_of (by_word o b word words) ≡ first_failing (word_checks o b word words)
 unfolding by_word
 by_word_fault o small b word words =
@@ -204,7 +196,7 @@ line_fault (delays_due version length sides mirrors) l is = step_then (keyword_s
 line_fault (pace_due version length sides mirrors delays) l is = step_then (keyword_step (pace_kind delays) tt l) _ ∙ keyword_fault (pace_exact delays) tt l
 line_fault (in_body o b) l is = step_then (take o b l) (in_body o) ∙ take_fault o is b l
 
--- The line at which reading stops is the first faulty one, with its first failing check.
+-- the line at which reading stops is the first faulty one, with its first failing check
 pub first_of_stop : (n : ℕ) (lines : Lines) (refused : Refused) → StopsAt take_line at_last n head_due lines refused → FirstFault take_line checks_of at_last n head_due lines refused
 first_of_stop n lines refused h =
     first_checked take_line checks_of at_last IsDue line_fault n head_due lines refused (λ front t good. follows_keeps take_line at_last IsDue due_next head_due front t tt good) h

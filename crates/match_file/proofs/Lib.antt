@@ -5,6 +5,7 @@ mod FaultLaws
 mod LiftLaws
 mod MatchIsRead
 mod OpeningLaws
+pub mod Plans
 mod PrintLaws
 mod ReadIsMatch
 mod ReadLaws

@@ -35,6 +35,7 @@ use Rattle.match_file.specs.Sections.{PlanRight, WallRight, PickupRight, PlayerR
 use Rattle.match_file.specs.Text.{walls_of}
 use Rattle.match_file.proofs.WallLaws.{place, InGrid, rising_behind, walls_in_grid, in_columns, grid_has, grid_again, walls_rise}
 use Rattle.std.proofs.lemmas.List.Elements.{filter-append}
+use Rattle.game_trait.proofs.Lists.{all-first, all-second}
 
 -- ---- the parts of a match, as they are read
 
@@ -146,22 +147,14 @@ small_cell m x y is h =
     let high = is.layout.grid.height.1 in
     ((omega arith, omega arith), (omega arith, omega arith))
 
-all_front : {A : Type 0} (P : A → Type 0) (xs ys : List A) → AllByRecursion P (xs ++ ys) → AllByRecursion P xs
-all_front P [] ys h = tt
-all_front P (x ∷ xs) ys h = (h.0, all_front P xs ys h.1)
-
-all_back : {A : Type 0} (P : A → Type 0) (xs ys : List A) → AllByRecursion P (xs ++ ys) → AllByRecursion P ys
-all_back P [] ys h = h
-all_back P (x ∷ xs) ys h = all_back P xs ys h.1
-
 free_pickup : (m : MatchData) → IsMatch m → (front : List PickupSpot) (p : PickupSpot) (more : List PickupSpot) → m.layout.pickups ≡ front ++ p ∷ more → is_open m.layout.grid p.x p.y ≡ true
 free_pickup m is front p more e =
-    let all = all_front (λ c. is_open m.layout.grid c.x c.y ≡ true) (map pickup_cell m.layout.pickups) (map spot_cell m.layout.players) (of_list_all (λ c. is_open m.layout.grid c.x c.y) _ is.layout.free) in
+    let all = all-first (λ c. is_open m.layout.grid c.x c.y ≡ true) (map pickup_cell m.layout.pickups) (map spot_cell m.layout.players) (of_list_all (λ c. is_open m.layout.grid c.x c.y) _ is.layout.free) in
     all_at (λ p. is_open m.layout.grid p.x p.y ≡ true) front p more (rw e at (all_unmap (λ c. is_open m.layout.grid c.x c.y ≡ true) pickup_cell m.layout.pickups all))
 
 free_home : (m : MatchData) → IsMatch m → (front : List Spot) (s : Spot) (more : List Spot) → m.layout.players ≡ front ++ s ∷ more → is_open m.layout.grid s.x s.y ≡ true
 free_home m is front s more e =
-    let all = all_back (λ c. is_open m.layout.grid c.x c.y ≡ true) (map pickup_cell m.layout.pickups) (map spot_cell m.layout.players) (of_list_all (λ c. is_open m.layout.grid c.x c.y) _ is.layout.free) in
+    let all = all-second (λ c. is_open m.layout.grid c.x c.y ≡ true) (map pickup_cell m.layout.pickups) (map spot_cell m.layout.players) (of_list_all (λ c. is_open m.layout.grid c.x c.y) _ is.layout.free) in
     all_at (λ s. is_open m.layout.grid s.x s.y ≡ true) front s more (rw e at (all_unmap (λ c. is_open m.layout.grid c.x c.y ≡ true) spot_cell m.layout.players all))
 
 apart_pickup : (m : MatchData) → IsMatch m → (front : List PickupSpot) (p : PickupSpot) (more : List PickupSpot) → m.layout.pickups ≡ front ++ p ∷ more → has_pickup p.x p.y front ≡ false
@@ -351,7 +344,7 @@ is_read m is = record {
   ended = refl;
 }
 
--- The match that is read from its parts is the match.
+-- the match that is read from its parts is the match
 pub match_is : (m : MatchData) → IsMatch m → match_of (opening_of m) (body_of m) ≡ m
 match_is m is =
     let grid : walled (open_grid m.layout.grid.width m.layout.grid.height) (walls_of m.layout.grid m.layout.grid.width m.layout.grid.height) ≡ m.layout.grid = grid_again m.layout.grid is.layout.grid in

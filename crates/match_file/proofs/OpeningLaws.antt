@@ -7,7 +7,7 @@ use Rattle.game_trait.specs.declared.limits.TheConstants.{LONGEST_DELAY, MOST_CO
 use Rattle.tss_io.specs.Forms.{AreNumbers}
 use Rattle.tss_io.specs.Kinds.{Sound, is_long}
 use Rattle.tss_io.specs.Runs.{at, ahead}
-use Rattle.tss_io.proofs.Results.{then}
+use Rattle.tss_io.proofs.Results.{then, ok_is}
 use Rattle.tss_io.proofs.FormLaws.{through, same_words}
 use Rattle.tss_io.proofs.KindLaws.{line_text, line_takes, line_again, once_takes, once_again}
 use Rattle.tss_io.proofs.RunLaws.{either, at_takes}
@@ -21,9 +21,6 @@ use Rattle.std.proofs.lemmas.Bool.{leb-true}
 use Rattle.std.proofs.lemmas.List.{length-map}
 use Rattle.std.specs.Prelude.{decimal}
 
-same_ok : (x y : ℕ) → ◌≡◌ {A = Result ℕ Cause} (Ok x) (Ok y) → x ≡ y
-same_ok x y e = cc
-
 same_pair : (x y : ℕ × Lines) → ◌≡◌ {A = Result (ℕ × Lines) Cause} (Ok x) (Ok y) → x ≡ y
 same_pair x y e = cc
 
@@ -31,9 +28,9 @@ same_pair x y e = cc
 pub version_takes : (l : List ℕ) (version : ℕ) → head_version l ≡ Ok version → (l ≡ head_line version) × ((version ≡ 1) ⊎ (version ≡ 2))
 version_takes l version e =
     either (bytes_eq l (codes "tss match 1")) _ _ _
-    (λ same e. let v : 1 ≡ version = same_ok 1 version e in rw (← v) (same_words l (codes "tss match 1") same, inl refl))
+    (λ same e. let v : 1 ≡ version = ok_is 1 version e in rw (← v) (same_words l (codes "tss match 1") same, inl refl))
     (λ _ e. either (bytes_eq l (codes "tss match 2")) _ _ _
-    (λ same e. let v : 2 ≡ version = same_ok 2 version e in rw (← v) (same_words l (codes "tss match 2") same, inr refl))
+    (λ same e. let v : 2 ≡ version = ok_is 2 version e in rw (← v) (same_words l (codes "tss match 2") same, inr refl))
     (λ _ e. absurd cc) e) e
 
 pub version_again : (version : ℕ) → (version ≡ 1) ⊎ (version ≡ 2) → head_version (head_line version) ≡ Ok version

@@ -1,7 +1,7 @@
 -- What is printed of a match is its text.
 use Rattle.std.proofs.Common.{◌≡◌, ℕ, zero, suc, ◌+◌, ◌<◌, Bool, true, false, eqb, ltb, List, [], ◌∷◌, ◌++◌, length, map, take, refl, sym, ap, ◌∙◌, get_or, arith}
 use Rattle.std.specs.Prelude.{codes, not, slice_get, unwrap_or}
-use Rattle.std.proofs.lemmas.Bool.{lt-ltb, and_parts}
+use Rattle.std.proofs.lemmas.Bool.{lt-ltb, and_parts, not-true}
 use Rattle.std.proofs.lemmas.Bool.Decides.{nat_tests}
 use Rattle.std.proofs.lemmas.List.{map-append}
 use Rattle.arena_rules.specs.declared.spot.Spot.{Spot}
@@ -15,10 +15,6 @@ use Rattle.match_file.specs.Text.{head_line, number_line, grid_line, delays_line
 
 -- ---- walls
 
-not_it : (b : Bool) → not b ≡ true → b ≡ false
-not_it true h = absurd cc
-not_it false h = refl
-
 is_it : (b : Bool) → not b ≡ false → b ≡ true
 is_it true h = refl
 is_it false h = absurd cc
@@ -27,7 +23,7 @@ open_parts : (g : Grid) (x y : ℕ) (b : Bool) → b ≡ is_open g x y → b ≡
 unfolding is_open
 open_parts g x y b e h =
     let parts = and_parts (ltb y g.height) (not (is_walled g x y)) (and_parts (ltb x g.width) _ (sym e ∙ h)).1 in
-    not_it (is_walled g x y) parts.1
+    not-true (is_walled g x y) parts.1
 
 pub open_bare : (g : Grid) (x y : ℕ) → is_open g x y ≡ true → is_walled g x y ≡ false
 open_bare g x y h = open_parts g x y (is_open g x y) refl h

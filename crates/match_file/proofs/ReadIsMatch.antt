@@ -2,7 +2,7 @@
 use Rattle.std.proofs.Common.{◌≡◌, ℕ, ◌+◌, ◌<◌, ◌≤◌, Bool, true, false, cond, eqb, ltb, ◌&&◌, ◌||◌, List, [], ◌∷◌, ◌++◌, length, map, filter, refl, sym, ap, ◌∙◌, length-append, append_assoc, lit≤, arith}
 use Rattle.std.specs.Prelude.{bytes_eq, not, count_by}
 use Rattle.std.specs.List.{AllByRecursion, IsDistinct, list_any, list_all}
-use Rattle.std.proofs.lemmas.Bool.{ltb-true, leb-true, and_parts}
+use Rattle.std.proofs.lemmas.Bool.{ltb-true, leb-true, and_parts, not-true}
 use Rattle.std.proofs.lemmas.List.{length-map, map-append, append-nil}
 use Rattle.std.proofs.lemmas.List.Elements.{filter-append}
 use Rattle.std.proofs.lemmas.List.Sums.{length-filter}
@@ -33,7 +33,8 @@ use Rattle.match_file.specs.Kinds.{is_open as stage_open, is_ended, is_none, in_
 use Rattle.match_file.specs.Reading.{walled, match_of}
 use Rattle.match_file.specs.Sections.{PlanRight, WallRight, PickupRight, PlayerRight, CommandRight, ScriptRight, IsRead}
 use Rattle.match_file.proofs.OpeningLaws.{opening_small}
-use Rattle.match_file.proofs.WallLaws.{place, InGrid, LastSmall, next_place, last_push, last_step, behind_place, walled_width, walled_height, walled_grid, walled_has}
+use Rattle.match_file.proofs.WallLaws.{place, InGrid, LastSmall, next_place, last_push, last_step, behind_place, walled_width, walled_height, walled_grid, walled_has, rises_push}
+use Rattle.tss_io.proofs.RunLaws.{all_append}
 
 -- ---- delays
 
@@ -75,11 +76,6 @@ no_walls : (o : Opening) → WallsSoFar o []
 unfolding DelaysRise
 no_walls o = record { within = tt; rise = tt; below = tt; last = tt; few = lit≤ tt }
 
-rises_push : (xs : List ℕ) (a : ℕ) → DelaysRise xs → AllByRecursion (λ x. x < a) xs → DelaysRise (xs ++ a ∷ [])
-unfolding DelaysRise
-rises_push [] a h below = (tt, tt)
-rises_push (x ∷ xs) a h below = (all_push (λ y. x < y) xs a h.0 below.0, rises_push xs a h.1 below.1)
-
 wall_more : (o : Opening) → o.width ≤ 64 → (before : List Cell) (c : Cell) → WallsSoFar o before → WallRight o before c → WallsSoFar o (before ++ c ∷ [])
 wall_more o narrow before c w r =
     let in_it = and_parts (ltb c.x o.width) (ltb c.y o.height) r.tests.0 in
@@ -120,21 +116,17 @@ no_wall : (b : Bool) → not b ≡ true → not (b || false) ≡ true
 no_wall true h = absurd cc
 no_wall false h = refl
 
-not_true : (b : Bool) → not b ≡ true → b ≡ false
-not_true true h = absurd cc
-not_true false h = refl
-
 no_pickup : (x y : ℕ) (pickups : List PickupSpot) → not (has_pickup x y pickups) ≡ true → list_any (λ p. eqb p.x x && eqb p.y y) pickups ≡ false
 unfolding has_pickup
-no_pickup x y pickups h = not_true _ h
+no_pickup x y pickups h = not-true _ h
 
 no_home : (x y : ℕ) (players : List Player) → not (has_home x y players) ≡ true → list_any (λ p. eqb p.home.x x && eqb p.home.y y) players ≡ false
 unfolding has_home
-no_home x y players h = not_true _ h
+no_home x y players h = not-true _ h
 
 no_name : (name : List ℕ) (players : List Player) → not (has_name name players) ≡ true → list_any (λ p. bytes_eq p.name name) players ≡ false
 unfolding has_name
-no_name name players h = not_true _ h
+no_name name players h = not-true _ h
 
 no_cells : IsDistinct same_cell []
 unfolding IsDistinct
@@ -147,10 +139,6 @@ no_names = tt
 no_commands : NamesDiffer []
 unfolding NamesDiffer
 no_commands = tt
-
-all_append : {A : Type 0} (P : A → Type 0) (xs ys : List A) → AllByRecursion P xs → AllByRecursion P ys → AllByRecursion P (xs ++ ys)
-all_append P [] ys h k = k
-all_append P (x ∷ xs) ys h k = (h.0, all_append P xs ys h.1 k)
 
 free_cell : (o : Opening) (walls : List Cell) (x y : ℕ) → IsGrid (open_grid o.width o.height) → InGrid o.width o.height walls → in_grid o x y ≡ true → not (has_wall x y walls) ≡ true → is_open (walled (open_grid o.width o.height) walls) x y ≡ true
 unfolding is_open is_walled
@@ -201,7 +189,7 @@ names_apart o walls pickups players h =
 
 commands_apart : (o : Opening) (players : List Player) (commands : List Command) → EachAfter (CommandRight o players) [] commands → NamesDiffer commands
 commands_apart o players commands h =
-    each_keeps (CommandRight o players) NamesDiffer (λ before c inv r. names-push before c inv (not_true _ r.tests.1.0)) [] commands no_commands h
+    each_keeps (CommandRight o players) NamesDiffer (λ before c inv r. names-push before c inv (not-true _ r.tests.1.0)) [] commands no_commands h
 
 -- ---- the script
 

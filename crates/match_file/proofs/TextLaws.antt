@@ -245,6 +245,10 @@ pub at_only : (first n : ℕ) (text : List ℕ) (fault : LineFault) → FailsAt 
 at_only first n text line_faults.NoMemory h m rest is e = tt
 at_only first n text (line_faults.Refused cause) h m rest is e = absurd (no_reading _ _ (refused_at n cause) (front_reads first text rest m is e) h)
 
+pub at_fails : {Y : Type 0} (n : ℕ) (fault : LineFault) (r : Result Y Refused) → FailsAt n fault r → Fails (fault_at n fault) r
+at_fails n line_faults.NoMemory r h = tt
+at_fails n (line_faults.Refused cause) r h = h
+
 pub at_refused : (first n : ℕ) (text : List ℕ) (fault : LineFault) → FailsAt n fault (read_match first (lines_of text)) → IsFirstAt first text (fault_at n fault)
 at_refused first n text line_faults.NoMemory h = tt
 at_refused first n text (line_faults.Refused cause) h = front_refused first (lines_of text) (refused_at n cause) h

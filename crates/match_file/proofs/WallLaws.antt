@@ -16,6 +16,7 @@ use Rattle.match_file.specs.declared.cell.Cell.{Cell}
 use Rattle.match_file.specs.Kinds.{has_wall, is_behind, last_cell}
 use Rattle.match_file.specs.Reading.{walled}
 use Rattle.match_file.specs.Text.{walls_in_row, walls_of}
+use Rattle.tss_io.proofs.RunLaws.{all_append}
 
 -- ---- cells as numbers
 
@@ -30,14 +31,11 @@ mem n ns = list_any (λ k. eqb k n) ns
 
 -- ---- rising numbers
 
-rises_push : (xs : List ℕ) (a : ℕ) → DelaysRise xs → AllByRecursion (λ x. x < a) xs → DelaysRise (xs ++ a ∷ [])
+-- one greater number behind rising ones
+pub rises_push : (xs : List ℕ) (a : ℕ) → DelaysRise xs → AllByRecursion (λ x. x < a) xs → DelaysRise (xs ++ a ∷ [])
 unfolding DelaysRise
 rises_push [] a h below = (tt, tt)
 rises_push (x ∷ xs) a h below = (all_push (λ y. x < y) xs a h.0 below.0, rises_push xs a h.1 below.1)
-
-all_append : (P : ℕ → Type 0) (xs ys : List ℕ) → AllByRecursion P xs → AllByRecursion P ys → AllByRecursion P (xs ++ ys)
-all_append P [] ys h k = k
-all_append P (x ∷ xs) ys h k = (h.0, all_append P xs ys h.1 k)
 
 rises_append : (k : ℕ) (xs ys : List ℕ) → DelaysRise xs → DelaysRise ys → AllByRecursion (λ x. x < k) xs → AllByRecursion (λ y. k ≤ y) ys → DelaysRise (xs ++ ys)
 unfolding DelaysRise
@@ -301,7 +299,7 @@ grid_has g x y is =
       | false ↦ λ e. nothing (ltb y g.height) (ltb x g.width)
     ] refl
 
--- The walls of a grid made of rising cells are those cells.
+-- the walls of a grid made of rising cells are those cells
 pub walls_again : (width height : ℕ) (cells : List Cell) → IsGrid (open_grid width height) → InGrid width height cells → DelaysRise (map place cells) → walls_of (walled (open_grid width height) cells) width height ≡ cells
 walls_again width height cells is within rise =
     let g = walled (open_grid width height) cells in
@@ -348,7 +346,7 @@ same_grids g h wide high long same =
     let rows : g.walls ≡ h.walls = same_rows g.walls h.walls long same in
     λ i. record { width = wide i; height = high i; walls = rows i }
 
--- A grid is the open one with its walls walled.
+-- a grid is the open one with its walls walled
 pub grid_again : (g : Grid) → IsGrid g → walled (open_grid g.width g.height) (walls_of g g.width g.height) ≡ g
 grid_again g is =
     let empty : IsGrid (open_grid g.width g.height) = IsGrid-open_grid g.width g.height is.width.0 is.width.1 is.height.0 is.height.1 in

@@ -1,5 +1,5 @@
 -- A match as contracts see it, and which values are matches.
-use Rattle.std.specs.Prelude.{ℕ, ◌≡◌, ◌⊎◌, ◌<◌, ◌≤◌, ◌==◌, Bool, true, false, if◌then◌else◌, List, length, count_by, bytes_eq}
+use Rattle.std.specs.Prelude.{ℕ, ◌≡◌, ◌⊎◌, ◌<◌, ◌≤◌, ◌==◌, Bool, true, false, if◌then◌else◌, List, ◌∷◌, map, length, count_by, bytes_eq}
 use Rattle.std.specs.List.{AllByRecursion, IsDistinct}
 use Rattle.game_trait.specs.declared.command.Command.{Command}
 use Rattle.game_trait.specs.declared.limits.TheConstants.{LONGEST_MATCH, MOST_MIRRORS, MOST_PLANS, MOST_PLAYERS, MOST_PLAYERS_IN_1, MOST_COMMANDS, MOST_SCRIPT_LINES, MOST_SHOWING_LINES, GREATEST_NUMBER}
@@ -13,8 +13,9 @@ use Rattle.match_file.specs.declared.script_line.ScriptLine.TheVariants.{Tick, T
 use Rattle.match_file.specs.declared.versions.TheConstants.{MOST_COMMANDS_IN_2}
 use Rattle.match_file.specs.Names.{is_name}
 
--- a match: its text's version, so many ticks, so many mirrors, the delays of their copies and the further plans of delays, the
--- pace, how the world begins, the players' names, the commands in the order of their lines, and the script
+-- a match: its text's version, so many ticks, so many mirrors, the delays of their copies and the
+-- further plans of delays, the pace, how the world begins, the players' names, the commands in the
+-- order of their lines, and the script
 pub record MatchData : Type 0 where
   pub version : ℕ
   pub length : ℕ
@@ -39,7 +40,16 @@ most_commands version = if version == 1 then MOST_COMMANDS else MOST_COMMANDS_IN
 abbrev pub schedule_of : MatchData → List ℕ → Schedule
 schedule_of m delays = record { delays = delays; length = m.length }
 
--- a command of a match: due within it, of a mirror and a player that are there, with an act of the version
+-- the plans of a match, plan 0 first
+abbrev pub all_plans : MatchData → List (List ℕ)
+all_plans m = m.delays ∷ m.plans
+
+-- the schedules of these
+abbrev pub schedules : MatchData → List Schedule
+schedules m = map (schedule_of m) (all_plans m)
+
+-- a command of a match: due within it, of a mirror and a player that are there, with an act of the
+-- version
 pub record IsCommand (m : MatchData) (x : Command) : Type 0 where
   pub time : x.time < m.length
   pub from : x.from < m.mirrors
@@ -51,7 +61,9 @@ pub record IsCommand (m : MatchData) (x : Command) : Type 0 where
 abbrev pub IsScriptLine : MatchData → ScriptLine → Type 0
 IsScriptLine m (Tick mirror) = mirror < m.mirrors
 IsScriptLine m (Turn mirror) = mirror < m.mirrors
-IsScriptLine m (Arrive mirror from number) = (mirror < m.mirrors) × (from < m.mirrors) × (number ≤ GREATEST_NUMBER) × (has_command m.commands from number ≡ true)
+IsScriptLine m (Arrive mirror from number) =
+    (mirror < m.mirrors) × (from < m.mirrors) × (number ≤ GREATEST_NUMBER)
+    × (has_command m.commands from number ≡ true)
 IsScriptLine m (Step mirror copy) = (mirror < m.mirrors) × (copy < length m.delays)
 IsScriptLine m (World mirror copy) = (mirror < m.mirrors) × (copy < length m.delays)
 IsScriptLine m (Run mirror copy) = (mirror < m.mirrors) × (copy < length m.delays)
@@ -74,7 +86,8 @@ pub record IsMatch (m : MatchData) : Type 0 where
   pub mirrors : (1 ≤ m.mirrors) × (m.mirrors ≤ MOST_MIRRORS)
   pub delays : IsSchedule (schedule_of m m.delays)
   pub plan_count : length m.plans < MOST_PLANS
-  pub plans : AllByRecursion (λ p. IsSchedule (schedule_of m p) × (length p ≡ length m.delays)) m.plans
+  pub plans : AllByRecursion
+      (λ p. IsSchedule (schedule_of m p) × (length p ≡ length m.delays)) m.plans
   pub pace : m.pace ≤ longest_delay m.delays
   pub layout : IsLayout m.layout
   pub player_count : length m.names ≤ most_players m.version

@@ -1,4 +1,5 @@
--- The kinds of line of a match text, each with its words, its place, its count and its further checks in their order.
+-- The kinds of line of a match text, each with its words, its place, its count and its further
+-- checks in their order.
 use Rattle.std.specs.Prelude.{ℕ, ◌-◌, ◌^◌, Bool, true, false, ◌&&◌, ◌||◌, not, nat_lt, nat_le, ◌==◌, List, [], ◌∷◌, ◌++◌, length, Option, Some, None, bytes_eq, codes, slice_get, count_by}
 use Rattle.std.specs.List.{list_any}
 use Rattle.game_trait.specs.declared.command.Act.{Act}
@@ -27,7 +28,7 @@ use Rattle.match_file.specs.declared.script_line.ScriptLine.{ScriptLine}
 use Rattle.match_file.specs.declared.script_line.ScriptLine.TheVariants.{Tick, Turn, Arrive, Step, World, Run, Restagger}
 use Rattle.match_file.specs.Data.{most_players, most_commands, shows}
 use Rattle.match_file.specs.Names.{is_name}
-use Rattle.match_file.specs.Text.{face_word, kind_word}
+use Rattle.arena_rules.specs.Block.{face_word, kind_word}
 
 -- ---- where the text stands
 
@@ -59,7 +60,8 @@ in_grid o x y = nat_lt x o.width && nat_lt y o.height
 -- the cell stands behind this one, row by row
 abbrev pub is_behind : Cell → Option Cell → Bool
 is_behind cell None = true
-is_behind cell (Some other) = nat_lt other.y cell.y || ((other.y == cell.y) && nat_lt other.x cell.x)
+is_behind cell (Some other) =
+    nat_lt other.y cell.y || ((other.y == cell.y) && nat_lt other.x cell.x)
 
 -- the last of the cells
 abbrev pub last_cell : List Cell → Option Cell
@@ -146,7 +148,9 @@ abbrev pub plan_kind : Opening → Kind Body (List (List ℕ)) (List ℕ) Body
 plan_kind o = record {
   keyword = codes "plan";
   form = λ _. numbers_of (length o.delays) 0 LONGEST_DELAY;
-  stands = λ b. is_open b.stage && (is_none b.walls && (is_none b.pickups && (is_none b.players && is_none b.commands)));
+  stands = λ b.
+      is_open b.stage
+      && (is_none b.walls && (is_none b.pickups && (is_none b.players && is_none b.commands)));
   room = λ b _. nat_lt (length b.plans) (MOST_PLANS - 1);
   tests = λ _ delays. (rises delays, Order) ∷ [];
   put = λ b delays. record b { plans = b.plans ++ delays ∷ [] };
@@ -155,10 +159,12 @@ plan_kind o = record {
 abbrev pub wall_kind : Opening → Kind Body (List ℕ × List ℕ) Cell Body
 wall_kind o = record {
   keyword = codes "wall";
-  form = λ _. made (λ c. record { x = c.0; y = c.1 }) (λ c. (c.x, c.y)) (number 0 greatest & only (number 0 greatest));
+  form = λ _. made (λ c. record { x = c.0; y = c.1 }) (λ c. (c.x, c.y))
+      (number 0 greatest & only (number 0 greatest));
   stands = λ b. is_open b.stage && (is_none b.pickups && (is_none b.players && is_none b.commands));
   room = λ _ _. true;
-  tests = λ b cell. (in_grid o cell.x cell.y, Place) ∷ (is_behind cell (last_cell b.walls), Order) ∷ [];
+  tests = λ b cell.
+      (in_grid o cell.x cell.y, Place) ∷ (is_behind cell (last_cell b.walls), Order) ∷ [];
   put = λ b cell. record b { walls = b.walls ++ cell ∷ [] };
 }
 
@@ -169,7 +175,9 @@ pickup_kind o = record {
       (number 0 greatest & number 0 greatest & only (choice kind_word (Ammo ∷ Heal ∷ Gold ∷ [])));
   stands = λ b. is_open b.stage && (is_none b.players && is_none b.commands);
   room = λ b _. nat_lt (length b.pickups) MOST_PICKUPS;
-  tests = λ b p. (in_grid o p.x p.y, Place) ∷ (not (has_wall p.x p.y b.walls), Place) ∷ (not (has_pickup p.x p.y b.pickups), Place) ∷ [];
+  tests = λ b p.
+      (in_grid o p.x p.y, Place) ∷ (not (has_wall p.x p.y b.walls), Place)
+      ∷ (not (has_pickup p.x p.y b.pickups), Place) ∷ [];
   put = λ b p. record b { pickups = b.pickups ++ p ∷ [] };
 }
 
@@ -182,7 +190,9 @@ player_fields p = (p.name, (p.home.x, (p.home.y, p.home.face)))
 abbrev pub player_kind : Opening → Kind Body (List ℕ × (List ℕ × (List ℕ × Face))) Player Body
 player_kind o = record {
   keyword = codes "player";
-  form = λ _. made player_of player_fields (any_word & number 0 greatest & number 0 greatest & only (choice face_word (N ∷ E ∷ S ∷ W ∷ [])));
+  form = λ _. made player_of player_fields
+      (any_word & number 0 greatest & number 0 greatest & only
+      (choice face_word (N ∷ E ∷ S ∷ W ∷ [])));
   stands = λ b. is_open b.stage && is_none b.commands;
   room = λ b _. nat_lt (length b.players) (most_players o.version);
   tests = λ b p.
@@ -198,15 +208,23 @@ player_kind o = record {
 
 -- the numbers that a command of this match may have at first sight
 abbrev pub ranges_of : Opening → CommandRanges
-ranges_of o = record { last_time = o.length - 1; last_mirror = o.mirrors - 1; last_player = last_player o.version }
+ranges_of o =
+    record {
+      last_time = o.length - 1;
+      last_mirror = o.mirrors - 1;
+      last_player = last_player o.version;
+    }
 
-abbrev pub command_kind : Opening → Kind Body (List ℕ × (List ℕ × (List ℕ × (List ℕ × Act)))) Command Body
+abbrev pub command_kind : Opening
+    → Kind Body (List ℕ × (List ℕ × (List ℕ × (List ℕ × Act)))) Command Body
 command_kind o = record {
   keyword = codes "cmd";
   form = λ _. command_form o.version (ranges_of o);
   stands = λ b. is_open b.stage && not (is_none b.players);
   room = λ b _. nat_lt (length b.commands) (most_commands o.version);
-  tests = λ b c. (nat_lt c.player (length b.players), Name) ∷ (not (has_command b.commands c.from c.number), Name) ∷ [];
+  tests = λ b c.
+      (nat_lt c.player (length b.players), Name)
+      ∷ (not (has_command b.commands c.from c.number), Name) ∷ [];
   put = λ b c. record b { commands = b.commands ++ c ∷ [] };
 }
 
@@ -220,7 +238,8 @@ has_room script = nat_lt (length script) MOST_SCRIPT_LINES
 abbrev pub has_showing_room : List ScriptLine → Bool
 has_showing_room script = has_room script && nat_lt (count_by shows script) MOST_SHOWING_LINES
 
-abbrev pub script_kind : {R A : Type 0} → List ℕ → Form R A → (A → ScriptLine) → (List ScriptLine → Bool) → (Body → A → List (Bool × Cause)) → Kind Body R A Body
+abbrev pub script_kind : {R A : Type 0} → List ℕ → Form R A → (A → ScriptLine)
+    → (List ScriptLine → Bool) → (Body → A → List (Bool × Cause)) → Kind Body R A Body
 script_kind keyword form event room tests = record {
   keyword = keyword;
   form = λ _. form;
@@ -240,7 +259,8 @@ copy_form o = number 0 (o.mirrors - 1) & only (number 0 (length o.delays - 1))
 
 -- the mirror, and the name of what arrives there
 abbrev pub arrive_form : Opening → Form (List ℕ × (List ℕ × List ℕ)) (ℕ × (ℕ × ℕ))
-arrive_form o = number 0 (o.mirrors - 1) & number 0 (o.mirrors - 1) & only (number 0 GREATEST_NUMBER)
+arrive_form o =
+    number 0 (o.mirrors - 1) & number 0 (o.mirrors - 1) & only (number 0 GREATEST_NUMBER)
 
 -- a mirror and a plan
 abbrev pub plan_form : Opening → Form (List ℕ × List ℕ) (ℕ × ℕ)
@@ -253,16 +273,21 @@ abbrev pub turn_kind : Opening → Kind Body (List ℕ) ℕ Body
 turn_kind o = script_kind (codes "turn") (mirror_form o) (λ m. Turn m) has_room (λ _ _. [])
 
 abbrev pub arrive_kind : Opening → Kind Body (List ℕ × (List ℕ × List ℕ)) (ℕ × (ℕ × ℕ)) Body
-arrive_kind o = script_kind (codes "arrive") (arrive_form o) (λ a. Arrive a.0 a.1.0 a.1.1) has_room (λ b a. (has_command b.commands a.1.0 a.1.1, Name) ∷ [])
+arrive_kind o =
+    script_kind (codes "arrive") (arrive_form o) (λ a. Arrive a.0 a.1.0 a.1.1) has_room
+    (λ b a. (has_command b.commands a.1.0 a.1.1, Name) ∷ [])
 
 abbrev pub step_kind : Opening → Kind Body (List ℕ × List ℕ) (ℕ × ℕ) Body
 step_kind o = script_kind (codes "step") (copy_form o) (λ a. Step a.0 a.1) has_room (λ _ _. [])
 
 abbrev pub world_kind : Opening → Kind Body (List ℕ × List ℕ) (ℕ × ℕ) Body
-world_kind o = script_kind (codes "world") (copy_form o) (λ a. World a.0 a.1) has_showing_room (λ _ _. [])
+world_kind o =
+    script_kind (codes "world") (copy_form o) (λ a. World a.0 a.1) has_showing_room (λ _ _. [])
 
 abbrev pub run_kind : Opening → Kind Body (List ℕ × List ℕ) (ℕ × ℕ) Body
 run_kind o = script_kind (codes "run") (copy_form o) (λ a. Run a.0 a.1) has_showing_room (λ _ _. [])
 
 abbrev pub restagger_kind : Opening → Kind Body (List ℕ × List ℕ) (ℕ × ℕ) Body
-restagger_kind o = script_kind (codes "restagger") (plan_form o) (λ a. Restagger a.0 a.1) has_room (λ b a. (nat_le a.1 (length b.plans), Number) ∷ [])
+restagger_kind o =
+    script_kind (codes "restagger") (plan_form o) (λ a. Restagger a.0 a.1) has_room
+    (λ b a. (nat_le a.1 (length b.plans), Number) ∷ [])

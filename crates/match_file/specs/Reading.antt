@@ -50,10 +50,13 @@ may_end b = may_open b || (is_script b.stage && not (is_none b.script))
 -- a line of the body
 unfoldable pub take : Opening → Body → List ℕ → Result Body Cause
 take o b l =
-    if bytes_eq l (codes "script") then (if may_open b then Ok (record b { stage = InScript }) else Err Shape)
-    else (if bytes_eq l (codes "end") then (if may_end b then Ok (record b { stage = Ended }) else Err Shape)
+    if bytes_eq l (codes "script")
+    then (if may_open b then Ok (record b { stage = InScript }) else Err Shape)
+    else (if bytes_eq l (codes "end")
+    then (if may_end b then Ok (record b { stage = Ended }) else Err Shape)
     else (front_at (words_of l) >>= λ front. by_word o b front.0 front.1))
 
+-- behind the line that led here no line may come
 abbrev pub is_last : Body → Bool
 is_last b = is_ended b.stage
 
@@ -74,7 +77,9 @@ word_checks o b word words =
     else (if bytes_eq word (codes "plan") then all_tests (plan_kind o) b words
     else (false, Shape) ∷ [])))))))))))
 
-abbrev pub behind_checks : Opening → Body → Result (List ℕ × List (List ℕ)) Cause → List (Bool × Cause)
+-- every check of a line that is told by its first word, once that is cut off
+abbrev pub behind_checks : Opening → Body → Result (List ℕ × List (List ℕ)) Cause
+    → List (Bool × Cause)
 behind_checks o b (Ok front) = word_checks o b front.0 front.1
 behind_checks o b (Err cause) = (false, Shape) ∷ []
 
@@ -89,8 +94,11 @@ body_checks o b l =
 
 -- the version that the first line names
 abbrev pub head_version : List ℕ → Result ℕ Cause
-head_version l = if bytes_eq l (codes "tss match 1") then Ok 1 else (if bytes_eq l (codes "tss match 2") then Ok 2 else Err Head)
+head_version l =
+    if bytes_eq l (codes "tss match 1") then Ok 1
+    else (if bytes_eq l (codes "tss match 2") then Ok 2 else Err Head)
 
+-- the version, and the lines behind the first
 unfoldable pub head_at : Lines → Result (ℕ × Lines) Cause
 head_at lines = line_at lines >>= λ l. head_version l.0 >>= λ version. Ok (version, l.1)
 
@@ -103,16 +111,38 @@ opening_at n lines = do
   mirrors ← at (n + 3) (once mirrors_kind tt grid.1)
   delays ← at (n + 4) (once delays_kind tt mirrors.1)
   pace ← at (n + 5) (once (pace_kind delays.0) tt delays.1)
-  Ok (record { version = head.0; length = length.0; width = grid.0.0; height = grid.0.1; mirrors = mirrors.0; delays = delays.0; pace = pace.0 }, pace.1)
+  Ok (
+    record {
+      version = head.0;
+      length = length.0;
+      width = grid.0.0;
+      height = grid.0.1;
+      mirrors = mirrors.0;
+      delays = delays.0;
+      pace = pace.0;
+    },
+    pace.1,
+  )
 
 -- ---- the whole text
 
+-- nothing was read behind the pace
 abbrev pub no_body : Body
-no_body = record { stage = Open; plans = []; walls = []; pickups = []; players = []; commands = []; script = [] }
+no_body = record {
+  stage = Open;
+  plans = [];
+  walls = [];
+  pickups = [];
+  players = [];
+  commands = [];
+  script = [];
+}
 
 -- the lines of a match text, of which the first has this number, and where they end
 unfoldable pub match_at : ℕ → Lines → Result (Opening × Stop Body) Refused
-match_at n lines = opening_at n lines >>= λ opening. run_to (take opening.0) is_last (n + 6) no_body opening.1 >>= λ stop. Ok (opening.0, stop)
+match_at n lines =
+    opening_at n lines >>= λ opening.
+    run_to (take opening.0) is_last (n + 6) no_body opening.1 >>= λ stop. Ok (opening.0, stop)
 
 -- the grid with these cells walled too
 unfoldable pub walled : Grid → List Cell → Grid
@@ -128,7 +158,11 @@ match_of o b = record {
   delays = o.delays;
   plans = b.plans;
   pace = o.pace;
-  layout = record { grid = walled (open_grid o.width o.height) b.walls; pickups = b.pickups; players = map (λ p. p.home) b.players };
+  layout = record {
+    grid = walled (open_grid o.width o.height) b.walls;
+    pickups = b.pickups;
+    players = map (λ p. p.home) b.players;
+  };
   names = map (λ p. p.name) b.players;
   commands = b.commands;
   script = b.script;
@@ -138,7 +172,8 @@ match_of o b = record {
 abbrev pub as_match : Opening × Stop Body → MatchData × Stop (Unit {0})
 as_match x = (match_of x.0 x.1.state, record { state = tt; next = x.1.next; rest = x.1.rest })
 
--- the match of the lines from this number on, the number of the line behind it, and the lines from that one on
+-- the match of the lines from this number on, the number of the line behind it, and the lines from
+-- that one on
 unfoldable pub read_match : ℕ → Lines → Result (MatchData × Stop (Unit {0})) Refused
 read_match n lines = match_at n lines >>= λ x. Ok (as_match x)
 
@@ -164,14 +199,26 @@ pub data At : Type 0 where
 abbrev pub take_line : At → List ℕ → Result At Cause
 take_line head_due l = head_version l >>= λ version. Ok (length_due version)
 take_line (length_due version) l = keyword_step length_kind tt l >>= λ n. Ok (grid_due version n)
-take_line (grid_due version length) l = keyword_step grid_kind tt l >>= λ sides. Ok (mirrors_due version length sides)
-take_line (mirrors_due version length sides) l = keyword_step mirrors_kind tt l >>= λ n. Ok (delays_due version length sides n)
-take_line (delays_due version length sides mirrors) l = keyword_step delays_kind tt l >>= λ delays. Ok (pace_due version length sides mirrors delays)
+take_line (grid_due version length) l =
+    keyword_step grid_kind tt l >>= λ sides. Ok (mirrors_due version length sides)
+take_line (mirrors_due version length sides) l =
+    keyword_step mirrors_kind tt l >>= λ n. Ok (delays_due version length sides n)
+take_line (delays_due version length sides mirrors) l =
+    keyword_step delays_kind tt l >>= λ delays. Ok (pace_due version length sides mirrors delays)
 take_line (pace_due version length sides mirrors delays) l =
-    keyword_step (pace_kind delays) tt l >>= λ n. Ok (in_body (record { version = version; length = length; width = sides.0; height = sides.1; mirrors = mirrors; delays = delays; pace = n }) no_body)
+    keyword_step (pace_kind delays) tt l >>= λ n.
+    Ok (in_body (record {
+      version = version;
+      length = length;
+      width = sides.0;
+      height = sides.1;
+      mirrors = mirrors;
+      delays = delays;
+      pace = n;
+    }) no_body)
 take_line (in_body o b) l = take o b l >>= λ c. Ok (in_body o c)
 
--- Every check of the line, in their order.
+-- every check of the line, in their order
 abbrev pub checks_of : At → List ℕ → List (Bool × Cause)
 checks_of head_due l = (is_right (head_version l), Head) ∷ []
 checks_of (length_due version) l = keyword_checks length_kind tt l
@@ -191,15 +238,18 @@ at_last (delays_due version length sides mirrors) = false
 at_last (pace_due version length sides mirrors delays) = false
 at_last (in_body o b) = is_last b
 
--- The refusal names the first faulty line of a match text that begins here with the line of this number, and that line's first
--- failing check.
+-- the refusal names the first faulty line of a match text that begins here with the line of this
+-- number, and that line's first failing check
 abbrev pub IsFirstAt : ℕ → List ℕ → TextFault → Type 0
 IsFirstAt n text text_faults.NoMemory = Unit {0}
-IsFirstAt n text (text_faults.Refused refused) = FirstFault take_line checks_of at_last n head_due (lines_of text) refused
+IsFirstAt n text (text_faults.Refused refused) =
+    FirstFault take_line checks_of at_last n head_due (lines_of text) refused
 
--- The refusal is of the whole text for its length, or names the first faulty line and that line's first failing check.
+-- the refusal is of the whole text for its length, or names the first faulty line and that line's
+-- first failing check
 abbrev pub IsFirst : List ℕ → TextFault → Type 0
 IsFirst text text_faults.NoMemory = Unit {0}
 IsFirst text (text_faults.Refused refused) =
     ((LONGEST_MATCH_TEXT < length text) × (refused ≡ refused_at 0 Long))
-    ⊎ ((length text ≤ LONGEST_MATCH_TEXT) × FirstFault take_line checks_of at_last 1 head_due (lines_of text) refused)
+    ⊎ ((length text ≤ LONGEST_MATCH_TEXT)
+    × FirstFault take_line checks_of at_last 1 head_due (lines_of text) refused)

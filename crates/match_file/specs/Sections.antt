@@ -31,7 +31,9 @@ abbrev pub PickupFits : Body → PickupSpot → Type 0
 PickupFits b p = InRange 0 greatest p.x × (InRange 0 greatest p.y × Unit {0})
 
 abbrev pub PlayerFits : Body → Player → Type 0
-PlayerFits b p = (is_word p.name ≡ true) × (InRange 0 greatest p.home.x × (InRange 0 greatest p.home.y × Unit {0}))
+PlayerFits b p =
+    (is_word p.name ≡ true)
+    × (InRange 0 greatest p.home.x × (InRange 0 greatest p.home.y × Unit {0}))
 
 abbrev pub OrderFits : Opening → Body → Command → Type 0
 OrderFits o b c = CommandFits o.version (ranges_of o) c
@@ -43,7 +45,9 @@ abbrev pub CopyFits : Opening → Body → ℕ × ℕ → Type 0
 CopyFits o b a = InRange 0 (o.mirrors - 1) a.0 × InRange 0 (length o.delays - 1) a.1
 
 abbrev pub ArriveFits : Opening → Body → ℕ × (ℕ × ℕ) → Type 0
-ArriveFits o b a = InRange 0 (o.mirrors - 1) a.0 × (InRange 0 (o.mirrors - 1) a.1.0 × InRange 0 GREATEST_NUMBER a.1.1)
+ArriveFits o b a =
+    InRange 0 (o.mirrors - 1) a.0
+    × (InRange 0 (o.mirrors - 1) a.1.0 × InRange 0 GREATEST_NUMBER a.1.1)
 
 abbrev pub NextPlanFits : Opening → Body → ℕ × ℕ → Type 0
 NextPlanFits o b a = InRange 0 (o.mirrors - 1) a.0 × InRange 0 (MOST_PLANS - 1) a.1
@@ -57,25 +61,38 @@ abbrev pub WallRight : Opening → List Cell → Cell → Type 0
 WallRight o before cell = Sound (wall_kind o) WallFits (record no_body { walls = before }) cell
 
 abbrev pub PickupRight : Opening → List Cell → List PickupSpot → PickupSpot → Type 0
-PickupRight o walls before p = Sound (pickup_kind o) PickupFits (record no_body { walls = walls; pickups = before }) p
+PickupRight o walls before p =
+    Sound (pickup_kind o) PickupFits (record no_body { walls = walls; pickups = before }) p
 
 abbrev pub PlayerRight : Opening → List Cell → List PickupSpot → List Player → Player → Type 0
-PlayerRight o walls pickups before p = Sound (player_kind o) PlayerFits (record no_body { walls = walls; pickups = pickups; players = before }) p
+PlayerRight o walls pickups before p =
+    Sound (player_kind o) PlayerFits
+    (record no_body { walls = walls; pickups = pickups; players = before }) p
 
 abbrev pub CommandRight : Opening → List Player → List Command → Command → Type 0
-CommandRight o players before c = Sound (command_kind o) (OrderFits o) (record no_body { players = players; commands = before }) c
+CommandRight o players before c =
+    Sound (command_kind o) (OrderFits o) (record no_body { players = players; commands = before }) c
 
 abbrev pub in_script : List (List ℕ) → List Command → List ScriptLine → Body
-in_script plans commands before = record no_body { stage = InScript; plans = plans; commands = commands; script = before }
+in_script plans commands before =
+    record no_body { stage = InScript; plans = plans; commands = commands; script = before }
 
-abbrev pub ScriptRight : Opening → List (List ℕ) → List Command → List ScriptLine → ScriptLine → Type 0
-ScriptRight o plans commands before (Tick m) = Sound (tick_kind o) (MirrorFits o) (in_script plans commands before) m
-ScriptRight o plans commands before (Turn m) = Sound (turn_kind o) (MirrorFits o) (in_script plans commands before) m
-ScriptRight o plans commands before (Arrive m f n) = Sound (arrive_kind o) (ArriveFits o) (in_script plans commands before) (m, (f, n))
-ScriptRight o plans commands before (Step m c) = Sound (step_kind o) (CopyFits o) (in_script plans commands before) (m, c)
-ScriptRight o plans commands before (World m c) = Sound (world_kind o) (CopyFits o) (in_script plans commands before) (m, c)
-ScriptRight o plans commands before (Run m c) = Sound (run_kind o) (CopyFits o) (in_script plans commands before) (m, c)
-ScriptRight o plans commands before (Restagger m p) = Sound (restagger_kind o) (NextPlanFits o) (in_script plans commands before) (m, p)
+abbrev pub ScriptRight : Opening → List (List ℕ) → List Command → List ScriptLine → ScriptLine
+    → Type 0
+ScriptRight o plans commands before (Tick m) =
+    Sound (tick_kind o) (MirrorFits o) (in_script plans commands before) m
+ScriptRight o plans commands before (Turn m) =
+    Sound (turn_kind o) (MirrorFits o) (in_script plans commands before) m
+ScriptRight o plans commands before (Arrive m f n) =
+    Sound (arrive_kind o) (ArriveFits o) (in_script plans commands before) (m, (f, n))
+ScriptRight o plans commands before (Step m c) =
+    Sound (step_kind o) (CopyFits o) (in_script plans commands before) (m, c)
+ScriptRight o plans commands before (World m c) =
+    Sound (world_kind o) (CopyFits o) (in_script plans commands before) (m, c)
+ScriptRight o plans commands before (Run m c) =
+    Sound (run_kind o) (CopyFits o) (in_script plans commands before) (m, c)
+ScriptRight o plans commands before (Restagger m p) =
+    Sound (restagger_kind o) (NextPlanFits o) (in_script plans commands before) (m, p)
 
 -- what was read behind the pace
 pub record IsBody (o : Opening) (b : Body) : Type 0 where
@@ -92,7 +109,9 @@ pub record IsBody (o : Opening) (b : Body) : Type 0 where
 pub record IsOpening (o : Opening) : Type 0 where
   pub version : (o.version ≡ 1) ⊎ (o.version ≡ 2)
   pub length : Sound length_kind (λ _. InRange 1 LONGEST_MATCH) tt o.length
-  pub grid : Sound grid_kind (λ _ sides. InRange NARROWEST_GRID WIDEST_GRID sides.0 × InRange 1 TALLEST_GRID sides.1) tt (o.width, o.height)
+  pub grid : Sound grid_kind
+      (λ _ sides. InRange NARROWEST_GRID WIDEST_GRID sides.0 × InRange 1 TALLEST_GRID sides.1) tt
+      (o.width, o.height)
   pub mirrors : Sound mirrors_kind (λ _. InRange 1 MOST_MIRRORS) tt o.mirrors
   pub delays : Sound delays_kind (λ _. AreNumbers 0 LONGEST_DELAY) tt o.delays
   pub pace : Sound (pace_kind o.delays) (λ _. InRange 0 LONGEST_DELAY) tt o.pace
@@ -116,7 +135,11 @@ closing_lines Ended script = script_lines script ++ codes "end" ∷ []
 
 abbrev pub body_lines : Body → List (List ℕ)
 body_lines b =
-    map plan_line b.plans ++ (map wall_line b.walls ++ (map pickup_line b.pickups ++ (map home_line b.players ++ (map command_line b.commands ++ closing_lines b.stage b.script))))
+    map plan_line b.plans
+    ++ (map wall_line b.walls
+    ++ (map pickup_line b.pickups
+    ++ (map home_line b.players
+    ++ (map command_line b.commands ++ closing_lines b.stage b.script))))
 
 abbrev pub front_lines : Opening → List (List ℕ)
 front_lines o =

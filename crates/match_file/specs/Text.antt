@@ -1,11 +1,8 @@
 -- The text of a match, line by line.
 use Rattle.std.specs.Prelude.{ℕ, zero, suc, ◌==◌, if◌then◌else◌, List, [], ◌∷◌, ◌++◌, map, codes, decimal}
-use Rattle.arena_rules.specs.declared.face.Face.{Face}
-use Rattle.arena_rules.specs.declared.face.Face.TheVariants.{N, E, S, W}
-use Rattle.arena_rules.specs.declared.pickup.Kind.{Kind}
-use Rattle.arena_rules.specs.declared.pickup.Kind.TheVariants.{Ammo, Heal, Gold}
 use Rattle.arena_rules.specs.declared.pickup.PickupSpot.{PickupSpot}
 use Rattle.arena_rules.specs.declared.spot.Spot.{Spot}
+use Rattle.arena_rules.specs.Block.{face_word, kind_word}
 use Rattle.arena_rules.specs.Ground.{Grid, is_walled}
 use Rattle.command_lines.specs.CommandLine.{command_line}
 use Rattle.tss_io.specs.Lines.{spaced, lines_text}
@@ -18,23 +15,11 @@ use Rattle.match_file.specs.Data.{MatchData}
 abbrev pub head_line : ℕ → List ℕ
 head_line version = if version == 1 then codes "tss match 1" else codes "tss match 2"
 
--- the word of a facing
-abbrev pub face_word : Face → List ℕ
-face_word N = codes "n"
-face_word E = codes "e"
-face_word S = codes "s"
-face_word W = codes "w"
-
--- the word of a pickup's kind
-abbrev pub kind_word : Kind → List ℕ
-kind_word Ammo = codes "ammo"
-kind_word Heal = codes "heal"
-kind_word Gold = codes "gold"
-
 -- a line of one number
 abbrev pub number_line : List ℕ → ℕ → List ℕ
 number_line word n = spaced (word ∷ decimal n ∷ [])
 
+-- the sides of the grid
 abbrev pub grid_line : ℕ → ℕ → List ℕ
 grid_line width height = spaced (codes "grid" ∷ decimal width ∷ decimal height ∷ [])
 
@@ -45,6 +30,7 @@ delays_line delays = spaced (codes "delays" ∷ map decimal delays)
 abbrev pub plan_line : List ℕ → List ℕ
 plan_line plan = spaced (codes "plan" ∷ map decimal plan)
 
+-- a wall, a pickup, and a player with the home
 abbrev pub wall_line : Cell → List ℕ
 wall_line cell = spaced (codes "wall" ∷ decimal cell.x ∷ decimal cell.y ∷ [])
 
@@ -52,17 +38,20 @@ abbrev pub pickup_line : PickupSpot → List ℕ
 pickup_line p = spaced (codes "pickup" ∷ decimal p.x ∷ decimal p.y ∷ kind_word p.kind ∷ [])
 
 abbrev pub player_line : List ℕ → Spot → List ℕ
-player_line name home = spaced (codes "player" ∷ name ∷ decimal home.x ∷ decimal home.y ∷ face_word home.face ∷ [])
+player_line name home =
+    spaced (codes "player" ∷ name ∷ decimal home.x ∷ decimal home.y ∷ face_word home.face ∷ [])
 
 -- a line of the script
 abbrev pub script_line : ScriptLine → List ℕ
 script_line (Tick mirror) = spaced (codes "tick" ∷ decimal mirror ∷ [])
 script_line (Turn mirror) = spaced (codes "turn" ∷ decimal mirror ∷ [])
-script_line (Arrive mirror from number) = spaced (codes "arrive" ∷ decimal mirror ∷ decimal from ∷ decimal number ∷ [])
+script_line (Arrive mirror from number) =
+    spaced (codes "arrive" ∷ decimal mirror ∷ decimal from ∷ decimal number ∷ [])
 script_line (Step mirror copy) = spaced (codes "step" ∷ decimal mirror ∷ decimal copy ∷ [])
 script_line (World mirror copy) = spaced (codes "world" ∷ decimal mirror ∷ decimal copy ∷ [])
 script_line (Run mirror copy) = spaced (codes "run" ∷ decimal mirror ∷ decimal copy ∷ [])
-script_line (Restagger mirror plan) = spaced (codes "restagger" ∷ decimal mirror ∷ decimal plan ∷ [])
+script_line (Restagger mirror plan) =
+    spaced (codes "restagger" ∷ decimal mirror ∷ decimal plan ∷ [])
 
 -- this cell, where it is walled
 abbrev pub wall_at : Grid → ℕ → ℕ → List Cell

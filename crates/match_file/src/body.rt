@@ -111,7 +111,8 @@ impl Body {
     }
 
     fn take_plan(&mut self, alloc: Global, opening: &Opening, words: &[u8]) -> Result<(), LineFault>
-        ensures { GivesLine (λ _. self.new) result (step (plan_kind opening.now) self.old (words_of words.now)) }
+        ensures { GivesLine (λ _. self.new) result
+            (step (plan_kind opening.now) self.old (words_of words.now)) }
     {
         if !is_open(self.stage)
             || !self.walls.is_empty()
@@ -133,7 +134,8 @@ impl Body {
     }
 
     fn take_wall(&mut self, opening: &Opening, words: &[u8]) -> Result<(), LineFault>
-        ensures { GivesLine (λ _. self.new) result (step (wall_kind opening.now) self.old (words_of words.now)) }
+        ensures { GivesLine (λ _. self.new) result
+            (step (wall_kind opening.now) self.old (words_of words.now)) }
     {
         if !is_open(self.stage) || !self.pickups.is_empty() || !self.has_no_player() {
             return Err(LineFault::Refused(Cause::Shape));
@@ -157,7 +159,8 @@ impl Body {
     }
 
     fn take_pickup(&mut self, opening: &Opening, words: &[u8]) -> Result<(), LineFault>
-        ensures { GivesLine (λ _. self.new) result (step (pickup_kind opening.now) self.old (words_of words.now)) }
+        ensures { GivesLine (λ _. self.new) result
+            (step (pickup_kind opening.now) self.old (words_of words.now)) }
     {
         if !is_open(self.stage) || !self.has_no_player() {
             return Err(LineFault::Refused(Cause::Shape));
@@ -194,7 +197,8 @@ impl Body {
         opening: &Opening,
         words: &[u8],
     ) -> Result<(), LineFault>
-        ensures { GivesLine (λ _. self.new) result (step (player_kind opening.now) self.old (words_of words.now)) }
+        ensures { GivesLine (λ _. self.new) result
+            (step (player_kind opening.now) self.old (words_of words.now)) }
     {
         if !is_open(self.stage) || self.commands.len() > 0 {
             return Err(LineFault::Refused(Cause::Shape));
@@ -237,7 +241,8 @@ impl Body {
     }
 
     fn take_command(&mut self, opening: &Opening, words: &[u8]) -> Result<(), LineFault>
-        ensures { GivesLine (λ _. self.new) result (step (command_kind opening.now) self.old (words_of words.now)) }
+        ensures { GivesLine (λ _. self.new) result
+            (step (command_kind opening.now) self.old (words_of words.now)) }
     {
         if !self.may_open() {
             return Err(LineFault::Refused(Cause::Shape));
@@ -281,7 +286,8 @@ impl Body {
         words: &[u8],
     ) -> Result<(), LineFault>
         requires { length opening.now.delays ≤ MOST_COPIES }
-        ensures { GivesLine (λ _. self.new) result (by_word opening.now self.old word.now (words_of words.now)) }
+        ensures { GivesLine (λ _. self.new) result
+            (by_word opening.now self.old word.now (words_of words.now)) }
     {
         if word == b"arrive".as_slice() {
             self.take_arrive(opening, words)
@@ -345,7 +351,8 @@ impl Body {
         text: &'a [u8],
     ) -> Result<&'a [u8], LineFault>
         requires { length opening.now.delays ≤ MOST_COPIES }
-        ensures read { GivesLine (λ rest. (self.new, lines_of rest.now)) result (line_step (take opening.now) self.old (lines_of text.now)) }
+        ensures read { GivesLine (λ rest. (self.new, lines_of rest.now)) result
+            (line_step (take opening.now) self.old (lines_of text.now)) }
         ensures shorter { IfOk result (λ rest. length rest.now < length text.now) }
     {
         let (line, rest) = next_line(text)?;
@@ -354,8 +361,8 @@ impl Body {
     }
 }
 
-/// The lines of the body, from this one on, and the text behind them. The number of the line that is read is kept in `line`, which
-/// has the first one's.
+/// The lines of the body, from this one on, and the text behind them. The number of the line that
+/// is read is kept in `line`, which has the first one's.
 pub fn read_body<'a>(
     alloc: Global,
     opening: &Opening,
@@ -365,7 +372,8 @@ pub fn read_body<'a>(
     requires copies { length opening.now.delays ≤ MOST_COPIES }
     requires opening { IsOpening opening.now }
     requires counted { line.old ≤ 4000000010 }
-    ensures read { Placed (λ x. stopped x.0 line.new (lines_of x.1.now)) line.new result (run_to (take opening.now) is_last line.old no_body (lines_of text.now)) }
+    ensures read { Placed (λ x. stopped x.0 line.new (lines_of x.1.now)) line.new result
+        (run_to (take opening.now) is_last line.old no_body (lines_of text.now)) }
     ensures shorter { IfOk result (λ x. length x.1.now ≤ length text.now) }
 {
     let mut body = Body::new(alloc);

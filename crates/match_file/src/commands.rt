@@ -8,7 +8,8 @@ use std::alloc::Global;
 use std::marker::Model;
 use tss_io::NoMemory;
 
-/// Commands in the order of their lines, each found at once by its mirror and number. Contracts see the commands.
+/// Commands in the order of their lines, each found at once by its mirror and number. Contracts see
+/// the commands.
 #[derive(Drop)]
 pub struct Commands {
     list: CommandList,
@@ -47,7 +48,8 @@ impl Commands {
         self.list.has(from, number)
     }
 
-    /// Appends the command, whose mirror and number none has yet. On `NoMemory` the commands are unchanged.
+    /// Appends the command, whose mirror and number none has yet. On `NoMemory` the commands are
+    /// unchanged.
     pub fn push(&mut self, x: &Command) -> Result<(), NoMemory>
         requires { has_command self.old x.now.from x.now.number ≡ false }
         ensures ok { OnOk result (self.new ≡ self.old ++ x.now ∷ []) }

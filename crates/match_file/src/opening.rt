@@ -105,7 +105,8 @@ fn number_line<'a>(
     most: u32,
     text: &'a [u8],
 ) -> Result<(u32, &'a [u8]), Cause>
-    ensures read { Answers (λ x. (x.0, lines_of x.1.now)) result (once (number_kind keyword.now least most) tt (lines_of text.now)) }
+    ensures read { Answers (λ x. (x.0, lines_of x.1.now)) result
+        (once (number_kind keyword.now least most) tt (lines_of text.now)) }
     ensures range { IfOk result (λ x. (least ≤ x.0) × (x.0 ≤ most)) }
     ensures shorter { IfOk result (λ x. length x.1.now < length text.now) }
 {
@@ -115,7 +116,8 @@ fn number_line<'a>(
 }
 
 fn grid_line(text: &[u8]) -> Result<((u8, u8), &[u8]), Cause>
-    ensures read { Answers (λ x. (x.0, lines_of x.1.now)) result (once grid_kind tt (lines_of text.now)) }
+    ensures read { Answers (λ x. (x.0, lines_of x.1.now)) result
+        (once grid_kind tt (lines_of text.now)) }
     ensures shorter { IfOk result (λ x. length x.1.now < length text.now) }
 {
     let (words, rest) = keyword_line(b"grid", text)?;
@@ -144,7 +146,8 @@ pub fn rises(delays: &[Tick]) -> bool
 }
 
 fn delays_line(alloc: Global, text: &[u8]) -> Result<(Seq<Tick>, &[u8]), LineFault>
-    ensures read { GivesLine (λ x. (x.0, lines_of x.1.now)) result (once delays_kind tt (lines_of text.now)) }
+    ensures read { GivesLine (λ x. (x.0, lines_of x.1.now)) result
+        (once delays_kind tt (lines_of text.now)) }
     ensures few { IfOk result (λ x. length x.0 ≤ MOST_COPIES) }
     ensures shorter { IfOk result (λ x. length x.1.now < length text.now) }
 {
@@ -173,7 +176,8 @@ fn longest_of(delays: &Seq<Tick>) -> Tick
 }
 
 fn pace_line<'a>(delays: &Seq<Tick>, text: &'a [u8]) -> Result<(Tick, &'a [u8]), Cause>
-    ensures read { Answers (λ x. (x.0, lines_of x.1.now)) result (once (pace_kind delays.now) tt (lines_of text.now)) }
+    ensures read { Answers (λ x. (x.0, lines_of x.1.now)) result
+        (once (pace_kind delays.now) tt (lines_of text.now)) }
     ensures shorter { IfOk result (λ x. length x.1.now < length text.now) }
 {
     let (words, rest) = keyword_line(b"pace", text)?;
@@ -184,8 +188,8 @@ fn pace_line<'a>(delays: &Seq<Tick>, text: &'a [u8]) -> Result<(Tick, &'a [u8]),
     Ok((pace, rest))
 }
 
-/// The lines up to the pace, and the text behind them. The number of the line that is read is kept in `line`, which has the first
-/// one's.
+/// The lines up to the pace, and the text behind them. The number of the line that is read is kept
+/// in `line`, which has the first one's.
 #[tactic(auto, unfolding(crate::specs::Reading::opening_at))]
 pub fn read_opening<'a>(
     alloc: Global,
@@ -193,7 +197,8 @@ pub fn read_opening<'a>(
     text: &'a [u8],
 ) -> Result<(Opening, &'a [u8]), LineFault>
     requires { line.old ≤ 4000000000 }
-    ensures read { Placed (λ x. (x.0, lines_of x.1.now)) line.new result (opening_at line.old (lines_of text.now)) }
+    ensures read { Placed (λ x. (x.0, lines_of x.1.now)) line.new result
+        (opening_at line.old (lines_of text.now)) }
     ensures number { IfOk result (λ _. line.new ≡ line.old + 5) }
     ensures copies { IfOk result (λ x. length x.0.delays ≤ MOST_COPIES) }
     ensures shorter { IfOk result (λ x. length x.1.now ≤ length text.now) }

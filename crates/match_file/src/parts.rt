@@ -3,6 +3,7 @@
 ghost use Rattle.std.specs.Prelude.{◌≡◌, ◌≤◌, ◌<◌, length, map, IfOk};
 ghost use Rattle.std.specs.List.{AllByRecursion, IsDistinct};
 ghost use Rattle.std.specs.Prelude.{bytes_eq};
+ghost use Rattle.game_trait.specs.declared.limits.TheConstants.{NARROWEST_GRID, WIDEST_GRID, TALLEST_GRID, MOST_PICKUPS, MOST_PLAYERS};
 ghost use Rattle.arena_rules.specs.Ground.{open_grid};
 ghost use Rattle.match_file.specs.Reading.{match_of, walled};
 ghost use Rattle.match_file.specs.Sections.{IsRead};
@@ -14,13 +15,14 @@ use crate::opening::Opening;
 use crate::player::Player;
 use arena_rules::{Ground, PickupSpot, Roster, Setup, Spot};
 use arrayvec::ArrayVec;
+use game_trait::limits::{MOST_PICKUPS, MOST_PLAYERS};
 use std::alloc::Global;
 use tss_io::NoMemory;
 
 // The ground of these sides with these walls.
 fn ground_of(width: u8, height: u8, walls: &[Cell]) -> Ground
-    requires width { (3 ≤ width) × (width ≤ 64) }
-    requires height { (1 ≤ height) × (height ≤ 64) }
+    requires width { (NARROWEST_GRID ≤ width) × (width ≤ WIDEST_GRID) }
+    requires height { (1 ≤ height) × (height ≤ TALLEST_GRID) }
     requires walls { AllByRecursion (λ c. (c.x < width) × (c.y < height)) walls.now }
     ensures { result ≡ walled (open_grid width height) walls.now }
 {
@@ -31,8 +33,8 @@ fn ground_of(width: u8, height: u8, walls: &[Cell]) -> Ground
     ground
 }
 
-fn pickups_of(pickups: &[PickupSpot]) -> ArrayVec<PickupSpot, 32>
-    requires { length pickups.now ≤ 32 }
+fn pickups_of(pickups: &[PickupSpot]) -> ArrayVec<PickupSpot, MOST_PICKUPS>
+    requires { length pickups.now ≤ MOST_PICKUPS }
     ensures { result.items ≡ pickups.now }
 {
     let mut kept = ArrayVec::new();
@@ -42,8 +44,8 @@ fn pickups_of(pickups: &[PickupSpot]) -> ArrayVec<PickupSpot, 32>
     kept
 }
 
-fn homes_of(players: &[Player]) -> ArrayVec<Spot, 32>
-    requires { length players.now ≤ 32 }
+fn homes_of(players: &[Player]) -> ArrayVec<Spot, MOST_PLAYERS>
+    requires { length players.now ≤ MOST_PLAYERS }
     ensures { result.items ≡ map (λ p. p.home) players.now }
 {
     let mut homes = ArrayVec::new();

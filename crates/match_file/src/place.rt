@@ -1,11 +1,11 @@
 //! Walls and pickups, and the cells that they take.
 
 ghost use Rattle.std.specs.Prelude.{◌≡◌, [], ◌∷◌};
+ghost use Rattle.arena_rules.specs.Block.{kind_word};
 ghost use Rattle.arena_rules.specs.declared.pickup.Kind.TheVariants as pickup_kinds;
 ghost use Rattle.tss_io.specs.Reading.{Answers};
 ghost use Rattle.tss_io.specs.Forms.{picked};
 ghost use Rattle.match_file.specs.Kinds.{has_wall, has_pickup, is_behind, last_cell};
-ghost use Rattle.match_file.specs.Text.{kind_word};
 
 use crate::cell::Cell;
 use arena_rules::{Kind, PickupSpot};
@@ -13,7 +13,9 @@ use tss_io::Cause;
 
 /// The kind of pickup that the word names.
 pub fn kind_of(word: &[u8]) -> Result<Kind, Cause>
-    ensures { Answers (λ x. x) result (picked kind_word (pickup_kinds.Ammo ∷ pickup_kinds.Heal ∷ pickup_kinds.Gold ∷ []) word.now) }
+    ensures { Answers (λ x. x) result
+        (picked kind_word
+        (pickup_kinds.Ammo ∷ pickup_kinds.Heal ∷ pickup_kinds.Gold ∷ []) word.now) }
 {
     if word == b"ammo".as_slice() {
         Ok(Kind::Ammo)

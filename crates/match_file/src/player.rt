@@ -2,12 +2,12 @@
 
 ghost use Rattle.std.specs.Prelude.{◌≡◌, [], ◌∷◌};
 ghost use Rattle.std.specs.List.{list_all};
+ghost use Rattle.arena_rules.specs.Block.{face_word};
 ghost use Rattle.arena_rules.specs.declared.face.Face.TheVariants as faces;
 ghost use Rattle.tss_io.specs.Reading.{Answers};
 ghost use Rattle.tss_io.specs.Forms.{picked};
 ghost use Rattle.match_file.specs.Names.{is_letter, is_name_byte, is_name};
 ghost use Rattle.match_file.specs.Kinds.{has_name, has_home};
-ghost use Rattle.match_file.specs.Text.{face_word};
 
 use arena_rules::{Face, Spot};
 use tss_io::{Cause, Seq};
@@ -23,7 +23,8 @@ pub struct Player {
 
 /// The facing that the word names.
 pub fn face_of(word: &[u8]) -> Result<Face, Cause>
-    ensures { Answers (λ x. x) result (picked face_word (faces.N ∷ faces.E ∷ faces.S ∷ faces.W ∷ []) word.now) }
+    ensures { Answers (λ x. x) result
+        (picked face_word (faces.N ∷ faces.E ∷ faces.S ∷ faces.W ∷ []) word.now) }
 {
     if word == b"n".as_slice() {
         Ok(Face::N)
@@ -59,7 +60,8 @@ fn are_name_bytes(bytes: &[u8]) -> bool
     bytes.iter().all(|byte| is_name_byte(*byte))
 }
 
-/// Whether the word is a name: 1 to 12 letters from a to z and digits, a letter first (this project's own rule).
+/// Whether the word is a name: 1 to 12 letters from a to z and digits, a letter first (this
+/// project's own rule).
 #[tactic(auto, unfolding(crate::specs::Names::is_name))]
 pub fn is_name(word: &[u8]) -> bool
     ensures { result ≡ is_name word.now }

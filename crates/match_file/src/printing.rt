@@ -1,40 +1,20 @@
 //! Printing match texts.
 
 ghost use Rattle.std.specs.Prelude.{◌≡◌, ◌≤◌, ◌<◌, ◌++◌, ◌∷◌, [], length, map, codes, decimal, slice_get, unwrap_or, OnOk, IfOk};
+ghost use Rattle.game_trait.specs.declared.limits.TheConstants.{MOST_PLAYERS};
 ghost use Rattle.arena_rules.specs.Ground.{IsGrid};
 ghost use Rattle.command_lines.specs.CommandLine.{command_line};
 ghost use Rattle.tss_io.specs.Lines.{as_line, spaced, lines_text};
 ghost use Rattle.match_file.specs.Data.{IsMatch};
-ghost use Rattle.match_file.specs.Text.{head_line, face_word, kind_word, number_line, grid_line, wall_line, pickup_line, player_line, script_line, wall_at, walls_in_row, walls_of, player_lines, script_lines, opening_lines, plan_line, match_lines, match_text};
+ghost use Rattle.match_file.specs.Text.{head_line, number_line, grid_line, wall_line, pickup_line, player_line, script_line, wall_at, walls_in_row, walls_of, player_lines, script_lines, opening_lines, plan_line, match_lines, match_text};
 
 use crate::game_match::Match;
 use crate::script_line::ScriptLine;
-use arena_rules::{Face, Ground, Kind, PickupSpot, Roster, Spot};
+use arena_rules::{Ground, PickupSpot, Roster, Spot};
 use command_lines::push_command;
 use game_trait::{Command, Tick};
 use std::alloc::Global;
 use tss_io::{NoMemory, Seq, Word, push_line};
-
-fn face_text(face: Face) -> &'static [u8]
-    ensures { result.now ≡ face_word face }
-{
-    match face {
-        Face::N => b"n",
-        Face::E => b"e",
-        Face::S => b"s",
-        Face::W => b"w",
-    }
-}
-
-fn kind_text(kind: Kind) -> &'static [u8]
-    ensures { result.now ≡ kind_word kind }
-{
-    match kind {
-        Kind::Ammo => b"ammo",
-        Kind::Heal => b"heal",
-        Kind::Gold => b"gold",
-    }
-}
 
 // Appends a line of a single word, or of words that stand in it as they are.
 #[tactic(auto, unfolding(tss_io::specs::Lines::spaced))]
@@ -58,7 +38,8 @@ fn push_numbers(
     word: &[u8],
     numbers: &[Tick],
 ) -> Result<(), NoMemory>
-    ensures { OnOk result (out.new.items ≡ out.old.items ++ as_line (spaced (word.now ∷ map decimal numbers.now))) }
+    ensures { OnOk result
+        (out.new.items ≡ out.old.items ++ as_line (spaced (word.now ∷ map decimal numbers.now))) }
 {
     let mut words = Vec::new(alloc);
     words.push(Word::Text(word))?;
@@ -70,7 +51,9 @@ fn push_numbers(
 
 // Appends a line of a word, a mirror and one number more.
 fn push_two(out: &mut Vec<u8>, word: &[u8], mirror: u8, number: u8) -> Result<(), NoMemory>
-    ensures { OnOk result (out.new.items ≡ out.old.items ++ as_line (spaced (word.now ∷ decimal mirror ∷ decimal number ∷ []))) }
+    ensures { OnOk result
+        (out.new.items
+        ≡ out.old.items ++ as_line (spaced (word.now ∷ decimal mirror ∷ decimal number ∷ []))) }
 {
     let words = [
         Word::Text(word),
@@ -97,20 +80,21 @@ fn push_pickup(out: &mut Vec<u8>, pickup: &PickupSpot) -> Result<(), NoMemory>
         Word::Text(b"pickup"),
         Word::Number(i64::from(pickup.x)),
         Word::Number(i64::from(pickup.y)),
-        Word::Text(kind_text(pickup.kind)),
+        Word::Text(pickup.kind.word()),
     ];
     push_line(out, &words)
 }
 
 fn push_player(out: &mut Vec<u8>, name: &[u8], home: &Spot) -> Result<(), NoMemory>
-    ensures { OnOk result (out.new.items ≡ out.old.items ++ as_line (player_line name.now home.now)) }
+    ensures { OnOk result
+        (out.new.items ≡ out.old.items ++ as_line (player_line name.now home.now)) }
 {
     let words = [
         Word::Text(b"player"),
         Word::Text(name),
         Word::Number(i64::from(home.x)),
         Word::Number(i64::from(home.y)),
-        Word::Text(face_text(home.face)),
+        Word::Text(home.face.word()),
     ];
     push_line(out, &words)
 }
@@ -145,7 +129,8 @@ fn push_script_line(out: &mut Vec<u8>, line: &ScriptLine) -> Result<(), NoMemory
 fn push_wall(out: &mut Vec<u8>, ground: &Ground, x: u8, y: u8) -> Result<(), NoMemory>
     requires column { x < ground.now.width }
     requires row { y < ground.now.height }
-    ensures { OnOk result (out.new.items ≡ out.old.items ++ lines_text (map wall_line (wall_at ground.now x y))) }
+    ensures { OnOk result
+        (out.new.items ≡ out.old.items ++ lines_text (map wall_line (wall_at ground.now x y))) }
 {
     if ground.free(i32::from(x), i32::from(y)) {
         return Ok(());
@@ -157,7 +142,10 @@ fn push_wall(out: &mut Vec<u8>, ground: &Ground, x: u8, y: u8) -> Result<(), NoM
 #[tactic(auto, using(crate::proofs::PrintLaws::row_none))]
 fn push_row(out: &mut Vec<u8>, ground: &Ground, y: u8) -> Result<(), NoMemory>
     requires { y < ground.now.height }
-    ensures { OnOk result (out.new.items ≡ out.old.items ++ lines_text (map wall_line (walls_in_row ground.now y ground.now.width))) }
+    ensures { OnOk result
+        (out.new.items
+        ≡ out.old.items
+        ++ lines_text (map wall_line (walls_in_row ground.now y ground.now.width))) }
 {
     for x in 0..ground.width() {
         push_wall(out, ground, x, y)?;
@@ -167,7 +155,10 @@ fn push_row(out: &mut Vec<u8>, ground: &Ground, y: u8) -> Result<(), NoMemory>
 
 #[tactic(auto, using(crate::proofs::PrintLaws::walls_none))]
 fn push_walls(out: &mut Vec<u8>, ground: &Ground) -> Result<(), NoMemory>
-    ensures { OnOk result (out.new.items ≡ out.old.items ++ lines_text (map wall_line (walls_of ground.now ground.now.width ground.now.height))) }
+    ensures { OnOk result
+        (out.new.items
+        ≡ out.old.items
+        ++ lines_text (map wall_line (walls_of ground.now ground.now.width ground.now.height))) }
 {
     for y in 0..ground.height() {
         push_row(out, ground, y)?;
@@ -187,7 +178,8 @@ fn push_plans(alloc: Global, out: &mut Vec<u8>, plans: &[Seq<Tick>]) -> Result<(
 
 #[tactic(auto, using(tss_io::proofs::Printing::lines_none))]
 fn push_pickups(out: &mut Vec<u8>, pickups: &[PickupSpot]) -> Result<(), NoMemory>
-    ensures { OnOk result (out.new.items ≡ out.old.items ++ lines_text (map pickup_line pickups.now)) }
+    ensures { OnOk result
+        (out.new.items ≡ out.old.items ++ lines_text (map pickup_line pickups.now)) }
 {
     for pickup in pickups {
         push_pickup(out, pickup)?;
@@ -204,9 +196,10 @@ fn name_of(roster: &Roster, player: u8) -> &[u8]
 
 #[tactic(auto, using(crate::proofs::PrintLaws::players_none))]
 fn push_players(out: &mut Vec<u8>, roster: &Roster, homes: &[Spot]) -> Result<(), NoMemory>
-    requires few { length homes.now ≤ 32 }
+    requires few { length homes.now ≤ MOST_PLAYERS }
     requires named { length roster.now ≡ length homes.now }
-    ensures { OnOk result (out.new.items ≡ out.old.items ++ lines_text (player_lines roster.now homes.now)) }
+    ensures { OnOk result
+        (out.new.items ≡ out.old.items ++ lines_text (player_lines roster.now homes.now)) }
 {
     for (player, home) in homes.iter().enumerate() {
         push_player(out, name_of(roster, player as u8), home)?;
@@ -216,7 +209,8 @@ fn push_players(out: &mut Vec<u8>, roster: &Roster, homes: &[Spot]) -> Result<()
 
 #[tactic(auto, using(tss_io::proofs::Printing::lines_none))]
 fn push_commands(out: &mut Vec<u8>, commands: &[Command]) -> Result<(), NoMemory>
-    ensures { OnOk result (out.new.items ≡ out.old.items ++ lines_text (map command_line commands.now)) }
+    ensures { OnOk result
+        (out.new.items ≡ out.old.items ++ lines_text (map command_line commands.now)) }
 {
     for command in commands {
         push_command(out, command)?;
@@ -226,7 +220,8 @@ fn push_commands(out: &mut Vec<u8>, commands: &[Command]) -> Result<(), NoMemory
 
 #[tactic(auto, using(tss_io::proofs::Printing::lines_none))]
 fn push_script_lines(out: &mut Vec<u8>, script: &[ScriptLine]) -> Result<(), NoMemory>
-    ensures { OnOk result (out.new.items ≡ out.old.items ++ lines_text (map script_line script.now)) }
+    ensures { OnOk result
+        (out.new.items ≡ out.old.items ++ lines_text (map script_line script.now)) }
 {
     for line in script {
         push_script_line(out, line)?;
@@ -247,7 +242,8 @@ fn push_script(out: &mut Vec<u8>, script: &[ScriptLine]) -> Result<(), NoMemory>
 }
 
 fn push_grid(out: &mut Vec<u8>, ground: &Ground) -> Result<(), NoMemory>
-    ensures { OnOk result (out.new.items ≡ out.old.items ++ as_line (grid_line ground.now.width ground.now.height)) }
+    ensures { OnOk result
+        (out.new.items ≡ out.old.items ++ as_line (grid_line ground.now.width ground.now.height)) }
 {
     let words = [
         Word::Text(b"grid"),

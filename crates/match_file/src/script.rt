@@ -11,7 +11,8 @@ use std::alloc::Global;
 use std::marker::Model;
 use tss_io::{NoMemory, Seq};
 
-/// The lines of a script in order, and how many of them show a world or a run. Contracts see the lines.
+/// The lines of a script in order, and how many of them show a world or a run. Contracts see the
+/// lines.
 #[derive(Drop)]
 pub struct Script {
     lines: Seq<ScriptLine>,

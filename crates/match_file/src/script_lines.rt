@@ -35,7 +35,8 @@ impl Body {
     /// Takes in a `tick` line of a script: its mirror is there.
     /// Else the line's first failing check is answered, or `NoMemory`.
     pub fn take_tick(&mut self, opening: &Opening, words: &[u8]) -> Result<(), LineFault>
-        ensures { GivesLine (λ _. self.new) result (step (tick_kind opening.now) self.old (words_of words.now)) }
+        ensures { GivesLine (λ _. self.new) result
+            (step (tick_kind opening.now) self.old (words_of words.now)) }
     {
         if !is_script(self.stage) {
             return Err(LineFault::Refused(Cause::Shape));
@@ -52,7 +53,8 @@ impl Body {
     /// Takes in a `turn` line of a script: its mirror is there.
     /// Else the line's first failing check is answered, or `NoMemory`.
     pub fn take_turn(&mut self, opening: &Opening, words: &[u8]) -> Result<(), LineFault>
-        ensures { GivesLine (λ _. self.new) result (step (turn_kind opening.now) self.old (words_of words.now)) }
+        ensures { GivesLine (λ _. self.new) result
+            (step (turn_kind opening.now) self.old (words_of words.now)) }
     {
         if !is_script(self.stage) {
             return Err(LineFault::Refused(Cause::Shape));
@@ -66,10 +68,11 @@ impl Body {
         Ok(())
     }
 
-    /// Takes in an `arrive` line of a script: its mirror is there, and it names a command of the match. Else the line's
-    /// first failing check is answered, or `NoMemory`.
+    /// Takes in an `arrive` line of a script: its mirror is there, and it names a command of the
+    /// match. Else the line's first failing check is answered, or `NoMemory`.
     pub fn take_arrive(&mut self, opening: &Opening, words: &[u8]) -> Result<(), LineFault>
-        ensures { GivesLine (λ _. self.new) result (step (arrive_kind opening.now) self.old (words_of words.now)) }
+        ensures { GivesLine (λ _. self.new) result
+            (step (arrive_kind opening.now) self.old (words_of words.now)) }
     {
         if !is_script(self.stage) {
             return Err(LineFault::Refused(Cause::Shape));
@@ -98,7 +101,8 @@ impl Body {
     /// Else the line's first failing check is answered, or `NoMemory`.
     pub fn take_step(&mut self, opening: &Opening, words: &[u8]) -> Result<(), LineFault>
         requires { length opening.now.delays ≤ MOST_COPIES }
-        ensures { GivesLine (λ _. self.new) result (step (step_kind opening.now) self.old (words_of words.now)) }
+        ensures { GivesLine (λ _. self.new) result
+            (step (step_kind opening.now) self.old (words_of words.now)) }
     {
         if !is_script(self.stage) {
             return Err(LineFault::Refused(Cause::Shape));
@@ -114,11 +118,12 @@ impl Body {
         Ok(())
     }
 
-    /// Takes in a `world` line of a script: its mirror and its copy are there, and there is room for a line that shows.
-    /// Else the line's first failing check is answered, or `NoMemory`.
+    /// Takes in a `world` line of a script: its mirror and its copy are there, and there is room
+    /// for a line that shows. Else the line's first failing check is answered, or `NoMemory`.
     pub fn take_world(&mut self, opening: &Opening, words: &[u8]) -> Result<(), LineFault>
         requires { length opening.now.delays ≤ MOST_COPIES }
-        ensures { GivesLine (λ _. self.new) result (step (world_kind opening.now) self.old (words_of words.now)) }
+        ensures { GivesLine (λ _. self.new) result
+            (step (world_kind opening.now) self.old (words_of words.now)) }
     {
         if !is_script(self.stage) {
             return Err(LineFault::Refused(Cause::Shape));
@@ -134,11 +139,12 @@ impl Body {
         Ok(())
     }
 
-    /// Takes in a `run` line of a script: its mirror and its copy are there, and there is room for a line that shows.
-    /// Else the line's first failing check is answered, or `NoMemory`.
+    /// Takes in a `run` line of a script: its mirror and its copy are there, and there is room for
+    /// a line that shows. Else the line's first failing check is answered, or `NoMemory`.
     pub fn take_run(&mut self, opening: &Opening, words: &[u8]) -> Result<(), LineFault>
         requires { length opening.now.delays ≤ MOST_COPIES }
-        ensures { GivesLine (λ _. self.new) result (step (run_kind opening.now) self.old (words_of words.now)) }
+        ensures { GivesLine (λ _. self.new) result
+            (step (run_kind opening.now) self.old (words_of words.now)) }
     {
         if !is_script(self.stage) {
             return Err(LineFault::Refused(Cause::Shape));
@@ -157,7 +163,8 @@ impl Body {
     /// Takes in a `restagger` line of a script: its mirror and its plan are there.
     /// Else the line's first failing check is answered, or `NoMemory`.
     pub fn take_restagger(&mut self, opening: &Opening, words: &[u8]) -> Result<(), LineFault>
-        ensures { GivesLine (λ _. self.new) result (step (restagger_kind opening.now) self.old (words_of words.now)) }
+        ensures { GivesLine (λ _. self.new) result
+            (step (restagger_kind opening.now) self.old (words_of words.now)) }
     {
         if !is_script(self.stage) {
             return Err(LineFault::Refused(Cause::Shape));

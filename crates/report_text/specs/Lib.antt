@@ -3,3 +3,4 @@ pub mod Mirrors
 pub mod Worlds
 pub mod Ends
 pub mod Score
+pub mod Soak

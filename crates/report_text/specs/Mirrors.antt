@@ -5,7 +5,8 @@ use Rattle.game_trait.specs.declared.command.Item.TheVariants.{Cmd, Beat}
 use Rattle.tss_io.specs.Lines.{as_line, spaced}
 use Rattle.tss_io.specs.Words.{behind_spaces}
 
--- a mirror's line: how many commands it accepted, how many arrivals it turned away, and how many copies it repaired
+-- a mirror's line: how many commands it accepted, how many arrivals it turned away, and how many
+-- copies it repaired
 unfoldable pub mirror_line : ℕ → ℕ → ℕ → ℕ → List ℕ
 mirror_line mirror accepted turned repairs = as_line (spaced (
     codes "mirror" ∷ decimal mirror ∷ codes "accepted" ∷ decimal accepted

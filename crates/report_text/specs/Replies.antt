@@ -11,7 +11,8 @@ use Rattle.tss_io.specs.Lines.{as_line, spaced}
 -- the line of a repair, where copies were repaired
 unfoldable pub repair_line : ℕ → ℕ → List ℕ
 repair_line mirror zero = []
-repair_line mirror (suc n) = as_line (spaced (codes "repair" ∷ decimal mirror ∷ decimal (suc n) ∷ []))
+repair_line mirror (suc n) =
+    as_line (spaced (codes "repair" ∷ decimal mirror ∷ decimal (suc n) ∷ []))
 
 -- what the answer to a tick prints
 unfoldable pub tick_text : ℕ → Ticked → List ℕ
@@ -23,7 +24,8 @@ unfoldable pub arrival_text : ℕ → ℕ → ℕ → Arrived → List ℕ
 arrival_text mirror from number Repeat =
     as_line (spaced (codes "repeat" ∷ decimal mirror ∷ decimal from ∷ decimal number ∷ []))
 arrival_text mirror from number (Late bound) =
-    as_line (spaced (codes "late" ∷ decimal mirror ∷ decimal from ∷ decimal number ∷ decimal bound ∷ []))
+    as_line (spaced
+    (codes "late" ∷ decimal mirror ∷ decimal from ∷ decimal number ∷ decimal bound ∷ []))
 arrival_text mirror from number (Taken repaired) = repair_line mirror repaired
 
 -- what the answer to a copy's step prints

@@ -1,5 +1,6 @@
--- What is told of a match in JSON: of each mirror how many commands it accepted, how many arrivals it turned away, how many
--- copies it repaired and the players' scores, and the players' names. The members of an object stand in the order of their keys.
+-- What is told of a match in JSON: of each mirror how many commands it accepted, how many arrivals
+-- it turned away, how many copies it repaired and the players' scores, and the players' names. The
+-- members of an object stand in the order of their keys.
 use Rattle.std.specs.Prelude.{ℕ, ℤ, List, map, codes}
 use Rattle.serde_json.specs.Data.{Data, number, unsigned, string, array, object, member, no_members}
 use Rattle.serde_json.specs.Find.{of_integer}
@@ -19,14 +20,37 @@ score_data score = number (of_integer score)
 abbrev pub scores_data : List ℤ → Data
 scores_data scores = array (items_of (map score_data scores))
 
+-- how one mirror stands: its number, how many commands it accepted and how many arrivals it turned
+-- away, how many copies it repaired, and the players' scores
+pub record Standing : Type 0 where
+  pub mirror : ℕ
+  pub accepted : ℕ
+  pub turned : ℕ
+  pub repairs : ℕ
+  pub scores : List ℤ
+
 -- what is told of one mirror
+abbrev pub standing_data : Standing → Data
+standing_data s = object (
+    member (codes "accepted") (count_data s.accepted) (
+    member (codes "mirror") (count_data s.mirror) (
+    member (codes "repairs") (count_data s.repairs) (
+    member (codes "scores") (scores_data s.scores) (
+    member (codes "turned") (count_data s.turned) no_members)))))
+
+-- how a mirror stands by its row
+abbrev pub standing_of : ScoreRow → Standing
+standing_of row = record {
+  mirror = row.mirror;
+  accepted = row.accepted;
+  turned = row.turned;
+  repairs = row.repairs;
+  scores = row.scores.items;
+}
+
+-- what a row tells
 abbrev pub row_data : ScoreRow → Data
-row_data row = object (
-    member (codes "accepted") (count_data row.accepted) (
-    member (codes "mirror") (count_data row.mirror) (
-    member (codes "repairs") (count_data row.repairs) (
-    member (codes "scores") (scores_data row.scores.items) (
-    member (codes "turned") (count_data row.turned) no_members)))))
+row_data row = standing_data (standing_of row)
 
 -- what is told of all mirrors
 abbrev pub rows_data : List ScoreRow → Data
@@ -45,3 +69,9 @@ scoreboard names rows = object (
 -- its text, without a space
 unfoldable pub score_text : List (List ℕ) → List ScoreRow → List ℕ
 score_text names rows = compact_text (scoreboard names rows)
+
+-- the text of the scoreboard of mirrors that stand so
+unfoldable pub standings_text : List (List ℕ) → List Standing → List ℕ
+standings_text names standings = compact_text (object (
+    member (codes "mirrors") (array (items_of (map standing_data standings))) (
+    member (codes "names") (names_data names) no_members)))

@@ -16,8 +16,8 @@ pub fn push_done(out: &mut Vec<u8>) -> Result<(), NoMemory>
     push_line(out, &[Word::Text(b"done")])
 }
 
-/// The line that tells of a refused text, `refused line L cause C WORD`. It takes no memory, so that a fault that was found
-/// can't come out as want of it.
+/// The line that tells of a refused text, `refused line L cause C WORD`. It takes no memory, so
+/// that a fault that was found can't come out as want of it.
 #[tactic(auto, unfolding(crate::specs::Ends::refused_text))]
 pub fn refused_line(refused: Refused) -> ArrayString<64>
     ensures { result.bytes ≡ refused_text refused }

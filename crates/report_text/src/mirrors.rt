@@ -6,8 +6,8 @@ ghost use Rattle.report_text.specs.Mirrors.{mirror_line, item_mark, run_head};
 use game_trait::{Item, MirrorId};
 use tss_io::{NoMemory, Word, push_decimal, push_line};
 
-/// Appends `mirror M accepted A turned Z repairs R`: how many commands the mirror accepted, how many arrivals it turned away,
-/// and how many copies it repaired. On `NoMemory` `out` is unchanged.
+/// Appends `mirror M accepted A turned Z repairs R`: how many commands the mirror accepted, how
+/// many arrivals it turned away, and how many copies it repaired. On `NoMemory` `out` is unchanged.
 #[tactic(auto, unfolding(crate::specs::Mirrors::mirror_line))]
 pub fn push_mirror_line(
     out: &mut Vec<u8>,
@@ -16,7 +16,8 @@ pub fn push_mirror_line(
     turned: u64,
     repairs: u64,
 ) -> Result<(), NoMemory>
-    ensures ok { OnOk result (out.new.items ≡ out.old.items ++ mirror_line mirror accepted turned repairs) }
+    ensures ok { OnOk result
+        (out.new.items ≡ out.old.items ++ mirror_line mirror accepted turned repairs) }
     ensures err { OnErr result (out.new.items ≡ out.old.items) }
 {
     push_line(
@@ -80,7 +81,8 @@ fn push_mark_parts(out: &mut Vec<u8>, item: &Item) -> Result<(), NoMemory>
     }
 }
 
-/// Appends a space and the mark of an item of a run: `F.N` for a command, and `|` for a beat. On `NoMemory` `out` is unchanged.
+/// Appends a space and the mark of an item of a run: `F.N` for a command, and `|` for a beat. On
+/// `NoMemory` `out` is unchanged.
 pub fn push_run_mark(out: &mut Vec<u8>, item: &Item) -> Result<(), NoMemory>
     ensures ok { OnOk result (out.new.items ≡ out.old.items ++ 32 ∷ item_mark item.now) }
     ensures err { OnErr result (out.new.items ≡ out.old.items) }

@@ -6,8 +6,8 @@ ghost use Rattle.report_text.specs.Replies.{repair_line, tick_text, arrival_text
 use game_trait::{Arrived, MirrorId, Number, Stepped, Ticked};
 use tss_io::{NoMemory, Word, push_line};
 
-/// Appends `repair M R`: at this mirror so many copies were repaired. It appends nothing where none was. On `NoMemory` `out`
-/// is unchanged. The line is this project's own, as all others are.
+/// Appends `repair M R`: at this mirror so many copies were repaired. It appends nothing where none
+/// was. On `NoMemory` `out` is unchanged. The line is this project's own, as all others are.
 #[tactic(auto, unfolding(crate::specs::Replies::repair_line))]
 pub fn push_repair(out: &mut Vec<u8>, mirror: MirrorId, repaired: u8) -> Result<(), NoMemory>
     ensures ok { OnOk result (out.new.items ≡ out.old.items ++ repair_line mirror repaired) }
@@ -26,8 +26,8 @@ pub fn push_repair(out: &mut Vec<u8>, mirror: MirrorId, repaired: u8) -> Result<
     )
 }
 
-/// Appends what the answer to a tick prints: `over M` where the mirror's clock stands at its end, and else nothing. On
-/// `NoMemory` `out` is unchanged.
+/// Appends what the answer to a tick prints: `over M` where the mirror's clock stands at its end,
+/// and else nothing. On `NoMemory` `out` is unchanged.
 #[tactic(auto, unfolding(crate::specs::Replies::tick_text))]
 pub fn push_ticked(out: &mut Vec<u8>, mirror: MirrorId, ticked: Ticked) -> Result<(), NoMemory>
     ensures ok { OnOk result (out.new.items ≡ out.old.items ++ tick_text mirror ticked) }
@@ -39,8 +39,9 @@ pub fn push_ticked(out: &mut Vec<u8>, mirror: MirrorId, ticked: Ticked) -> Resul
     }
 }
 
-/// Appends what the answer to an arrival prints, at this mirror of the command with this sender and number: `repeat M F N`,
-/// `late M F N BOUND` with the bound in ticks, or the line of a repair. On `NoMemory` `out` is unchanged.
+/// Appends what the answer to an arrival prints, at this mirror of the command with this sender and
+/// number: `repeat M F N`, `late M F N BOUND` with the bound in ticks, or the line of a repair. On
+/// `NoMemory` `out` is unchanged.
 #[tactic(auto, unfolding(crate::specs::Replies::arrival_text))]
 pub fn push_arrived(
     out: &mut Vec<u8>,
@@ -49,7 +50,8 @@ pub fn push_arrived(
     number: Number,
     arrived: Arrived,
 ) -> Result<(), NoMemory>
-    ensures ok { OnOk result (out.new.items ≡ out.old.items ++ arrival_text mirror from number arrived) }
+    ensures ok { OnOk result
+        (out.new.items ≡ out.old.items ++ arrival_text mirror from number arrived) }
     ensures err { OnErr result (out.new.items ≡ out.old.items) }
 {
     let (at, sender, name) = (
@@ -73,8 +75,8 @@ pub fn push_arrived(
     }
 }
 
-/// Appends what the answer to a copy's step prints: `idle M C` where it stands at its limit, or the line of a repair. On
-/// `NoMemory` `out` is unchanged.
+/// Appends what the answer to a copy's step prints: `idle M C` where it stands at its limit, or the
+/// line of a repair. On `NoMemory` `out` is unchanged.
 #[tactic(auto, unfolding(crate::specs::Replies::step_text))]
 pub fn push_stepped(
     out: &mut Vec<u8>,

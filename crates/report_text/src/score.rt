@@ -79,7 +79,7 @@ fn name_value(alloc: Global, name: &[u8]) -> Result<Value, NoMemory>
     }
 }
 
-// Puts the name of the player of this number last, if there is one.
+// Appends the name of the player of this number, if there is one.
 fn push_name(
     alloc: Global,
     values: &mut Vec<Value>,
@@ -121,8 +121,9 @@ fn board_value(alloc: Global, names: &Roster, rows: &[ScoreRow]) -> Result<Value
     Ok(Value::Object(members))
 }
 
-/// The scoreboard in JSON, without a space: an object with `mirrors`, of each mirror its counts and its scores, and `names`, the
-/// players' names. The members of an object stand in the order of their keys. A roster of a match has at most 32 names, of ASCII.
+/// The scoreboard in JSON, without a space: an object with `mirrors`, of each mirror its counts and
+/// its scores, and `names`, the players' names. The members of an object stand in the order of
+/// their keys. A roster of a match has at most 32 names, of ASCII.
 #[tactic(auto, unfolding(crate::specs::Score::score_text))]
 pub fn score_json(alloc: Global, names: &Roster, rows: &[ScoreRow]) -> Result<Vec<u8>, NoMemory>
     requires count { length names.now ≤ 32 }

@@ -44,8 +44,8 @@ fn push_block<G: Shown>(
     }
 }
 
-/// Appends the block of a copy, with the head `world M C TIME`: its mirror, its number, and its clock in ticks. On `NoMemory`
-/// `out` is unchanged.
+/// Appends the block of a copy, with the head `world M C TIME`: its mirror, its number, and its
+/// clock in ticks. On `NoMemory` `out` is unchanged.
 pub fn push_copy_block<G: Shown>(
     out: &mut Vec<u8>,
     mirror: MirrorId,
@@ -71,7 +71,8 @@ pub fn push_copy_block<G: Shown>(
     )
 }
 
-/// Appends the block of a world after so many ticks, with the head `order L`. On `NoMemory` `out` is unchanged.
+/// Appends the block of a world after so many ticks, with the head `order L`. On `NoMemory` `out`
+/// is unchanged.
 pub fn push_order_block<G: Shown>(
     out: &mut Vec<u8>,
     length: Tick,

@@ -1,18 +1,17 @@
 -- What a walk, the worlds of a mirror, and all mirrors tell of a record.
-use Rattle.std.proofs.Common.{◌≡◌, ◌↔◌, inl, inr, length, ℕ, ◌+◌, ◌-◌, ◌*◌, ◌≤◌, true, false, List, [], ◌∷◌, ◌++◌, Some, None, refl, ap, sym, subst, ◌∙◌, append_assoc, append-nil, arith}
+use Rattle.std.proofs.Common.{◌≡◌, ◌↔◌, inl, inr, length, ℕ, ◌+◌, ◌*◌, ◌≤◌, true, false, List, [], ◌∷◌, ◌++◌, Some, None, refl, ap, sym, subst, ◌∙◌, append_assoc, append-nil, arith}
 use Rattle.std.specs.Prelude.{bytes_eq}
 use Rattle.std.specs.List.{AllByRecursion}
 use Rattle.std.proofs.lemmas.Slice.Eq.{bytes_eq-Decides}
 use Rattle.game_trait.specs.declared.event.Event.{Event}
 use Rattle.game_trait.specs.declared.event.Note.{Note as NoteOf}
-use Rattle.sync_model.specs.State.{MirrorState, opening_state}
+use Rattle.sync_model.specs.State.{MirrorState}
 use Rattle.sync_model.specs.Change.{next, said, changes, after}
 use Rattle.sync_model.specs.Consistent.{IsConsistent}
 use Rattle.sync_model.specs.History.{EachChanges, first_state, without_room}
 use Rattle.sync_model.specs.Legal.{IsLegal}
-use Rattle.sync_model.proofs.Cases.{next-fixed}
 use Rattle.sync_model.proofs.History.{history-next}
-use Rattle.sync_model.proofs.Room.{said-same, from_history_reached}
+use Rattle.sync_model.proofs.Room.{said-same, from_history_reached, first-next}
 use Rattle.match_file.specs.Data.{MatchData}
 use Rattle.run_recorder.specs.declared.log.MirrorLog.{MirrorLog}
 use Rattle.run_recorder.specs.declared.race_record.RaceRecord.{RaceRecord}
@@ -24,17 +23,16 @@ use Rattle.run_auditor.specs.declared.walk.Walked.TheVariants.{Note, End, Stuck}
 use Rattle.run_auditor.specs.declared.why.Fault.{Fault}
 use Rattle.run_auditor.specs.declared.why.Why.{Why}
 use Rattle.run_auditor.specs.declared.why.Why.TheVariants as whys
-use Rattle.run_auditor.specs.Audit.{Showing, start, block_of, IsStated, IsRight, IsStuckAt, IsFirstWrong, IsFault, Found, FoundFalse, AllRight, IsFirstFault, events_in, IsLegalRecord, Tells, says_legal}
+use Rattle.run_auditor.specs.Audit.{start, IsStated, IsRight, IsStuckAt, IsFirstWrong, IsFault, Found, FoundFalse, AllRight, IsFirstFault, event_count, IsLegalRecord, Tells, says_legal}
 use Rattle.run_auditor.specs.Walks.{why_of, Walk, walk_of, told, told_next, moved, moved_on, WentOn, Stopped}
 use Rattle.run_auditor.proofs.WalkLaws.{why_changes, why_stays, events_named, opened_copies}
+use Rattle.report_text.specs.Worlds.{Showing, copy_block}
+use Rattle.sync_model.specs.Drafts.{run_of}
 
 -- ---- a walk
 
 pub went_nowhere : {W : Type 0} (w : Walk W) → WentOn w w
 went_nowhere w = record { number = refl; begun = refl; log = refl }
-
-first-next : {W : Type 0} (s : MirrorState W) (e : Event) → first_state (next s e) ≡ first_state s
-first-next s e = let same = next-fixed s e in λ i. opening_state (same.opening i) (same.length i) (same.plans i) 0 0
 
 went_further : {W : Type 0} (w v : Walk W) (e : Event) (es : List Event) → v.left ≡ e ∷ es → changes v.mirror e ≡ true → WentOn w v → WentOn w (record v { mirror = next v.mirror e; left = es })
 went_further w v e es left changed on =
@@ -74,9 +72,6 @@ stuck_stays w v (x ∷ xs) place why here e on =
     ] refl e
 
 -- ---- the worlds of a mirror
-
-pub same_bytes : (a b : List ℕ) → bytes_eq a b ≡ true → a ≡ b
-same_bytes a b = (bytes_eq-Decides a b).0
 
 pub other_bytes : (a b : List ℕ) → bytes_eq a b ≡ false → a ≡ b → ⊥
 other_bytes a b e same = let k = (bytes_eq-Decides a b).1 same in absurd cc
@@ -143,19 +138,19 @@ legal_log opening m number log w events is on ended =
     (whole, record { changes = subst (EachChanges (start opening m)) whole before; there = events_named m (start opening m) log refl (opened_copies opening m 0 0) events })
 
 -- the worlds of the mirror are those after the log
-stated_alike : {W : Type 0} (show : Showing W) (opening : W) (m : MatchData) (number : ℕ) (log : List Event) (s : MirrorState W) → IsConsistent s → first_state s ≡ start opening m → s.history ≡ log → IsStated show m number s ≡ IsStated show m number (after (start opening m) log)
+stated_alike : {W : Type 0} (show : Showing W) (opening : W) (m : MatchData) (number : ℕ) (log : List Event) (s : MirrorState W) → IsConsistent s → first_state s ≡ start opening m → s.history ≡ log → IsStated show number s ≡ IsStated show number (after (start opening m) log)
 stated_alike show opening m number log s is begun whole =
     let same = reached_start opening m s is begun ∙ ap (λ h. without_room (after (start opening m) h)) whole in
-    λ i copy block. block ≡ block_of show m number (same i) copy
+    λ i copy block. block ≡ copy_block show number (same i).opening copy (run_of (same i) copy)
 
 pub found_false : {W : Type 0} (show : Showing W) (opening : W) (m : MatchData) (number : ℕ) (log : List Event) (blocks : List (List ℕ)) (w : Walk W) (copy : ℕ) → AllByRecursion (IsEventOf m) log
-    → IsConsistent w.mirror → WentOn (walk_of opening m number log) w → Stopped w None → FoundFalse show m number w.mirror blocks (Some copy) → Found show opening m number log blocks (Some (record { place = copy; why = whys.World }))
+    → IsConsistent w.mirror → WentOn (walk_of opening m number log) w → Stopped w None → FoundFalse show number w.mirror blocks (Some copy) → Found show opening m number log blocks (Some (record { place = copy; why = whys.World }))
 found_false show opening m number log blocks w copy events is on stopped wrong =
     let legal = legal_log opening m number log w events is on stopped in
     inr (record { legal = legal.1; cause = refl; world = subst (λ Is. IsFirstWrong Is 0 blocks copy) (stated_alike show opening m number log w.mirror is on.begun legal.0) wrong })
 
 pub found_right : {W : Type 0} (show : Showing W) (opening : W) (m : MatchData) (number : ℕ) (log : List Event) (blocks : List (List ℕ)) (w : Walk W) → AllByRecursion (IsEventOf m) log
-    → IsConsistent w.mirror → WentOn (walk_of opening m number log) w → Stopped w None → FoundFalse show m number w.mirror blocks None → Found show opening m number log blocks None
+    → IsConsistent w.mirror → WentOn (walk_of opening m number log) w → Stopped w None → FoundFalse show number w.mirror blocks None → Found show opening m number log blocks None
 found_right show opening m number log blocks w events is on stopped right =
     let legal = legal_log opening m number log w events is on stopped in
     record { legal = legal.1; worlds = subst (λ Is. EachNumbered Is 0 blocks) (stated_alike show opening m number log w.mirror is on.begun legal.0) right }
@@ -167,14 +162,14 @@ pub record MirrorsOn {W : Type 0} (show : Showing W) (opening : W) (m : MatchDat
   pub number : ℕ
   pub right : AllRight show opening m number logs worlds → AllRight show opening m 0 all_logs all_worlds
   pub fault : (mirror place : ℕ) (why : Why) → IsFirstFault show opening m number logs worlds mirror place why → IsFirstFault show opening m 0 all_logs all_worlds mirror place why
-  pub counted : events + events_in logs ≡ events_in all_logs
-  pub few : events_in all_logs ≤ 1048576
+  pub counted : events + event_count logs ≡ event_count all_logs
+  pub few : event_count all_logs ≤ 1048576
   pub level : length worlds ≡ length logs
   pub are : EachNumbered (IsLogOf m) number logs
   pub stated : EachNumbered (AreWorldsOf m) number worlds
 
-few_events : (m : MatchData) (n : ℕ) (logs : List MirrorLog) → EachNumbered (IsLogOf m) n logs → events_in logs ≤ 131072 * length logs
-unfolding EachNumbered events_in
+few_events : (m : MatchData) (n : ℕ) (logs : List MirrorLog) → EachNumbered (IsLogOf m) n logs → event_count logs ≤ 131072 * length logs
+unfolding EachNumbered event_count
 few_events m n [] are = omega arith
 few_events m n (log ∷ logs) are = let few = are.0.few in let more = few_events m (n + 1) logs are.1 in omega arith
 
@@ -198,13 +193,13 @@ mirrors_there show opening m logs others worlds further log blocks all_logs all_
 
 pub mirrors_next : {W : Type 0} (show : Showing W) (opening : W) (m : MatchData) (logs others : List MirrorLog) (worlds further : List (List (List ℕ))) (log : MirrorLog) (blocks : List (List ℕ)) (all_logs : List MirrorLog) (all_worlds : List (List (List ℕ))) (events : ℕ)
     → logs ≡ log ∷ others → worlds ≡ blocks ∷ further → Found show opening m log.mirror log.events blocks None → MirrorsOn show opening m logs worlds all_logs all_worlds events → MirrorsOn show opening m others further all_logs all_worlds (events + length log.events)
-unfolding EachNumbered AllRight IsFirstFault events_in
+unfolding EachNumbered AllRight IsFirstFault event_count
 mirrors_next show opening m logs others worlds further log blocks all_logs all_worlds events some shown found on =
     let next = mirrors_there show opening m logs others worlds further log blocks all_logs all_worlds events some shown on in
     let here : IsRight show opening m on.number log.events blocks = subst (λ n. IsRight show opening m n log.events blocks) next.log_of.mirror found in
     let counted = on.counted in
     let level = on.level in
-    let more : events_in logs ≡ length log.events + events_in others = ap events_in some in
+    let more : event_count logs ≡ length log.events + event_count others = ap event_count some in
     let one : length logs ≡ length others + 1 = ap length some ∙ omega arith in
     let other : length worlds ≡ length further + 1 = ap length shown ∙ omega arith in
     record {
@@ -227,8 +222,8 @@ mirrors_fault show opening m logs others worlds further log blocks all_logs all_
     on.fault log.mirror fault.place fault.why (rw (some, shown) (inl (next.log_of.mirror, here)))
 
 pub mirrors_end : {W : Type 0} (show : Showing W) (opening : W) (m : MatchData) (logs : List MirrorLog) (worlds : List (List (List ℕ))) (all_logs : List MirrorLog) (all_worlds : List (List (List ℕ))) (events : ℕ) → length logs ≡ 0
-    → MirrorsOn show opening m logs worlds all_logs all_worlds events → AllRight show opening m 0 all_logs all_worlds × (events ≡ events_in all_logs)
-unfolding AllRight events_in
+    → MirrorsOn show opening m logs worlds all_logs all_worlds events → AllRight show opening m 0 all_logs all_worlds × (events ≡ event_count all_logs)
+unfolding AllRight event_count
 mirrors_end show opening m [] worlds all_logs all_worlds events none on = let counted = on.counted in (on.right tt, omega arith)
 mirrors_end show opening m (log ∷ logs) worlds all_logs all_worlds events none on = absurd (omega arith)
 
@@ -240,11 +235,11 @@ mirrors_short show opening m logs others worlds log all_logs all_worlds events s
 
 -- the count so far is small
 pub events_small : {W : Type 0} (show : Showing W) (opening : W) (m : MatchData) (logs others : List MirrorLog) (worlds : List (List (List ℕ))) (log : MirrorLog) (all_logs : List MirrorLog) (all_worlds : List (List (List ℕ))) (events : ℕ) → logs ≡ log ∷ others → MirrorsOn show opening m logs worlds all_logs all_worlds events → events + length log.events ≤ 1048576
-unfolding events_in
+unfolding event_count
 events_small show opening m logs others worlds log all_logs all_worlds events some on =
     let counted = on.counted in
     let few = on.few in
-    let more : events_in logs ≡ length log.events + events_in others = ap events_in some in
+    let more : event_count logs ≡ length log.events + event_count others = ap event_count some in
     omega (arith, more)
 
 -- ---- a fault excludes that all is right
@@ -254,13 +249,13 @@ unfolding EachChanges after
 changes_at s [] e rest h = h.0
 changes_at s (x ∷ front) e rest h = changes_at (next s x) front e rest h.1
 
-not_stuck : {W : Type 0} (s : MirrorState W) (log : List Event) (place : ℕ) (why : Why) → EachChanges s log → IsStuckAt s log place why → ⊥
+pub not_stuck : {W : Type 0} (s : MirrorState W) (log : List Event) (place : ℕ) (why : Why) → EachChanges s log → IsStuckAt s log place why → ⊥
 not_stuck s log place why each at =
     let changed = changes_at s at.front at.event at.rest (subst (EachChanges s) at.whole each) in
     let same = why_stays (said (after s at.front) at.event) why at.stuck in
     absurd cc
 
-not_wrong : {A : Type 0} (Is : ℕ → A → Type 0) (n : ℕ) (xs : List A) (place : ℕ) → EachNumbered Is n xs → IsFirstWrong Is n xs place → ⊥
+pub not_wrong : {A : Type 0} (Is : ℕ → A → Type 0) (n : ℕ) (xs : List A) (place : ℕ) → EachNumbered Is n xs → IsFirstWrong Is n xs place → ⊥
 unfolding EachNumbered IsFirstWrong
 not_wrong Is n [] place each wrong = wrong
 not_wrong Is n (a ∷ xs) place each wrong = elim wrong [ inl here ↦ here.1 each.0 | inr more ↦ not_wrong Is (n + 1) xs place each.1 more.1 ]

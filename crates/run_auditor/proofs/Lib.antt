@@ -1,2 +1,3 @@
-mod AuditLaws
+pub mod AuditLaws
 mod WalkLaws
+pub mod VerdictLaws

@@ -1,8 +1,6 @@
 -- What the next event of a walk finds and leaves.
-use Rattle.std.proofs.Common.{◌≡◌, length, map, ℕ, ◌+◌, ◌-◌, ◌<◌, ◌≤◌, Bool, true, false, cond, ◌&&◌, List, [], ◌∷◌, ◌++◌, Some, None, refl, ap, sym, subst, ◌∙◌, length-append, arith}
-use Rattle.std.specs.Prelude.{find}
-use Rattle.std.specs.List.{AllByRecursion, Contains}
-use Rattle.std.proofs.lemmas.List.Elements.{Contains-get_or, Contains-append_right}
+use Rattle.std.proofs.Common.{◌≡◌, length, ℕ, ◌+◌, ◌-◌, ◌<◌, ◌≤◌, Bool, true, false, cond, ◌&&◌, List, [], ◌∷◌, ◌++◌, Some, None, refl, ap, sym, subst, ◌∙◌, length-append, arith}
+use Rattle.std.specs.List.{AllByRecursion}
 use Rattle.std.proofs.lemmas.List.{length-map}
 use Rattle.game_trait.specs.declared.command.Command.{Command}
 use Rattle.game_trait.specs.declared.event.Event.{Event}
@@ -12,11 +10,10 @@ use Rattle.game_trait.specs.declared.event.Reply.TheVariants.{Tick as ToTick, Ar
 use Rattle.game_trait.specs.declared.event.Ticked.TheVariants.{Moved, Over}
 use Rattle.game_trait.specs.declared.event.Arrived.TheVariants.{Taken, Repeat, Late}
 use Rattle.game_trait.specs.declared.event.Stepped.TheVariants.{Ran, Idle}
-use Rattle.game_trait.specs.declared.limits.TheConstants.{MOST_PLANS, MOST_ROOM}
-use Rattle.game_trait.specs.Keys.{is_named}
+use Rattle.game_trait.specs.declared.limits.TheConstants.{MOST_ROOM}
 use Rattle.game_trait.specs.Count.{times}
 use Rattle.game_trait.specs.Events.{is_arrival, is_restagger}
-use Rattle.sync_model.specs.Schedule.{Schedule, IsSchedule}
+use Rattle.sync_model.specs.Schedule.{Schedule, delays_of_each, ticks_of_first}
 use Rattle.sync_model.specs.State.{MirrorState, opening_state}
 use Rattle.sync_model.specs.Change.{next, said, changes, is_change, Fits}
 use Rattle.sync_model.specs.History.{HasRoom}
@@ -25,11 +22,13 @@ use Rattle.sync_model.proofs.Legal.{named-fits}
 use Rattle.sync_model.proofs.Along.{all-fit-next}
 use Rattle.sync_model.proofs.History.{history-next, unchanged-next}
 use Rattle.sync_model.proofs.Room.{spare-next, plan_spare-next}
-use Rattle.mirror_core.specs.Kept.{delays_of_each, ticks_of_first, copies_of_first}
-use Rattle.match_file.specs.Data.{MatchData, IsMatch, IsCommand, schedule_of}
+use Rattle.match_file.specs.Data.{MatchData, IsMatch, IsCommand, all_plans, schedules}
 use Rattle.run_recorder.specs.Data.{IsEventOf}
 use Rattle.run_auditor.specs.declared.why.Why.{Why}
-use Rattle.run_auditor.specs.Walks.{why_of, Walk, IsWalk, moved, moved_on, all_plans, schedules}
+use Rattle.run_auditor.specs.Walks.{why_of, Walk, IsWalk, moved, moved_on}
+use Rattle.game_trait.proofs.CommandLists.{command_named-Contains}
+use Rattle.match_file.proofs.Plans.{delays-of_schedules}
+use Rattle.std.proofs.Math.Bool.{and-true}
 
 -- ---- answers
 
@@ -65,17 +64,13 @@ has_room s left rest (Restagger p) whole is = let spare : s.plan_spare ≡ times
 pub fits_next : {W : Type 0} (s : MirrorState W) (left rest : List Event) (e : Event) → left ≡ e ∷ rest → IsWalk s left → Fits s e
 fits_next s left rest e whole is = (subst (AllByRecursion (Fits s)) whole is.fits).0
 
-and_true : (b : Bool) → (b && true) ≡ b
-and_true true = refl
-and_true false = refl
-
 -- an event that changes the mirror
 pub walk_moves : {W : Type 0} (s : MirrorState W) (left rest : List Event) (e : Event) → left ≡ e ∷ rest → changes s e ≡ true → IsWalk s left → IsWalk (next s e) rest
 unfolding times
 walk_moves s left rest e whole changed is =
     let spare : s.spare ≡ cond (is_arrival e) 1 0 + times is_arrival rest = is.spare ∙ ap (times is_arrival) whole in
     let plan_spare : s.plan_spare ≡ cond (is_restagger e) 1 0 + times is_restagger rest = is.plan_spare ∙ ap (times is_restagger) whole in
-    let after : (next s e).spare ≡ s.spare - cond (is_arrival e) 1 0 = spare-next s e ∙ ap (λ (b : Bool). s.spare - cond (is_arrival e && b) 1 0) changed ∙ ap (λ (b : Bool). s.spare - cond b 1 0) (and_true (is_arrival e)) in
+    let after : (next s e).spare ≡ s.spare - cond (is_arrival e) 1 0 = spare-next s e ∙ ap (λ (b : Bool). s.spare - cond (is_arrival e && b) 1 0) changed ∙ ap (λ (b : Bool). s.spare - cond b 1 0) (and-true (is_arrival e)) in
     let plan_after = plan_spare-next s e in
     let history : (next s e).history ≡ s.history ++ e ∷ [] = history-next s e ∙ rw changed refl in
     let few = is.few in
@@ -99,19 +94,10 @@ stays_put {W} w v e rest why here whole stuck =
 
 -- ---- a walk that begins
 
-find-Contains : {X : Type 0} (test : X → Bool) (xs : List X) (x : X) → find test xs ≡ Some x → Contains xs x
-find-Contains test [] x e = absurd cc
-find-Contains test (y ∷ ys) x e =
-    elim (test y) as (λ v. cond v (Some y) (find test ys) ≡ Some x → Contains (y ∷ ys) x) [
-      | true ↦ λ h. (let same : y ≡ x = cc in subst (Contains (y ∷ ys)) same (Contains-get_or (y ∷ ys) 0 y (omega arith)))
-      | false ↦ λ h. Contains-append_right (y ∷ []) ys x (find-Contains test ys x h)
-    ]
-    e
-
 -- an event of the match names what is there at each of its mirrors
 event_named : {W : Type 0} (m : MatchData) (s : MirrorState W) (e : Event) → s.plans ≡ all_plans m → length s.runs ≡ length m.delays → IsEventOf m e → NamesWhatIsThere m.commands s e
 event_named m s Tick plans copies is = tt
-event_named m s (Arrive x) plans copies is = find-Contains (is_named x.from x.number) m.commands x is
+event_named m s (Arrive x) plans copies is = command_named-Contains m.commands x.from x.number x is
 event_named m s (Step c) plans copies is = omega (arith, copies, is)
 event_named m s (Restagger p) plans copies is = let count : length s.plans ≡ length m.plans + 1 = ap length plans ∙ omega arith in omega (arith, count, is)
 
@@ -140,32 +126,9 @@ walk_begins opening m log is few of_match =
       few = omega arith;
     }
 
--- ---- plans
+-- ---- the mirror of a walk
 
-of-plans :
-    (m : MatchData) (plans : List (List ℕ)) → AllByRecursion (λ p. IsSchedule (schedule_of m p) × (length p ≡ length m.delays)) plans
-    → AllByRecursion (λ plan. plan.length ≡ m.length) (map (schedule_of m) plans) × AllByRecursion (λ plan. length plan.delays ≡ length m.delays) (map (schedule_of m) plans)
-of-plans m [] each = (tt, tt)
-of-plans m (p ∷ ps) each = (let rest = of-plans m ps each.1 in ((refl, rest.0), (each.0.1, rest.1)))
-
--- the plans of a match have as many ticks and as many copies
-pub equal-ticks : (m : MatchData) → IsMatch m → AllByRecursion (λ plan. plan.length ≡ ticks_of_first (schedules m)) (schedules m)
-equal-ticks m sound = (refl, (of-plans m m.plans sound.plans).0)
-
-pub equal-copies : (m : MatchData) → IsMatch m → AllByRecursion (λ plan. length plan.delays ≡ copies_of_first (schedules m)) (schedules m)
-equal-copies m sound = (refl, (of-plans m m.plans sound.plans).1)
-
-pub few-plans : (m : MatchData) → IsMatch m → length (schedules m) ≤ MOST_PLANS
-few-plans m sound = (let few = sound.plan_count in let many = length-map m.plans (schedule_of m) in omega arith)
-
-each-delays : (m : MatchData) (ps : List (List ℕ)) → delays_of_each (map (schedule_of m) ps) ≡ ps
-each-delays m [] = refl
-each-delays m (p ∷ ps) = ap (λ (qs : List (List ℕ)). p ∷ qs) (each-delays m ps)
-
-pub delays-of_schedules : (m : MatchData) → delays_of_each (schedules m) ≡ all_plans m
-delays-of_schedules m = ap (λ (ps : List (List ℕ)). m.delays ∷ ps) (each-delays m m.plans)
-
--- the mirror that is made of them
+-- the mirror that is made of a match's plans
 pub opened : {W : Type 0} (opening : W) (m : MatchData) (plans : List Schedule) (log : List Event) (room changes : ℕ) (s : MirrorState W) → plans ≡ schedules m → room ≡ times is_arrival log → changes ≡ times is_restagger log
     → s ≡ opening_state opening (ticks_of_first plans) (delays_of_each plans) room changes → s ≡ opening_state opening m.length (all_plans m) (times is_arrival log) (times is_restagger log)
 opened opening m plans log room changes s is counted changed made = made ∙ rw (is, delays-of_schedules m, counted, changed) refl

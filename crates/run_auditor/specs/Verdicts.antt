@@ -18,4 +18,5 @@ why_word World = codes "world"
 unfoldable pub verdict_text : Verdict → List ℕ
 verdict_text (Legal events) = as_line (spaced (codes "legal" ∷ decimal events ∷ [])) ++ done_line
 verdict_text (NotLegal mirror place why) = as_line (spaced (
-    codes "not" ∷ codes "legal" ∷ codes "mirror" ∷ decimal mirror ∷ codes "place" ∷ decimal place ∷ codes "why" ∷ why_word why ∷ []))
+    codes "not" ∷ codes "legal" ∷ codes "mirror" ∷ decimal mirror ∷ codes "place" ∷ decimal place
+    ∷ codes "why" ∷ why_word why ∷ []))

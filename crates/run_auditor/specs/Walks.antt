@@ -1,5 +1,6 @@
--- Walking along a log: each of its events is made on a mirror, up to the first that changes nothing.
-use Rattle.std.specs.Prelude.{◌≡◌, ℕ, ◌+◌, ◌≤◌, ◌++◌, List, [], ◌∷◌, length, Option, Some, None, map}
+-- Walking along a log: each of its events is made on a mirror, up to the first that changes
+-- nothing.
+use Rattle.std.specs.Prelude.{◌≡◌, ℕ, ◌+◌, ◌≤◌, ◌++◌, List, [], ◌∷◌, length, Option, Some, None}
 use Rattle.std.specs.List.{AllByRecursion}
 use Rattle.game_trait.specs.declared.event.Event.{Event}
 use Rattle.game_trait.specs.declared.event.Reply.{Reply}
@@ -11,10 +12,9 @@ use Rattle.game_trait.specs.declared.limits.TheConstants.{MOST_ROOM}
 use Rattle.game_trait.specs.Count.{times}
 use Rattle.game_trait.specs.Events.{is_arrival, is_restagger}
 use Rattle.sync_model.specs.State.{MirrorState, opening_state}
-use Rattle.sync_model.specs.Schedule.{Schedule}
 use Rattle.sync_model.specs.Change.{next, said, Fits}
 use Rattle.sync_model.specs.History.{first_state}
-use Rattle.match_file.specs.Data.{MatchData, schedule_of}
+use Rattle.match_file.specs.Data.{MatchData, all_plans}
 use Rattle.run_auditor.specs.declared.why.Fault.{Fault}
 use Rattle.run_auditor.specs.declared.why.Why.{Why}
 use Rattle.run_auditor.specs.declared.why.Why.TheVariants as whys
@@ -32,7 +32,8 @@ why_of (ToStep (Ran repaired)) = None
 why_of (ToStep Idle) = Some whys.Idle
 why_of Restaggered = None
 
--- a walk: whose log it is, the mirror, whose history is what was made of the log, and the events that are left
+-- a walk: whose log it is, the mirror, whose history is what was made of the log, and the events
+-- that are left
 pub record Walk (W : Type 0) : Type 0 where
   pub number : ℕ
   pub mirror : MirrorState W
@@ -43,6 +44,7 @@ abbrev pub told : {W : Type 0} → Walk W → Event → Option Why → Walked
 told w e None = Note (record { mirror = w.number; event = e; reply = said w.mirror e })
 told w e (Some why) = Stuck (length w.mirror.history) why
 
+-- what it tells of these events, of which the first is the next
 abbrev pub told_next : {W : Type 0} → Walk W → List Event → Walked
 told_next w [] = End
 told_next w (e ∷ es) = told w e (why_of (said w.mirror e))
@@ -52,22 +54,17 @@ abbrev pub moved : {W : Type 0} → Walk W → Event → List Event → Option W
 moved w e es None = record w { mirror = next w.mirror e; left = es }
 moved w e es (Some why) = w
 
+-- the walk once it went on along these
 abbrev pub moved_on : {W : Type 0} → Walk W → List Event → Walk W
 moved_on w [] = w
 moved_on w (e ∷ es) = moved w e es (why_of (said w.mirror e))
-
--- the plans of a match, plan 0 first, and their schedules
-abbrev pub all_plans : MatchData → List (List ℕ)
-all_plans m = m.delays ∷ m.plans
-
-abbrev pub schedules : MatchData → List Schedule
-schedules m = map (schedule_of m) (all_plans m)
 
 -- a walk that begins: a mirror of the match before any event, with room for the log
 abbrev pub walk_of : {W : Type 0} → W → MatchData → ℕ → List Event → Walk W
 walk_of opening m number log = record {
   number = number;
-  mirror = opening_state opening m.length (all_plans m) (times is_arrival log) (times is_restagger log);
+  mirror = opening_state opening m.length (all_plans m) (times is_arrival log)
+      (times is_restagger log);
   left = log;
 }
 
@@ -87,4 +84,6 @@ pub record WentOn {W : Type 0} (w v : Walk W) : Type 0 where
 -- where a walk stopped: behind the log, or at an event that changes nothing
 abbrev pub Stopped : {W : Type 0} → Walk W → Option Fault → Type 0
 Stopped w None = w.left ≡ []
-Stopped w (Some fault) = (e : Event) × (rest : List Event) × (w.left ≡ e ∷ rest) × (fault.place ≡ length w.mirror.history) × (why_of (said w.mirror e) ≡ Some fault.why)
+Stopped w (Some fault) =
+    (e : Event) × (rest : List Event) × (w.left ≡ e ∷ rest)
+    × (fault.place ≡ length w.mirror.history) × (why_of (said w.mirror e) ≡ Some fault.why)

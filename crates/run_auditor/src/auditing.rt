@@ -4,8 +4,9 @@ ghost use Rattle.std.specs.Prelude.{◌≡◌, ◌≤◌, ◌<◌, ◌↔◌, �
 ghost use Rattle.std.specs.List.{AllByRecursion};
 ghost use Rattle.game_trait.specs.declared.limits.TheConstants.{MOST_ROOM, MOST_COPIES};
 ghost use Rattle.match_file.specs.Data.{IsMatch};
+ghost use Rattle.report_text.specs.Worlds.{Showing, copy_block};
 ghost use Rattle.run_recorder.specs.Data.{IsEventOf, IsRecord};
-ghost use Rattle.run_auditor.specs.Audit.{Showing, block_of, IsStated, FoundFalse, Found, IsLegalRecord, Tells, says_legal};
+ghost use Rattle.run_auditor.specs.Audit.{IsStated, FoundFalse, Found, IsLegalRecord, Tells, says_legal};
 ghost use Rattle.run_auditor.specs.Walks.{WentOn, Stopped, walk_of};
 
 use crate::verdict::Verdict;
@@ -44,8 +45,12 @@ fn is_stated<G: Game + Shown>(
     block: &Block,
 ) -> Result<bool, NoMemory>
     requires { copy < length mirror.now.runs }
-    ensures same { IfOk result (λ same. same ≡ true → IsStated (record { rules = G.rules; lines = G.lines }) game.now number mirror.now copy block.now) }
-    ensures other { IfOk result (λ same. same ≡ false → IsStated (record { rules = G.rules; lines = G.lines }) game.now number mirror.now copy block.now → ⊥) }
+    ensures same { let show : Showing G =
+        record { rules = G.rules; lines = G.lines; names = game.now.names } in
+        IfOk result (λ same. same ≡ true → IsStated show number mirror.now copy block.now) }
+    ensures other { let show : Showing G =
+        record { rules = G.rules; lines = G.lines; names = game.now.names } in
+        IfOk result (λ same. same ≡ false → IsStated show number mirror.now copy block.now → ⊥) }
 {
     let mut text = Vec::new(alloc);
     push_copy_block(
@@ -69,7 +74,9 @@ fn false_world<G: Game + Shown>(
 ) -> Result<Option<u32>, NoMemory>
     requires copies { length blocks.now ≡ length mirror.now.runs }
     requires few { length blocks.now ≤ MOST_COPIES }
-    ensures { IfOk result (FoundFalse (record { rules = G.rules; lines = G.lines }) game.now number mirror.now blocks.now) }
+    ensures { let show : Showing G =
+        record { rules = G.rules; lines = G.lines; names = game.now.names } in
+        IfOk result (FoundFalse show number mirror.now blocks.now) }
 {
     let mut copy: u8 = 0;
     let mut rest = blocks;
@@ -83,7 +90,8 @@ fn false_world<G: Game + Shown>(
     Ok(None)
 }
 
-// The first fault of a mirror, if it has one: of its log, of whose walk no event is made yet, and then of its worlds.
+// The first fault of a mirror, if it has one: of its log, of whose walk no event is made yet, and
+// then of its worlds.
 fn audit_walk<G: Game + Shown>(
     alloc: Global,
     game: &Match,
@@ -92,10 +100,14 @@ fn audit_walk<G: Game + Shown>(
     blocks: &[Block],
 ) -> Result<Option<Fault>, NoMemory>
     requires sound { IsMatch game.now }
-    requires begun { walk.old ≡ walk_of walk.old.mirror.opening game.now log.now.mirror log.now.events }
+    requires begun { walk.old
+        ≡ walk_of walk.old.mirror.opening game.now log.now.mirror log.now.events }
     requires events { AllByRecursion (IsEventOf game.now) log.now.events }
     requires copies { length blocks.now ≡ length game.now.delays }
-    ensures { IfOk result (Found (record { rules = G.rules; lines = G.lines }) walk.old.mirror.opening game.now log.now.mirror log.now.events blocks.now) }
+    ensures { let show : Showing G =
+        record { rules = G.rules; lines = G.lines; names = game.now.names } in
+        IfOk result (Found show walk.old.mirror.opening game.now log.now.mirror log.now.events
+        blocks.now) }
 {
     let stuck = walk_log(walk);
     let mirror = walk.mirror();
@@ -127,15 +139,18 @@ fn audit_mirror<G: Game + Shown>(
     requires few { length log.now.events ≤ MOST_ROOM }
     requires events { AllByRecursion (IsEventOf game.now) log.now.events }
     requires copies { length blocks.now ≡ length game.now.delays }
-    ensures { IfOk result (Found (record { rules = G.rules; lines = G.lines }) opening.now game.now log.now.mirror log.now.events blocks.now) }
+    ensures { let show : Showing G =
+        record { rules = G.rules; lines = G.lines; names = game.now.names } in
+        IfOk result (Found show opening.now game.now log.now.mirror log.now.events blocks.now) }
 {
     let mut walk = LogWalk::new(alloc, game, opening, log)?;
     audit_walk(alloc, game, &mut walk, log, blocks)
 }
 
-/// Audits a record that `read_record` can give, of a match that opens so. Mirror after mirror, the events of its log are made in
-/// order, and its stated worlds are compared with those after the log, copy 0 first. The first event that changes nothing, or the
-/// first world that isn't stated exactly as it is, is named. Want of memory says nothing of the record.
+/// Audits a record that `read_record` can give, of a match that opens so. Mirror after mirror, the
+/// events of its log are made in order, and its stated worlds are compared with those after the
+/// log, copy 0 first. The first event that changes nothing, or the first world that isn't stated
+/// exactly as it is, is named. Want of memory says nothing of the record.
 pub fn audit<G: Game + Shown>(
     alloc: Global,
     r: &RaceRecord,
@@ -143,9 +158,13 @@ pub fn audit<G: Game + Shown>(
 ) -> Result<Verdict, NoMemory>
     requires { IsRecord r.now }
     // The record is legal exactly where the verdict says so.
-    ensures legal { IfOk result (λ v. (says_legal v ≡ true) ↔ IsLegalRecord (record { rules = G.rules; lines = G.lines }) opening.now r.now) }
+    ensures legal { let show : Showing G =
+        record { rules = G.rules; lines = G.lines; names = r.now.game.names } in
+        IfOk result (λ v. (says_legal v ≡ true) ↔ IsLegalRecord show opening.now r.now) }
     // It counts all events, or names the first fault.
-    ensures verdict { IfOk result (Tells (record { rules = G.rules; lines = G.lines }) opening.now r.now) }
+    ensures verdict { let show : Showing G =
+        record { rules = G.rules; lines = G.lines; names = r.now.game.names } in
+        IfOk result (Tells show opening.now r.now) }
 {
     let mut events: u64 = 0;
     let mut logs = r.logs.as_slice();

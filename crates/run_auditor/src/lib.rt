@@ -1,7 +1,9 @@
-//! Checks a record: that every log is legal, and every stated world is exactly the one that the log leads to.
+//! Checks a record: that every log is legal, and every stated world is exactly the one that the log
+//! leads to.
 #![tactic(auto)]
 
 mod auditing;
+pub mod laws;
 mod verdict;
 mod walk;
 mod why;

@@ -40,8 +40,8 @@ fn word_of(why: Why) -> &'static [u8]
 }
 
 impl Verdict {
-    /// Appends what an audit prints: `legal E` and `done`, or `not legal mirror M place P why WHY` alone. On `NoMemory` a front of
-    /// it may have been appended.
+    /// Appends what an audit prints: `legal E` and `done`, or `not legal mirror M place P why WHY`
+    /// alone. On `NoMemory` a front of it may have been appended.
     #[tactic(auto, unfolding(crate::specs::Verdicts::verdict_text))]
     pub fn push(&self, out: &mut Vec<u8>) -> Result<(), NoMemory>
         ensures { OnOk result (out.new.items ≡ out.old.items ++ verdict_text self.now) }

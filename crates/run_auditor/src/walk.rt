@@ -5,9 +5,9 @@ ghost use Rattle.std.specs.List.{AllByRecursion};
 ghost use Rattle.game_trait.specs.declared.limits.TheConstants.{MOST_ROOM};
 ghost use Rattle.game_trait.specs.Count.{times};
 ghost use Rattle.game_trait.specs.Events.{is_arrival, is_restagger};
-ghost use Rattle.match_file.specs.Data.{IsMatch, schedule_of};
+ghost use Rattle.match_file.specs.Data.{IsMatch, schedule_of, schedules};
 ghost use Rattle.run_recorder.specs.Data.{IsEventOf};
-ghost use Rattle.run_auditor.specs.Walks.{schedules, walk_of, told_next, moved_on};
+ghost use Rattle.run_auditor.specs.Walks.{walk_of, told_next, moved_on};
 
 use crate::why::{Why, why_of};
 use game_trait::{Event, Game, MirrorId, Note};
@@ -35,8 +35,8 @@ pub enum Walked {
     },
 }
 
-/// A walk along a log: each of its events is made on a mirror of the walk's own. Contracts see the mirror, whose history is what
-/// was made, and the events that are left.
+/// A walk along a log: each of its events is made on a mirror of the walk's own. Contracts see the
+/// mirror, whose history is what was made, and the events that are left.
 #[derive(Drop)]
 pub struct LogWalk<'a, G: Game> {
     number: MirrorId,
@@ -114,8 +114,9 @@ fn restaggers(events: &[Event]) -> u32
 }
 
 impl<'a, G: Game> LogWalk<'a, G> {
-    /// A walk along the log, of at most 1,048,576 events, each of which names a command, a copy or a plan that the match has; the
-    /// mirror begins with a twin of `opening`. It takes all the memory that the walk needs. Want of memory makes nothing.
+    /// A walk along the log, of at most 1,048,576 events, each of which names a command, a copy or
+    /// a plan that the match has; the mirror begins with a twin of `opening`. It takes all the
+    /// memory that the walk needs. Want of memory makes nothing.
     pub fn new(
         alloc: Global,
         m: &Match,
@@ -142,8 +143,8 @@ impl<'a, G: Game> LogWalk<'a, G> {
         })
     }
 
-    /// Makes the next event. Where it changes the mirror the walk goes on behind it; else the walk stays, and tells the same from
-    /// then on. It takes no memory.
+    /// Makes the next event. Where it changes the mirror the walk goes on behind it; else the walk
+    /// stays, and tells the same from then on. It takes no memory.
     pub fn next(&mut self) -> Walked
         ensures told { result ≡ told_next self.old self.old.left }
         ensures state { self.new ≡ moved_on self.old self.old.left }

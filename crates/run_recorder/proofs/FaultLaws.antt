@@ -1,5 +1,5 @@
 -- A refusal names the first faulty line behind the match and its first failing check.
-use Rattle.std.proofs.Common.{◌≡◌, ℕ, Bool, true, false, cond, List, [], ◌∷◌, Result, Some, Ok, Err, refl, ap}
+use Rattle.std.proofs.Common.{◌≡◌, ℕ, List, Result, Some, Ok, Err, refl, ap}
 use Rattle.std.specs.Prelude.{bytes_eq, codes}
 use Rattle.tss_io.specs.Results.{◌>>=◌}
 use Rattle.tss_io.specs.declared.cause.Cause.{Cause}
@@ -10,7 +10,7 @@ use Rattle.tss_io.specs.Forms.{front_at}
 use Rattle.tss_io.specs.Kinds.{first_failing, fault_of}
 use Rattle.tss_io.specs.Runs.{run, FirstFault}
 use Rattle.tss_io.proofs.FormLaws.{front_err}
-use Rattle.tss_io.proofs.KindLaws.{step_fault}
+use Rattle.tss_io.proofs.KindLaws.{step_fault, fault_if, one_test}
 use Rattle.tss_io.proofs.RunLaws.{run_fault}
 use Rattle.tss_io.proofs.RunToLaws.{first_checked}
 use Rattle.match_file.specs.Data.{MatchData}
@@ -19,14 +19,6 @@ use Rattle.run_recorder.specs.Kinds.{is_in_world, is_event_due, is_end_due}
 use Rattle.run_recorder.specs.Reading.{by_word, take, is_last, no_tail, word_checks, behind_checks, checks_of}
 use Rattle.run_recorder.specs.Text.{is_block_line}
 use Rattle.run_recorder.proofs.ExactKinds.{IsSmall, log_exact, arrive_exact, step_exact, restagger_exact, world_exact}
-
-fault_if : {T : Type 0} (b : Bool) (x y : Result T Cause) (xs ys : List (Bool × Cause)) → fault_of x ≡ first_failing xs → fault_of y ≡ first_failing ys → fault_of (cond b x y) ≡ first_failing (cond b xs ys)
-fault_if true x y xs ys h k = h
-fault_if false x y xs ys h k = k
-
-one_test : {T : Type 0} (b : Bool) (t : T) (c : Cause) → fault_of (cond b (Ok t) (Err c)) ≡ first_failing ((b, c) ∷ [])
-one_test true t c = refl
-one_test false t c = refl
 
 by_word_fault : (m : MatchData) → IsSmall m → (t : Tail) (word : List ℕ) (words : List (List ℕ)) → fault_of (by_word m t word words) ≡ first_failing (word_checks m t word words)
 unfolding by_word

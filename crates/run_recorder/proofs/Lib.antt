@@ -5,3 +5,4 @@ mod PrintLaws
 mod TailLaws
 mod TopLaws
 mod WrittenLaws
+pub mod WholeLaws

@@ -193,13 +193,13 @@ block_says m t l is inside fit =
 under_text : (t : Tail) → is_under_way t.stage ≡ true → tail_text t ≡ mirrors_text t.logs t.worlds ++ under_way_text t
 under_text t h = elim (under_is t.stage h) [ inl e ↦ rw e refl | inr e ↦ rw e refl ]
 
-under_not_ended : (stage : Stage) → is_under_way stage ≡ true → is_ended stage ≡ false
+pub under_not_ended : (stage : Stage) → is_under_way stage ≡ true → is_ended stage ≡ false
 under_not_ended Between h = absurd cc
 under_not_ended InLog h = refl
 under_not_ended InWorld h = refl
 under_not_ended Ended h = absurd cc
 
-under_begun : (t : Tail) → is_under_way t.stage ≡ true → begun t ≡ length t.logs + 1
+pub under_begun : (t : Tail) → is_under_way t.stage ≡ true → begun t ≡ length t.logs + 1
 under_begun t h = rw h refl
 
 world_says : (m : MatchData) (t u : Tail) (ws : List (List ℕ)) → IsTail m t → (took : Took (world_kind m) (WorldFits m) t ws u) → Says m t (line_text (world_kind m) t took.a) u

@@ -32,7 +32,7 @@ use Rattle.run_recorder.specs.declared.tail.Stage.TheVariants.{Between, InLog, I
 use Rattle.run_recorder.specs.declared.tail.Tail.{Tail}
 use Rattle.run_recorder.specs.Data.{IsRecord}
 use Rattle.run_recorder.specs.Kinds.{is_ended}
-use Rattle.run_recorder.specs.Reading.{take as take_line, is_last, no_tail, tail_at, head_at, head_checks, IsFront, IsFrontFault, IsFirst}
+use Rattle.run_recorder.specs.Reading.{take as take_line, is_last, no_tail, tail_at, head_at, head_checks, IsFront, IsFrontFault, IsFirst, record_of}
 use Rattle.run_recorder.specs.Text.{head_line, last_line, mirrors_text, record_text}
 use Rattle.run_recorder.proofs.ExactKinds.{small_match}
 use Rattle.run_recorder.proofs.FaultLaws.{tail_first}
@@ -138,9 +138,6 @@ tail_found m n rest t is e =
 
 -- ---- the whole record
 
-abbrev pub record_of : MatchData → Tail → RaceRecord
-record_of m t = record { game = m; logs = t.logs; worlds = t.worlds }
-
 pub record_found : (text : List ℕ) (m : MatchData) (n : ℕ) (rest : List ℕ) (t : Tail) → length text ≤ LONGEST_RECORD_TEXT → IsFront text m n rest → tail_at m n (lines_of rest) ≡ Ok t → IsRecord (record_of m t) × (text ≡ record_text (record_of m t))
 record_found text m n rest t short front e =
     let f = tail_found m n rest t front.sound e in
@@ -161,10 +158,10 @@ same_game : (a b : MatchData) → ◌≡◌ {A = Result MatchData Refused} (Ok a
 same_game a b e = cc
 
 -- the text of a record is read as it
-abbrev final : RaceRecord → Tail
+abbrev pub final : RaceRecord → Tail
 final r = record no_tail { stage = Ended; logs = r.logs; worlds = r.worlds }
 
-tail_reads : (r : RaceRecord) (n : ℕ) → IsRecord r → tail_at r.game n (lines_of (mirrors_text r.logs r.worlds ++ as_line last_line)) ≡ Ok (final r)
+pub tail_reads : (r : RaceRecord) (n : ℕ) → IsRecord r → tail_at r.game n (lines_of (mirrors_text r.logs r.worlds ++ as_line last_line)) ≡ Ok (final r)
 tail_reads r n is =
     let w = tail_written r.game is.game (small_match r.game is.game) r.logs r.worlds is.log_count is.world_count is.logs is.worlds in
     sym (run_is (take_line r.game) is_last n no_tail (lines_of (mirrors_text r.logs r.worlds ++ as_line last_line))) ∙ written_runs r.game n no_tail (final r) _ w refl

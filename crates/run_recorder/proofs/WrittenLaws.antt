@@ -1,5 +1,5 @@
 -- What is written behind a match is read.
-use Rattle.std.proofs.Common.{◌≡◌, ℕ, ◌+◌, ◌-◌, ◌<◌, ◌≤◌, Bool, true, false, cond, ◌&&◌, ◌||◌, eqb, ltb, List, [], ◌∷◌, ◌++◌, length, map, Option, Some, None, Ok, Err, refl, sym, ap, subst, ◌∙◌, append_assoc, append-nil, length-append, arith, lit<}
+use Rattle.std.proofs.Common.{◌≡◌, ℕ, ◌+◌, ◌-◌, ◌<◌, ◌≤◌, Bool, true, false, cond, ◌||◌, eqb, ltb, List, [], ◌∷◌, ◌++◌, length, map, Option, Some, None, Ok, Err, refl, sym, ap, subst, ◌∙◌, append_assoc, append-nil, length-append, arith, lit<}
 use Rattle.std.specs.Prelude.{bytes_eq, codes, decimal}
 use Rattle.std.specs.List.{AllByRecursion, list_all}
 use Rattle.std.proofs.lemmas.Bool.{and_parts, eq-eqb, lt-ltb}
@@ -23,14 +23,15 @@ use Rattle.tss_io.proofs.RunLaws.{follows_more, all_append, run_again}
 use Rattle.tss_io.proofs.Spaced.{Lacks, Lacks-spaced, spaced-words_of, AreLines-ahead, lines_of-text_of}
 use Rattle.match_file.specs.Data.{MatchData, IsCommand, IsMatch}
 use Rattle.run_recorder.specs.declared.log.MirrorLog.{MirrorLog}
-use Rattle.run_recorder.specs.declared.tail.Stage.{Stage}
-use Rattle.run_recorder.specs.declared.tail.Stage.TheVariants.{Between, InLog, InWorld, Ended}
+use Rattle.run_recorder.specs.declared.tail.Stage.TheVariants.{InLog, InWorld, Ended}
 use Rattle.run_recorder.specs.declared.tail.Tail.{Tail}
 use Rattle.run_recorder.specs.Data.{EachNumbered, IsEventOf, IsLogOf, IsBlockLine, IsBlock, AreWorldsOf}
-use Rattle.run_recorder.specs.Kinds.{is_under_way, is_between, is_ended, begun, blocks_of, is_event_due, is_past_events, is_world_due, has_worlds, is_log_due, is_end_due, closed, with_event, with_arrival, is_there, second_of, is_few}
+use Rattle.run_recorder.specs.Kinds.{is_under_way, is_between, begun, blocks_of, is_event_due, is_past_events, is_world_due, has_worlds, is_log_due, is_end_due, closed, with_event, with_arrival, is_there, second_of, is_few}
 use Rattle.run_recorder.specs.Reading.{by_word, take, is_last, no_tail}
 use Rattle.run_recorder.specs.Text.{last_line, event_line, log_line, world_line, is_shown, first_word, is_block_line, log_text, blocks_text, mirrors_text}
 use Rattle.run_recorder.proofs.ExactKinds.{IsSmall, mirror_exact, LogFits, ArriveFits, WorldFits, log_exact, arrive_exact, step_exact, restagger_exact, world_exact}
+use Rattle.std.proofs.Math.Bool.{and-false}
+use Rattle.run_recorder.proofs.TailLaws.{under_not_ended, under_begun}
 
 -- this text is lines that lead from one place to another
 pub record Written (m : MatchData) (t : Tail) (text : List ℕ) (u : Tail) : Type 0 where
@@ -176,12 +177,6 @@ record Shows (m : MatchData) (t : Tail) : Type 0 where
   pub past : t.left ≡ 0
   pub mirror : length t.logs < m.mirrors
 
-shows_going : (stage : Stage) → is_under_way stage ≡ true → is_ended stage ≡ false
-shows_going Between h = absurd cc
-shows_going InLog h = refl
-shows_going InWorld h = refl
-shows_going Ended h = absurd cc
-
 past_events : (m : MatchData) (t : Tail) → Shows m t → is_past_events t ≡ true
 past_events m t h = let k : eqb t.left 0 ≡ true = eq-eqb _ _ h.past in rw (h.under, k) refl
 
@@ -197,7 +192,7 @@ block_written m small t block h room is =
     let past = past_events m t h in
     let stands : is_world_due m t ≡ true = rw (past, due) refl in
     let fits : WorldFits m t (n, (c, is.time)) = ((omega arith, omega arith), ((omega arith, omega arith), (omega arith, omega arith))) in
-    let head = kind_written m (world_exact m small) t (n, (c, is.time)) (record { stands = stands; fits = fits; room = refl; tests = (eq-eqb n n refl, (eq-eqb c c refl, tt)) }) refl refl (shows_going t.stage h.under) in
+    let head = kind_written m (world_exact m small) t (n, (c, is.time)) (record { stands = stands; fits = fits; room = refl; tests = (eq-eqb n n refl, (eq-eqb c c refl, tt)) }) refl refl (under_not_ended t.stage h.under) in
     let s : Tail = record t { stage = InWorld; blocks = blocks_of t; block = as_line (world_line n c is.time) } in
     let lines = block_lines_written m s is.lines refl is.each in
     let both = more m t s _ (as_line (world_line n c is.time)) (lines_text is.lines) head lines in
@@ -233,10 +228,6 @@ record Ready (m : MatchData) (t : Tail) (logs : List MirrorLog) (worlds : List (
   pub begun_is : begun t ≡ length logs
   pub going : is_last t ≡ false
 
-and_no : (b : Bool) → (b && false) ≡ false
-and_no true = refl
-and_no false = refl
-
 number_there : (o : Option ℕ) (n : ℕ) → at_least 0 o ≡ Ok n → is_missing o ≡ false
 number_there None n e = absurd cc
 number_there (Some k) n e = refl
@@ -245,7 +236,7 @@ not_over : (count : ℕ) → count ≤ MOST_LOGGED_EVENTS → is_over MOST_LOGGE
 unfolding is_over number_in
 not_over count few =
     let there : is_missing (number_of (decimal count) MOST_LOGGED_EVENTS) ≡ false = number_there _ count (number_again 0 MOST_LOGGED_EVENTS count (lit< tt) (omega arith, few)) in
-    rw there (and_no (is_canonical (decimal count)))
+    rw there (and-false (is_canonical (decimal count)))
 
 -- the count of a log isn't over
 few_events : (m : MatchData) → IsSmall m → (mirror count : ℕ) → InRange 0 (m.mirrors - 1) mirror → count ≤ MOST_LOGGED_EVENTS → is_few (second_of (decimal mirror ∷ decimal count ∷ [])) ≡ true
@@ -276,9 +267,6 @@ record MirrorWritten (m : MatchData) (t : Tail) (text : List ℕ) (logs : List M
 
 under_closed : (u : Tail) → is_under_way u.stage ≡ true → closed u ≡ record no_tail { logs = u.logs ++ record { mirror = length u.logs; events = u.events } ∷ []; worlds = u.worlds ++ blocks_of u ∷ [] }
 under_closed u h = rw h refl
-
-under_begun : (u : Tail) → is_under_way u.stage ≡ true → begun u ≡ length u.logs + 1
-under_begun u h = rw h refl
 
 or_second : (a : Bool) → (a || true) ≡ true
 or_second true = refl
@@ -316,7 +304,7 @@ mirror_written m is small t logs worlds log blocks ready room of_mirror stated =
         closed_is = closes;
         due = rw all_shown (or_second (is_between u.stage));
         begun_is = under_begun u under ∙ ap (λ (ls : List MirrorLog). length ls + 1) s.logs ∙ sym (length-append logs (log ∷ []));
-        going = shows_going u.stage under;
+        going = under_not_ended u.stage under;
       };
       shown = all_shown;
     }

@@ -44,10 +44,11 @@ pub record IsBlock (mirror copy : ℕ) (block : List ℕ) : Type 0 where
 
 -- the worlds of a mirror: a block for each copy, copy 0 first
 abbrev pub AreWorldsOf : MatchData → ℕ → List (List ℕ) → Type 0
-AreWorldsOf m mirror blocks = (length blocks ≡ length m.delays) × EachNumbered (IsBlock mirror) 0 blocks
+AreWorldsOf m mirror blocks =
+    (length blocks ≡ length m.delays) × EachNumbered (IsBlock mirror) 0 blocks
 
--- a record that a text can give: a match, the log of each mirror and the worlds of each, mirror 0 first, with a text within the
--- limit
+-- a record that a text can give: a match, the log of each mirror and the worlds of each, mirror 0
+-- first, with a text within the limit
 pub record IsRecord (r : RaceRecord) : Type 0 where
   pub game : IsMatch r.game
   pub log_count : length r.logs ≡ r.game.mirrors

@@ -1,4 +1,5 @@
--- The kinds of line behind the match of a record, each with its words, its place, its count and its further checks in their order.
+-- The kinds of line behind the match of a record, each with its words, its place, its count and its
+-- further checks in their order.
 use Rattle.std.specs.Prelude.{ℕ, ◌+◌, ◌-◌, ◌^◌, ◌==◌, Bool, true, false, ◌&&◌, ◌||◌, not, nat_lt, if◌then◌else◌, List, [], ◌∷◌, ◌++◌, length, Option, Some, None, Result, Ok, Err, codes}
 use Rattle.game_trait.specs.declared.command.Command.{Command}
 use Rattle.game_trait.specs.declared.event.Event.{Event}
@@ -122,7 +123,8 @@ is_few (Err cause) = true
 
 -- ---- the kinds
 
--- a log's first line: the mirror that is due, and how many events follow, of which there are at most so many
+-- a log's first line: the mirror that is due, and how many events follow, of which there are at
+-- most so many
 abbrev pub log_kind : MatchData → Kind Tail (List ℕ × List ℕ) (ℕ × ℕ) Tail
 log_kind m = record {
   keyword = codes "log";
@@ -170,9 +172,14 @@ restagger_kind m = record {
 abbrev pub world_kind : MatchData → Kind Tail (List ℕ × (List ℕ × List ℕ)) (ℕ × (ℕ × ℕ)) Tail
 world_kind m = record {
   keyword = codes "world";
-  form = λ _. number 0 (m.mirrors - 1) & number 0 (length m.delays - 1) & only (number 0 (2 ^ 32 - 1));
+  form = λ _. number 0 (m.mirrors - 1) & number 0 (length m.delays - 1) & only
+      (number 0 (2 ^ 32 - 1));
   stands = is_world_due m;
   room = λ _ _. true;
   tests = λ t a. (a.0 == length t.logs, Order) ∷ (a.1.0 == length (blocks_of t), Order) ∷ [];
-  put = λ t a. record t { stage = InWorld; blocks = blocks_of t; block = as_line (world_line a.0 a.1.0 a.1.1) };
+  put = λ t a. record t {
+    stage = InWorld;
+    blocks = blocks_of t;
+    block = as_line (world_line a.0 a.1.0 a.1.1);
+  };
 }

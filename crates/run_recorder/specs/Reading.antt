@@ -1,5 +1,5 @@
 -- Reading a record: its lines one after another, every check of each line, and the first fault.
-use Rattle.std.specs.Prelude.{◌≡◌, ◌⊎◌, ◌<◌, ◌≤◌, ℕ, ◌+◌, ◌==◌, Bool, false, List, [], ◌∷◌, ◌++◌, count_by, length, Result, Ok, Err, Some, if◌then◌else◌, bytes_eq, codes}
+use Rattle.std.specs.Prelude.{◌≡◌, ◌⊎◌, ◌<◌, ◌≤◌, ℕ, ◌+◌, ◌==◌, Bool, false, nat_lt, List, [], ◌∷◌, ◌++◌, count_by, length, Result, Ok, Err, Some, if◌then◌else◌, bytes_eq, codes}
 use Rattle.game_trait.specs.declared.event.Event.TheVariants.{Tick}
 use Rattle.game_trait.specs.declared.limits.TheConstants.{LONGEST_RECORD_TEXT}
 use Rattle.tss_io.specs.declared.cause.Cause.{Cause}
@@ -12,10 +12,11 @@ use Rattle.tss_io.specs.Results.{◌>>=◌}
 use Rattle.tss_io.specs.Reading.{refused_at}
 use Rattle.tss_io.specs.Forms.{front_at}
 use Rattle.tss_io.specs.Kinds.{step, all_tests, first_failing, line_at}
-use Rattle.tss_io.specs.Runs.{FirstFault, line_checks, run_to, ended}
+use Rattle.tss_io.specs.Runs.{at, FirstFault, line_checks, run_to, ended}
 use Rattle.match_file.specs.Data.{MatchData, IsMatch}
-use Rattle.match_file.specs.Reading.{IsFirstAt}
+use Rattle.match_file.specs.Reading.{read_match, IsFirstAt}
 use Rattle.match_file.specs.Text.{match_text}
+use Rattle.run_recorder.specs.declared.race_record.RaceRecord.{RaceRecord}
 use Rattle.run_recorder.specs.declared.tail.Stage.TheVariants.{Between, Ended}
 use Rattle.run_recorder.specs.declared.tail.Tail.{Tail}
 use Rattle.run_recorder.specs.Kinds.{is_ended, is_in_world, is_event_due, is_end_due, closed, with_event, log_kind, arrive_kind, step_kind, restagger_kind, world_kind}
@@ -37,8 +38,11 @@ by_word m t word words =
 unfoldable pub take : MatchData → Tail → List ℕ → Result Tail Cause
 take m t l =
     if bytes_eq l (codes "tick") then (if is_event_due t then Ok (with_event t Tick) else Err Shape)
-    else (if bytes_eq l (codes "done") then (if is_end_due m t then Ok (record (closed t) { stage = Ended }) else Err Shape)
-    else (if is_block_line l then (if is_in_world t.stage then Ok (record t { block = t.block ++ as_line l }) else Err Shape)
+    else (if bytes_eq l (codes "done")
+    then (if is_end_due m t then Ok (record (closed t) { stage = Ended }) else Err Shape)
+    else (if is_block_line l
+    then (if is_in_world t.stage then Ok (record t { block = t.block ++ as_line l })
+    else Err Shape)
     else (front_at (words_of l) >>= λ front. by_word m t front.0 front.1)))
 
 abbrev pub is_last : Tail → Bool
@@ -54,7 +58,8 @@ word_checks m t word words =
     else (if bytes_eq word (codes "restagger") then all_tests (restagger_kind m) t words
     else (false, Shape) ∷ []))))
 
-abbrev pub behind_checks : MatchData → Tail → Result (List ℕ × List (List ℕ)) Cause → List (Bool × Cause)
+abbrev pub behind_checks : MatchData → Tail → Result (List ℕ × List (List ℕ)) Cause
+    → List (Bool × Cause)
 behind_checks m t (Ok front) = word_checks m t front.0 front.1
 behind_checks m t (Err cause) = (false, Shape) ∷ []
 
@@ -68,7 +73,15 @@ checks_of m t l =
 
 -- no line was read yet
 abbrev pub no_tail : Tail
-no_tail = record { stage = Between; logs = []; worlds = []; events = []; left = 0; blocks = []; block = [] }
+no_tail = record {
+  stage = Between;
+  logs = [];
+  worlds = [];
+  events = [];
+  left = 0;
+  blocks = [];
+  block = [];
+}
 
 -- the lines behind the match, of which the first has this number, with nothing behind them
 abbrev pub tail_at : MatchData → ℕ → Lines → Result Tail Refused
@@ -90,6 +103,25 @@ pub record IsFront (text : List ℕ) (m : MatchData) (number : ℕ) (rest : List
   pub whole : text ≡ as_line head_line ++ (match_text m ++ rest)
   pub counted : number ≡ 2 + newlines (match_text m)
 
+-- ---- the whole record
+
+-- the match behind the first line, the number of the line behind it, and the lines from that one on
+unfoldable pub front_of : List ℕ → Result (MatchData × (ℕ × Lines)) Refused
+front_of text = do
+  rest ← at 1 (head_at (lines_of text))
+  game ← read_match 2 rest
+  Ok (game.0, (2 + newlines (match_text game.0), game.1.rest))
+
+abbrev pub record_of : MatchData → Tail → RaceRecord
+record_of m t = record { game = m; logs = t.logs; worlds = t.worlds }
+
+-- what a text says
+unfoldable pub read_text : List ℕ → Result RaceRecord Refused
+read_text text =
+    if nat_lt LONGEST_RECORD_TEXT (length text) then Err (refused_at 0 Long)
+    else (front_of text >>= λ front. tail_at front.0 front.1.0 front.1.1 >>= λ t.
+    Ok (record_of front.0 t))
+
 -- ---- the first fault of a record
 
 -- the check of the first line
@@ -99,7 +131,9 @@ head_checks _ l = (bytes_eq l head_line, Head) ∷ []
 -- the first line is refused
 abbrev pub IsHeadFault : List ℕ → Refused → Type 0
 IsHeadFault text refused =
-    (refused.line ≡ 1) × (first_failing (line_checks head_checks (λ _. false) tt (lines_of text)) ≡ Some refused.cause)
+    (refused.line ≡ 1)
+    × (first_failing (line_checks head_checks (λ _. false) tt (lines_of text))
+    ≡ Some refused.cause)
 
 -- No match stands behind the first line, and its first faulty line is refused.
 pub record IsMatchFault (text : List ℕ) (refused : Refused) : Type 0 where
@@ -115,17 +149,20 @@ pub record IsTailFault (text : List ℕ) (refused : Refused) : Type 0 where
   pub sound : IsMatch game
   pub front : text ≡ as_line head_line ++ (match_text game ++ rest)
   pub first :
-      FirstFault (take game) (checks_of game) is_last (2 + newlines (match_text game)) no_tail (lines_of rest) refused
+      FirstFault (take game) (checks_of game) is_last (2 + newlines (match_text game)) no_tail
+      (lines_of rest) refused
 
 -- The first line, or the first faulty line of the match, is refused.
 abbrev pub IsFrontFault : List ℕ → TextFault → Type 0
 IsFrontFault text text_faults.NoMemory = Unit {0}
-IsFrontFault text (text_faults.Refused refused) = IsHeadFault text refused ⊎ IsMatchFault text refused
+IsFrontFault text (text_faults.Refused refused) =
+    IsHeadFault text refused ⊎ IsMatchFault text refused
 
--- The refusal is of the whole text for its length, or of the first faulty line, with that line's first failing check: lines are
--- counted over the whole record.
+-- The refusal is of the whole text for its length, or of the first faulty line, with that line's
+-- first failing check: lines are counted over the whole record.
 abbrev pub IsFirst : List ℕ → TextFault → Type 0
 IsFirst text text_faults.NoMemory = Unit {0}
 IsFirst text (text_faults.Refused refused) =
     ((LONGEST_RECORD_TEXT < length text) × (refused ≡ refused_at 0 Long))
-    ⊎ ((length text ≤ LONGEST_RECORD_TEXT) × (IsFrontFault text (text_faults.Refused refused) ⊎ IsTailFault text refused))
+    ⊎ ((length text ≤ LONGEST_RECORD_TEXT)
+    × (IsFrontFault text (text_faults.Refused refused) ⊎ IsTailFault text refused))

@@ -31,7 +31,8 @@ log_line mirror count = spaced (codes "log" ∷ decimal mirror ∷ decimal count
 
 -- the line that opens the block of a copy: its mirror, its number, and its clock
 abbrev pub world_line : ℕ → ℕ → ℕ → List ℕ
-world_line mirror copy time = spaced (codes "world" ∷ decimal mirror ∷ decimal copy ∷ decimal time ∷ [])
+world_line mirror copy time =
+    spaced (codes "world" ∷ decimal mirror ∷ decimal copy ∷ decimal time ∷ [])
 
 -- the first word of a line, or the line where it is one word alone
 abbrev pub first_of : List ℕ → Result (List ℕ × List (List ℕ)) Cause → List ℕ
@@ -43,7 +44,10 @@ first_word l = first_of l (front_at (words_of l))
 
 -- a word that opens a line of a block
 abbrev pub is_shown : List ℕ → Bool
-is_shown word = bytes_eq word (codes "live") || (bytes_eq word (codes "dead") || (bytes_eq word (codes "shot") || bytes_eq word (codes "item")))
+is_shown word =
+    bytes_eq word (codes "live")
+    || (bytes_eq word (codes "dead")
+    || (bytes_eq word (codes "shot") || bytes_eq word (codes "item")))
 
 -- a line of a block, behind its head
 unfoldable pub is_block_line : List ℕ → Bool
@@ -62,7 +66,8 @@ unfoldable pub mirrors_text : List MirrorLog → List (List (List ℕ)) → List
 mirrors_text [] worlds = []
 mirrors_text (log ∷ logs) [] = []
 mirrors_text (log ∷ logs) (blocks ∷ worlds) =
-    (log_text log.mirror (length log.events) log.events ++ blocks_text blocks) ++ mirrors_text logs worlds
+    (log_text log.mirror (length log.events) log.events ++ blocks_text blocks)
+    ++ mirrors_text logs worlds
 
 -- the one text of a record
 abbrev pub record_text : RaceRecord → List ℕ

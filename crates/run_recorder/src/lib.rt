@@ -1,4 +1,5 @@
-//! The log of a mirror, and records: a match, what changed each of its mirrors, and the worlds that these showed.
+//! The log of a mirror, and records: a match, what changed each of its mirrors, and the worlds that
+//! these showed.
 #![tactic(auto)]
 
 mod block;

@@ -41,14 +41,16 @@ fn push_whole(out: &mut Vec<u8>, line: &[u8]) -> Result<(), NoMemory>
 
 // Appends a line of a word and a number.
 fn push_number(out: &mut Vec<u8>, word: &[u8], number: u8) -> Result<(), NoMemory>
-    ensures { OnOk result (out.new.items ≡ out.old.items ++ as_line (spaced (word.now ∷ decimal number ∷ []))) }
+    ensures { OnOk result
+        (out.new.items ≡ out.old.items ++ as_line (spaced (word.now ∷ decimal number ∷ []))) }
 {
     push_line(out, &[Word::Text(word), Word::Count(u64::from(number))])
 }
 
 #[tactic(auto, using(tss_io::proofs::Printing::lines_none))]
 fn push_events(out: &mut Vec<u8>, events: &[Event]) -> Result<(), NoMemory>
-    ensures { OnOk result (out.new.items ≡ out.old.items ++ lines_text (map event_line events.now)) }
+    ensures { OnOk result
+        (out.new.items ≡ out.old.items ++ lines_text (map event_line events.now)) }
 {
     for event in events {
         push_event(out, event)?;
@@ -58,7 +60,9 @@ fn push_events(out: &mut Vec<u8>, events: &[Event]) -> Result<(), NoMemory>
 
 // Appends a log: its first line, and a line for each event.
 fn push_log(out: &mut Vec<u8>, log: &MirrorLog) -> Result<(), NoMemory>
-    ensures { OnOk result (out.new.items ≡ out.old.items ++ log_text log.now.mirror (length log.now.events) log.now.events) }
+    ensures { OnOk result
+        (out.new.items
+        ≡ out.old.items ++ log_text log.now.mirror (length log.now.events) log.now.events) }
 {
     let words = [
         Word::Text(b"log"),
@@ -88,7 +92,11 @@ fn push_blocks(out: &mut Vec<u8>, blocks: &[Block]) -> Result<(), NoMemory>
 
 // Appends a mirror's log, and the blocks of its copies.
 fn push_mirror(out: &mut Vec<u8>, log: &MirrorLog, blocks: &[Block]) -> Result<(), NoMemory>
-    ensures { OnOk result (out.new.items ≡ out.old.items ++ (log_text log.now.mirror (length log.now.events) log.now.events ++ blocks_text blocks.now)) }
+    ensures { OnOk result
+        (out.new.items
+        ≡ out.old.items
+        ++ (log_text log.now.mirror (length log.now.events) log.now.events
+        ++ blocks_text blocks.now)) }
 {
     push_log(out, log)?;
     push_blocks(out, blocks)?;

@@ -5,8 +5,9 @@ use crate::log::MirrorLog;
 use match_file::Match;
 use tss_io::Seq;
 
-/// A match, the log of each of its mirrors, and the worlds that their copies stood at, as they were stated: `worlds[m][c]` is the
-/// block of copy c of mirror m, its head line included. Contracts see it as a record of plain lists.
+/// A match, the log of each of its mirrors, and the worlds that their copies stood at, as they were
+/// stated: `worlds[m][c]` is the block of copy c of mirror m, its head line included. Contracts see
+/// it as a record of plain lists.
 #[derive(Drop)]
 pub struct RaceRecord {
     /// The match.

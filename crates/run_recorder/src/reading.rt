@@ -3,11 +3,11 @@
 ghost use Rattle.std.specs.Prelude.{◌≡◌, ◌≤◌, ◌<◌, ◌+◌, ◌++◌, ◌^◌, List, ℕ, length, IfOk, IfErr, Ok};
 ghost use Rattle.game_trait.specs.declared.limits.TheConstants.{LONGEST_RECORD_TEXT as LONGEST};
 ghost use Rattle.tss_io.specs.Lines.{as_line, lines_of};
-ghost use Rattle.tss_io.specs.Reading.{Answers, Gives};
+ghost use Rattle.tss_io.specs.Reading.{Answers, Fails, Gives};
 ghost use Rattle.match_file.specs.Data.{MatchData, IsMatch};
 ghost use Rattle.match_file.specs.Text.{match_text};
 ghost use Rattle.run_recorder.specs.Data.{IsRecord};
-ghost use Rattle.run_recorder.specs.Reading.{head_at, newlines, IsFront, IsFrontFault, IsFirst};
+ghost use Rattle.run_recorder.specs.Reading.{head_at, newlines, front_of, read_text, IsFront, IsFrontFault, IsFirst};
 ghost use Rattle.run_recorder.specs.Text.{head_line, record_text};
 ghost use Rattle.run_recorder.specs.declared.race_record.RaceRecord.{RaceRecord as Record};
 
@@ -42,19 +42,23 @@ fn newlines(text: &[u8]) -> usize
 fn line_behind(text: &[u8], behind: &[u8]) -> u32
     requires within { length behind.now ≤ length text.now }
     requires short { length text.now ≤ LONGEST }
-    ensures number { (front : List ℕ) → text.now ≡ front ++ behind.now → result ≡ 2 + newlines front }
+    ensures number { (front : List ℕ) → text.now ≡ front ++ behind.now
+        → result ≡ 2 + newlines front }
     ensures small { result + length behind.now < 2 ^ 32 }
 {
     let (front, _) = text.split_at(text.len() - behind.len());
     2 + newlines(front) as u32
 }
 
-// The match behind the first line, the number of the line behind it, and the text from that line on.
+// The match behind the first line, the number of the line behind it, and the text from that line
+// on.
 fn read_front<'a>(alloc: Global, text: &'a [u8]) -> Result<(Match, u32, &'a [u8]), TextFault>
     requires { length text.now ≤ LONGEST }
     ensures found { IfOk result (λ x. IsFront text.now x.0 x.1 x.2.now) }
     ensures small { IfOk result (λ x. x.1 + length x.2.now < 2 ^ 32) }
-    ensures only { (m : MatchData) (rest : List ℕ) → IsMatch m → text.now ≡ as_line head_line ++ (match_text m ++ rest) → Gives (λ x. x.0) result (Ok m) }
+    ensures only { (m : MatchData) (rest : List ℕ) → IsMatch m
+        → text.now ≡ as_line head_line ++ (match_text m ++ rest) → Gives (λ x. x.0) result (Ok m) }
+    ensures exact { IfErr result (λ fault. Fails fault (front_of text.now)) }
     ensures refused { IfErr result (IsFrontFault text.now) }
 {
     let rest = match read_head(text) {
@@ -68,14 +72,18 @@ fn read_front<'a>(alloc: Global, text: &'a [u8]) -> Result<(Match, u32, &'a [u8]
     Ok((game, line, behind))
 }
 
-/// Reads a record (this project's own form): the lines of a match and what follows, with no byte behind them, and at most
-/// 33,554,432 bytes. `Refused` is the first faulty line, counted over the whole record, with that line's first failing check, or
-/// line 0 where the text is too long; `NoMemory` says nothing of the text.
+/// Reads a record (this project's own form): the lines of a match and what follows, with no byte
+/// behind them, and at most 33,554,432 bytes. `Refused` is the first faulty line, counted over the
+/// whole record, with that line's first failing check, or line 0 where the text is too long;
+/// `NoMemory` says nothing of the text.
 pub fn read_record(alloc: Global, text: &[u8]) -> Result<RaceRecord, TextFault>
     // What is read is a record, and the text is its text.
     ensures found { IfOk result (λ r. IsRecord r × (text.now ≡ record_text r)) }
     // The text of a record is read as that record, unless memory runs out.
-    ensures only { (r : Record) → IsRecord r → text.now ≡ record_text r → Gives (λ v. v) result (Ok r) }
+    ensures only { (r : Record) → IsRecord r → text.now ≡ record_text r
+        → Gives (λ v. v) result (Ok r) }
+    // The record, or the refusal, is the one that reading gives, unless memory runs out.
+    ensures exact { Gives (λ v. v) result (read_text text.now) }
     // A refusal names the first faulty line and its first failing check.
     ensures refused { IfErr result (IsFirst text.now) }
 {

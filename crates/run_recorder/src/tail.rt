@@ -286,7 +286,8 @@ impl Tail {
     fn take_log(&mut self, alloc: Global, game: &Match, words: &[u8]) -> Result<(), LineFault>
         requires blocks { length self.old.blocks < 256 }
         requires logs { length self.old.logs < 256 }
-        ensures { GivesLine (λ _. self.new) result (step (log_kind game.now) self.old (words_of words.now)) }
+        ensures { GivesLine (λ _. self.new) result
+            (step (log_kind game.now) self.old (words_of words.now)) }
     {
         if !self.is_log_due(game) {
             return Err(LineFault::Refused(Cause::Shape));
@@ -308,7 +309,8 @@ impl Tail {
     }
 
     fn take_arrive(&mut self, game: &Match, words: &[u8]) -> Result<(), LineFault>
-        ensures { GivesLine (λ _. self.new) result (step (arrive_kind game.now) self.old (words_of words.now)) }
+        ensures { GivesLine (λ _. self.new) result
+            (step (arrive_kind game.now) self.old (words_of words.now)) }
     {
         if !self.is_event_due() {
             return Err(LineFault::Refused(Cause::Shape));
@@ -325,7 +327,8 @@ impl Tail {
     }
 
     fn take_step(&mut self, game: &Match, words: &[u8]) -> Result<(), LineFault>
-        ensures { GivesLine (λ _. self.new) result (step (step_kind game.now) self.old (words_of words.now)) }
+        ensures { GivesLine (λ _. self.new) result
+            (step (step_kind game.now) self.old (words_of words.now)) }
     {
         if !self.is_event_due() {
             return Err(LineFault::Refused(Cause::Shape));
@@ -336,7 +339,8 @@ impl Tail {
     }
 
     fn take_restagger(&mut self, game: &Match, words: &[u8]) -> Result<(), LineFault>
-        ensures { GivesLine (λ _. self.new) result (step (restagger_kind game.now) self.old (words_of words.now)) }
+        ensures { GivesLine (λ _. self.new) result
+            (step (restagger_kind game.now) self.old (words_of words.now)) }
     {
         if !self.is_event_due() {
             return Err(LineFault::Refused(Cause::Shape));
@@ -348,7 +352,8 @@ impl Tail {
 
     fn take_world(&mut self, alloc: Global, game: &Match, words: &[u8]) -> Result<(), LineFault>
         requires blocks { length self.old.blocks < 256 }
-        ensures { GivesLine (λ _. self.new) result (step (world_kind game.now) self.old (words_of words.now)) }
+        ensures { GivesLine (λ _. self.new) result
+            (step (world_kind game.now) self.old (words_of words.now)) }
     {
         if !self.is_world_due(game) {
             return Err(LineFault::Refused(Cause::Shape));
@@ -382,7 +387,8 @@ impl Tail {
     ) -> Result<(), LineFault>
         requires blocks { length self.old.blocks < 256 }
         requires logs { length self.old.logs < 256 }
-        ensures { GivesLine (λ _. self.new) result (by_word game.now self.old word.now (words_of words.now)) }
+        ensures { GivesLine (λ _. self.new) result
+            (by_word game.now self.old word.now (words_of words.now)) }
     {
         if word == b"arrive".as_slice() {
             self.take_arrive(game, words)
@@ -442,7 +448,8 @@ impl Tail {
     ) -> Result<&'a [u8], LineFault>
         requires blocks { length self.old.blocks < 256 }
         requires logs { length self.old.logs < 256 }
-        ensures read { GivesLine (λ rest. (self.new, lines_of rest.now)) result (line_step (take game.now) self.old (lines_of text.now)) }
+        ensures read { GivesLine (λ rest. (self.new, lines_of rest.now)) result
+            (line_step (take game.now) self.old (lines_of text.now)) }
         ensures shorter { IfOk result (λ rest. length rest.now < length text.now) }
     {
         let (line, rest) = next_line(text)?;
@@ -466,8 +473,8 @@ fn head_of(alloc: Global, mirror: u8, copy: u8, time: u32) -> Result<Block, NoMe
     Ok(Block::of(bytes))
 }
 
-// The lines behind the match, up to the last, and the text behind it. The number of the line that is read is kept in `line`, which
-// has the first one's.
+// The lines behind the match, up to the last, and the text behind it. The number of the line that
+// is read is kept in `line`, which has the first one's.
 fn read_lines<'a>(
     alloc: Global,
     game: &Match,
@@ -476,7 +483,8 @@ fn read_lines<'a>(
 ) -> Result<(Tail, &'a [u8]), LineFault>
     requires game { IsMatch game.now }
     requires counted { line.old + length text.now < 2 ^ 32 }
-    ensures { Placed (λ x. stopped x.0 line.new (lines_of x.1.now)) line.new result (run_to (take game.now) is_last line.old no_tail (lines_of text.now)) }
+    ensures { Placed (λ x. stopped x.0 line.new (lines_of x.1.now)) line.new result
+        (run_to (take game.now) is_last line.old no_tail (lines_of text.now)) }
 {
     let mut tail = Tail::new(alloc);
     let mut rest = text;
@@ -494,7 +502,8 @@ fn at_end(text: &[u8]) -> bool
     text.is_empty()
 }
 
-/// The lines behind the match, to the text's end. The number of the line that is read is kept in `line`, which has the first one's.
+/// The lines behind the match, to the text's end. The number of the line that is read is kept in
+/// `line`, which has the first one's.
 pub fn read_tail(
     alloc: Global,
     game: &Match,

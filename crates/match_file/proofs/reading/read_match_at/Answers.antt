@@ -1,7 +1,7 @@
 use Rattle.std.proofs.Common.{refl, ◌∙◌}
 use Rattle.tss_io.specs.Walks.{left_of}
 use Rattle.match_file.specs.Text.{match_text}
-use Rattle.match_file.proofs.TextLaws.{front_found, left_behind, ok_only, at_only, at_refused}
+use Rattle.match_file.proofs.TextLaws.{front_found, left_behind, ok_only, at_only, at_fails, at_refused}
 use Rattle.match_file.proofs.reading.read_match_at.Goals as goal
 
 pub returns-in-Ok-clause-found : goal.returns-in-Ok-clause-found
@@ -18,3 +18,6 @@ returns-in-Err-clause-only c m rest is e = rw c.at.ensures (at_only c.args.first
 
 pub returns-in-Err-clause-refused : goal.returns-in-Err-clause-refused
 returns-in-Err-clause-refused c = rw c.at.ensures (at_refused c.args.first _ (left_of c.args.lines.now) c.in-Err.fault (rw c.rest-rest.ensures at c.in-Err.ensures.read))
+
+pub returns-in-Err-clause-exact : goal.returns-in-Err-clause-exact
+returns-in-Err-clause-exact c = rw c.at.ensures (at_fails _ c.in-Err.fault _ (rw c.rest-rest.ensures at c.in-Err.ensures.read))

@@ -4,7 +4,7 @@ use Rattle.run_auditor.proofs.AuditLaws.{ItemsOn}
 use Rattle.run_auditor.proofs.auditing.false_world.Given as goal
 
 abbrev pub invariant-loop-block : goal.invariant-loop-block
-invariant-loop-block g l = ItemsOn (IsStated (record { rules = g.G.Game.rules; lines = g.G.Shown.lines }) l.game l.number l.mirror) l.copy l.rest l.blocks
+invariant-loop-block g l = ItemsOn (IsStated (record { rules = g.G.Game.rules; lines = g.G.Shown.lines; names = l.game.names }) l.number l.mirror) l.copy l.rest l.blocks
 
 abbrev pub decreases-loop-block : goal.decreases-loop-block
 decreases-loop-block g l = length l.rest

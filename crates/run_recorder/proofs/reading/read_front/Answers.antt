@@ -4,6 +4,7 @@ use Rattle.tss_io.specs.Lines.{as_line}
 use Rattle.match_file.specs.Text.{match_text}
 use Rattle.run_recorder.specs.Text.{head_line}
 use Rattle.run_recorder.proofs.TopLaws.{head_takes, head_fault, no_head_fault, behind_head, match_fault}
+use Rattle.run_recorder.proofs.WholeLaws.{head_fails, match_fails}
 use Rattle.run_recorder.proofs.reading.read_front.Goals as goal
 
 pub returns-in-Err-clause-only : goal.returns-in-Err-clause-only
@@ -34,3 +35,11 @@ returns-clause-found c =
 
 pub returns-clause-only : goal.returns-clause-only
 returns-clause-only c m rest is e = (rw c.new-lines.ensures at c.in_ok-game.ensures.only) m rest is (behind_head c.args.text.now c.in-Ok.rest.now _ c.in-Ok.ensures.read e)
+
+pub returns-in-Err-clause-exact : goal.returns-in-Err-clause-exact
+returns-in-Err-clause-exact c = head_fails c.args.text.now c.in-Err.cause c.in-Err.ensures.read
+
+pub returns-in_err-game-clause-exact : goal.returns-in_err-game-clause-exact
+returns-in_err-game-clause-exact c =
+    let p = err_from_is_err_and c.from_residual.result c.from_residual.ensures.1 in
+    rw (p.1, p.2) (match_fails c.args.text.now c.in-Ok.rest.now _ c.in-Ok.ensures.read (rw c.new-lines.ensures at c.in_err-game.ensures.exact))

@@ -1,5 +1,4 @@
 use Rattle.std.proofs.Common.{sym, ◌∙◌}
-use Rattle.run_auditor.specs.Walks.{why_of}
 use Rattle.run_auditor.proofs.WalkLaws.{why_changes, why_stays, has_room, walk_moves, walk_stays, stays_put}
 use Rattle.run_auditor.proofs.walk.LogWalk.next.Goals as goal
 
