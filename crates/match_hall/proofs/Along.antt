@@ -1,25 +1,19 @@
 -- Events made one after another, and lists of mirrors of which one is changed.
-use Rattle.std.proofs.Common.{◌≡◌, ℕ, zero, suc, ◌+◌, ◌-◌, ◌<◌, ◌≤◌, true, false, cond, List, [], ◌∷◌, ◌++◌, length, get_or, set, take, drop, map, refl, ap, sym, ◌∙◌, subst, append_assoc, arith}
+use Rattle.std.proofs.Common.{◌≡◌, ℕ, zero, suc, ◌+◌, ◌-◌, ◌<◌, ◌≤◌, true, false, cond, List, [], ◌∷◌, ◌++◌, length, get_or, set, take, drop, map, refl, ap, ◌∙◌, arith}
 use Rattle.std.specs.List.{AllByRecursion}
 use Rattle.std.specs.Prelude.{Result, Ok, Err, OnErr}
-use Rattle.std.proofs.lemmas.List.{drop_more}
 use Rattle.game_trait.specs.declared.event.Event.{Event}
 use Rattle.game_trait.specs.declared.event.Event.TheVariants.{Tick, Arrive, Step, Restagger}
 use Rattle.game_trait.specs.Count.{times}
 use Rattle.game_trait.specs.Events.{is_arrival, is_restagger}
-use Rattle.game_trait.specs.declared.event.Reply.{Reply}
+pub use Rattle.game_trait.proofs.Lists.{all-append}
 use Rattle.sync_model.specs.State.{MirrorState}
-use Rattle.sync_model.specs.Change.{next, said, after, answers, changes, Fits}
+use Rattle.sync_model.specs.Change.{next, after, changes}
 use Rattle.sync_model.specs.History.{HasRoom, HasRoomAlong}
-use Rattle.sync_model.proofs.Along.{all-fit-next}
 use Rattle.sync_model.proofs.Room.{spare-next, plan_spare-next}
 use Rattle.match_hall.specs.Script.{changed_at, told_at}
 
 -- ---- room
-
-pub all-append : {X : Type 0} (P : X → Type 0) (xs ys : List X) → AllByRecursion P xs → AllByRecursion P ys → AllByRecursion P (xs ++ ys)
-all-append P [] ys h k = k
-all-append P (x ∷ xs) ys h k = (h.0, all-append P xs ys h.1 k)
 
 -- an event spends at most one of the room for arrivals, and only where it is one, and the same of changes of the plan
 room-left :
@@ -48,40 +42,6 @@ room-along (e ∷ es) s k j h g =
     let here = room-left s e (times is_arrival es + k) (times is_restagger es + j) (omega arith) (omega arith) in
     let behind = room-along es (next s e) k j here.1 here.2 in
     ((here.0, behind.0), behind.1, behind.2)
-
--- ---- one event more
-
-pub fits-more :
-    {W : Type 0} (s t : MirrorState W) (es : List Event) (i : ℕ) (d : Event) → i < length es → t ≡ next s (get_or es i d)
-    → AllByRecursion (Fits s) (drop i es) → AllByRecursion (Fits t) (drop (i + 1) es)
-fits-more s t es i d below made fits =
-    let e = get_or es i d in
-    let all : AllByRecursion (Fits s) (e ∷ drop (i + 1) es) = subst (AllByRecursion (Fits s)) (drop_more es i d below) fits in
-    rw made (all-fit-next s e (drop (i + 1) es) all.1)
-
-pub room-more :
-    {W : Type 0} (s t : MirrorState W) (es : List Event) (i : ℕ) (d : Event) → i < length es → t ≡ next s (get_or es i d)
-    → HasRoomAlong s (drop i es) → HasRoomAlong t (drop (i + 1) es)
-unfolding HasRoomAlong
-room-more s t es i d below made room =
-    rw made ((subst (HasRoomAlong s) (drop_more es i d below) room).1)
-
-pub after-more :
-    {W : Type 0} (s t : MirrorState W) (es : List Event) (i : ℕ) (d : Event) → i < length es → t ≡ next s (get_or es i d)
-    → after t (drop (i + 1) es) ≡ after s (drop i es)
-unfolding after
-after-more s t es i d below made = rw made (sym (ap (after s) (drop_more es i d below)))
-
-pub answers-more :
-    {W : Type 0} (s t : MirrorState W) (es : List Event) (i : ℕ) (d : Event) (old new : List Reply) (reply : Reply)
-    → i < length es → t ≡ next s (get_or es i d) → reply ≡ said s (get_or es i d) → new ≡ old ++ reply ∷ []
-    → new ++ answers t (drop (i + 1) es) ≡ old ++ answers s (drop i es)
-unfolding answers
-answers-more s t es i d old new reply below made answered put =
-    let e = get_or es i d in
-    rw (put, answered, made)
-    (append_assoc old (said s e ∷ []) (answers (next s e) (drop (i + 1) es))
-    ∙ ap (λ (rs : List Reply). old ++ rs) (sym (ap (answers s) (drop_more es i d below))))
 
 -- ---- one element of a list
 

@@ -98,7 +98,7 @@ way-IsPlayed {W} rules m opening i s sound way =
 -- ---- all mirrors
 
 -- after the script all are on their way to its end
-all-script :
+pub all-script :
     {W : Type 0} (m : MatchData) (opening : W) (ls : List ScriptLine) (mirrors : List (MirrorState W)) → AllByRecursion (IsScriptLine m) ls
     → AllOnWay m opening ls mirrors → AllOnWay m opening [] (after_script m.commands mirrors ls)
 unfolding after_script

@@ -1,10 +1,14 @@
 mod Named
 mod Ready
 mod Steps
+mod OneMore
+mod Telling
+mod Told
 mod Along
 mod OnWay
 mod Made
 mod Shown
-mod MirrorLines
+pub mod MirrorLines
 mod Whole
 pub mod Headline
+mod Few

@@ -24,9 +24,9 @@ use Rattle.match_file.specs.declared.script_line.ScriptLine.{ScriptLine}
 use Rattle.match_file.specs.declared.script_line.ScriptLine.TheVariants as lines
 use Rattle.match_hall.specs.Script.{mirror_of, events_of, arrival_of, after_line, arrives_at, restaggers_at, all_plans, opening_mirror, opening_from, opening_mirrors}
 use Rattle.sync_model.proofs.Legal.{named-fits}
-use Rattle.match_hall.proofs.Named.{command_named-Contains}
 use Rattle.match_hall.proofs.Steps.{named-turn, turn-no_arrival, turn-no_restagger}
 use Rattle.match_hall.proofs.Along.{all-append, room-along}
+use Rattle.game_trait.proofs.CommandLists.{command_named-Contains}
 
 -- mirror i of a match that opens so, which has made events, and has room for its arrivals and its changes of the plan in these lines
 pub record OnWay {W : Type 0} (m : MatchData) (opening : W) (i : ℕ) (ls : List ScriptLine) (s : MirrorState W) : Type 0 where
@@ -235,7 +235,7 @@ all-line {W} m opening l ls mirrors d here there all =
 
 -- ---- the start
 
-opening-at : {W : Type 0} (opening : W) (m : MatchData) (i n j : ℕ) (d : MirrorState W) → j < n → get_or (opening_from opening m i n) j d ≡ opening_mirror opening m (i + j)
+pub opening-at : {W : Type 0} (opening : W) (m : MatchData) (i n j : ℕ) (d : MirrorState W) → j < n → get_or (opening_from opening m i n) j d ≡ opening_mirror opening m (i + j)
 unfolding opening_from
 opening-at opening m i zero j d below = absurd (omega arith)
 opening-at opening m i (suc n) zero d below = (let same : i ≡ i + 0 = omega arith in ap (opening_mirror opening m) same)

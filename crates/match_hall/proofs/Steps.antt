@@ -2,13 +2,14 @@
 use Rattle.std.proofs.Common.{◌≡◌, ℕ, zero, suc, ◌+◌, ◌-◌, ◌<◌, ◌≤◌, true, false, List, [], ◌∷◌, ◌++◌, length, get_or, set, take, drop, map, refl, sym, ap, ◌∙◌, append_assoc, arith}
 use Rattle.std.specs.List.{AllByRecursion}
 use Rattle.game_trait.specs.declared.command.Command.{Command}
-use Rattle.game_trait.specs.declared.event.Event.TheVariants.{Step}
+use Rattle.game_trait.specs.declared.event.Event.TheVariants.{Tick, Step}
+use Rattle.game_trait.specs.declared.event.Reply.{Reply}
 use Rattle.game_trait.specs.Count.{times}
 use Rattle.game_trait.proofs.Counts.{times-append}
 use Rattle.sync_model.specs.State.{MirrorState}
-use Rattle.sync_model.specs.Change.{Fits}
+use Rattle.sync_model.specs.Change.{next, said, after, answers}
 use Rattle.game_trait.specs.Events.{is_arrival, is_restagger}
-use Rattle.sync_model.specs.History.{HasRoomAlong}
+use Rattle.sync_model.specs.WellFormed.{ArePlans, IsWellFormed}
 use Rattle.sync_model.specs.Legal.{NamesWhatIsThere}
 use Rattle.sync_model.specs.Turns.{turns_of, steps_from, turn_events, turn, is_drained, drain_within, drain_bound, drain}
 use Rattle.match_hall.specs.Report.{turn_text, drain_text, drains_text}
@@ -16,7 +17,7 @@ use Rattle.match_hall.specs.Stops.{IsStoppedDrain, IsStoppedDraining}
 use Rattle.std.proofs.lemmas.Grind.{take_at_read}
 use Rattle.std.proofs.Math.Seq.{set-append_seam, get_or-append_seam}
 use Rattle.std.proofs.lemmas.List.{append-nil, drop_more, drop_all, take_all, length-map, map-append, take-append-drop, length-take, length-append}
-use Rattle.match_hall.proofs.Along.{all-append, room-along}
+use Rattle.match_hall.proofs.Along.{all-append}
 
 -- so many steps from copy c on are a step of copy c and the others
 pub steps-more : (c end : ℕ) → c < end → steps_from c (end - c) ≡ Step c ∷ steps_from (c + 1) (end - (c + 1))
@@ -27,6 +28,46 @@ steps-more c end h = (let e : end - c ≡ suc (end - (c + 1)) = omega arith in a
 pub steps-none : (c end : ℕ) → end ≤ c → steps_from c (end - c) ≡ []
 unfolding steps_from
 steps-none c end h = (let e : end - c ≡ zero = omega arith in ap (steps_from c) e)
+
+-- a mirror has at most 8 copies
+few-of-plans : (plans : List (List ℕ)) (ticks copies : ℕ) → ArePlans plans ticks copies → copies ≤ 8
+few-of-plans [] ticks copies sound = absurd (let some = sound.some_plan in omega arith)
+few-of-plans (p ∷ ps) ticks copies sound =
+    (let few = sound.schedules.0.few_copies in let equal = sound.equal_copies.0 in omega arith)
+
+pub few-copies : {W : Type 0} (s : MirrorState W) → IsWellFormed s → length s.runs ≤ 8
+few-copies s sound = few-of-plans s.plans s.length (length s.runs) sound.plans
+
+-- a turn after its tick: its steps are left
+pub turn-begun :
+    {W : Type 0} (s t : MirrorState W) (n : ℕ) → t ≡ next s Tick → n ≡ length s.runs
+    → after t (steps_from 0 (n - 0)) ≡ turn s
+unfolding after
+turn-begun s t n ticked count = (let all : n - 0 ≡ length s.runs = omega arith in rw (all, ticked) refl)
+
+pub turn-told :
+    {W : Type 0} (s t : MirrorState W) (n : ℕ) (reply : Reply) (none told : List Reply)
+    → t ≡ next s Tick → n ≡ length s.runs → said s Tick ≡ reply → none ≡ [] → told ≡ none ++ reply ∷ []
+    → told ++ answers t (steps_from 0 (n - 0)) ≡ answers s (turn_events (length s.runs))
+unfolding answers
+turn-told s t n reply none told ticked count answered empty put =
+    (let all : n - 0 ≡ length s.runs = omega arith in rw (all, put, empty, ticked, ← answered) refl)
+
+-- one step more of a turn
+pub step-made :
+    {W : Type 0} (s t : MirrorState W) (c n : ℕ) → c < n → t ≡ next s (Step c)
+    → after t (steps_from (c + 1) (n - (c + 1))) ≡ after s (steps_from c (n - c))
+unfolding after
+step-made s t c n below stepped = rw (steps-more c n below, stepped) refl
+
+pub step-told :
+    {W : Type 0} (s t : MirrorState W) (c n : ℕ) (reply : Reply) (old new : List Reply)
+    → c < n → t ≡ next s (Step c) → said s (Step c) ≡ reply → new ≡ old ++ reply ∷ []
+    → new ++ answers t (steps_from (c + 1) (n - (c + 1))) ≡ old ++ answers s (steps_from c (n - c))
+unfolding answers
+step-told s t c n reply old new below stepped answered put =
+    rw (steps-more c n below, put, stepped, ← answered)
+    (append_assoc old (said s (Step c) ∷ []) (answers (next s (Step c)) (steps_from (c + 1) (n - (c + 1)))))
 
 -- a turn steps copies that are there
 named-steps :
@@ -75,19 +116,6 @@ pub turns-no_arrival : (n k : ℕ) → times is_arrival (turns_of n k) ≡ 0
 unfolding turns_of times
 turns-no_arrival n zero = refl
 turns-no_arrival n (suc k) = omega (arith, times-append is_arrival (turn_events n) (turns_of n k), turn-no_arrival n, turns-no_arrival n k)
-
--- a turn of all copies fits any mirror, and needs no room
-steps-fit : {W : Type 0} (s : MirrorState W) (n c : ℕ) → c + n ≤ length s.runs → AllByRecursion (Fits s) (steps_from c n)
-unfolding steps_from
-steps-fit s zero c h = tt
-steps-fit s (suc n) c h = (omega arith, steps-fit s n (c + 1) (omega arith))
-
-pub turn-fits : {W : Type 0} (s : MirrorState W) → AllByRecursion (Fits s) (turn_events (length s.runs))
-turn-fits s = (tt, steps-fit s (length s.runs) 0 (omega arith))
-
-pub turn-room : {W : Type 0} (s : MirrorState W) (n : ℕ) → HasRoomAlong s (turn_events n)
-turn-room s n =
-    (room-along (turn_events n) s 0 0 (let none = turn-no_arrival n in omega arith) (let none = turn-no_restagger n in omega arith)).0
 
 -- a drained mirror makes no turn
 pub drained-state : {W : Type 0} (n : ℕ) (s : MirrorState W) → is_drained s ≡ true → drain_within n s ≡ s

@@ -19,15 +19,16 @@ use Rattle.run_recorder.specs.declared.log.MirrorLog.{MirrorLog}
 use Rattle.match_hall.specs.Script.{opening_mirror}
 
 -- a mirror of a match was played from its opening state `start` to `end`: what its log says of it
-pub record IsPlayed {W : Type 0} (rules : Rules W) (m : MatchData) (start end : MirrorState W) (log : List Event) : Type 0 where
+pub record IsPlayed {W : Type 0} (rules : Rules W) (m : MatchData) (start end : MirrorState W)
+    (log : List Event) : Type 0 where
   -- the log is what the script's events and then draining's changed
   pub all : log ≡ end.history
   -- it is legal
   pub legal : IsLegal m.commands start log
   -- after each front of it the mirror is staggered
   pub staggered : (n : ℕ) → IsStaggered (after start (take n log))
-  -- after each front of it a command would be answered Late exactly where it is new and older than the last copy's clock,
-  -- which is the bound that is told
+  -- after each front of it a command would be answered Late exactly where it is new and older than
+  -- the last copy's clock, which is the bound that is told
   pub late : (n : ℕ) (x : Command) (bound : ℕ) → let s = after start (take n log) in
       (said s (Arrive x) ≡ ToArrive (Late bound))
       ↔ ((is_repeat s x ≡ false) × (x.time < last_clock s.runs) × (bound ≡ last_clock s.runs))
@@ -36,10 +37,12 @@ pub record IsPlayed {W : Type 0} (rules : Rules W) (m : MatchData) (start end : 
   pub drained : IsDrained end
   -- each copy's world is the time-ordered execution of what was accepted
   pub worlds : AllByRecursion
-      (λ run. world_of rules start.opening run ≡ time_ordered rules start.opening end.accepted m.length) end.runs
+      (λ run. world_of rules start.opening run
+      ≡ time_ordered rules start.opening end.accepted m.length) end.runs
 
 -- each of the logs is that of the mirror in its place, which was played; the first has this number
-unfoldable pub AllPlayed : {W : Type 0} → Rules W → W → MatchData → ℕ → List (MirrorState W) → List MirrorLog → Type 0
+unfoldable pub AllPlayed : {W : Type 0} → Rules W → W → MatchData → ℕ → List (MirrorState W)
+    → List MirrorLog → Type 0
 AllPlayed rules opening m number [] [] = Unit {0}
 AllPlayed rules opening m number (end ∷ ends) (log ∷ logs) =
     (log.mirror ≡ number)

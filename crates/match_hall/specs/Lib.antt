@@ -2,3 +2,5 @@ pub mod Script
 pub mod Report
 pub mod Stops
 pub mod Headline
+pub mod Notes
+pub mod Few

@@ -1,12 +1,11 @@
 -- What is printed of a match that is played. Mirrors are only looked at here.
-use Rattle.std.specs.Prelude.{ℕ, zero, suc, ◌+◌, List, [], ◌∷◌, ◌++◌, flat_map, length, slice_index_or, if◌then◌else◌}
+use Rattle.std.specs.Prelude.{ℕ, zero, suc, ◌+◌, List, [], ◌∷◌, ◌++◌, flat_map, length, if◌then◌else◌}
 use Rattle.game_trait.specs.declared.command.Command.{Command}
 use Rattle.game_trait.specs.declared.command.Item.{Item}
 use Rattle.game_trait.specs.declared.event.Reply.{Reply}
 use Rattle.game_trait.specs.declared.event.Reply.TheVariants.{Tick as ToTick, Arrive as ToArrive, Step as ToStep}
-use Rattle.game_trait.specs.Game.{Rules}
-use Rattle.game_trait.specs.Run.{beats, world_of}
 use Rattle.sync_model.specs.State.{MirrorState}
+pub use Rattle.sync_model.specs.Drafts.{run_of}
 use Rattle.sync_model.specs.Change.{answers}
 use Rattle.sync_model.specs.History.{repaired_in, repairs}
 use Rattle.sync_model.specs.Turns.{turn, turn_events, is_drained, drain_bound}
@@ -15,26 +14,9 @@ use Rattle.match_file.specs.declared.script_line.ScriptLine.{ScriptLine}
 use Rattle.match_file.specs.declared.script_line.ScriptLine.TheVariants as lines
 use Rattle.report_text.specs.Replies.{repair_line, tick_text, arrival_text, step_text}
 use Rattle.report_text.specs.Mirrors.{mirror_line, run_line}
-use Rattle.report_text.specs.Worlds.{block_text, copy_head}
+pub use Rattle.report_text.specs.Worlds.{Showing, copy_block}
 use Rattle.report_text.specs.Ends.{done_line}
 use Rattle.match_hall.specs.Script.{mirror_of, after_line, replies_to, changed_at, told_at, opening_mirrors, scripted, played}
-
--- how the worlds of a match are shown: by the rules of its game, the lines of a world, and the players' names
-pub record Showing (W : Type 0) : Type 0 where
-  pub rules : Rules W
-  pub lines : W → List (List ℕ) → List ℕ
-  pub names : List (List ℕ)
-
--- ---- copies
-
--- the block of a copy with this run
-abbrev pub copy_block : {W : Type 0} → Showing W → ℕ → W → ℕ → List Item → List ℕ
-copy_block show mirror opening copy run =
-    block_text show.lines show.names (copy_head mirror copy (beats run)) (world_of show.rules opening run)
-
--- the run of the copy of this number
-abbrev pub run_of : {W : Type 0} → MirrorState W → ℕ → List Item
-run_of s copy = slice_index_or s.runs copy []
 
 -- ---- script lines
 
@@ -42,7 +24,8 @@ run_of s copy = slice_index_or s.runs copy []
 unfoldable pub reply_text : ScriptLine → Reply → List ℕ
 reply_text (lines.Turn mirror) reply = repair_line mirror (repaired_in reply)
 reply_text (lines.Tick mirror) (ToTick ticked) = tick_text mirror ticked
-reply_text (lines.Arrive mirror from number) (ToArrive arrived) = arrival_text mirror from number arrived
+reply_text (lines.Arrive mirror from number) (ToArrive arrived) =
+    arrival_text mirror from number arrived
 reply_text (lines.Step mirror copy) (ToStep stepped) = step_text mirror copy stepped
 reply_text l reply = []
 
@@ -51,13 +34,16 @@ abbrev pub replies_text : ScriptLine → List Reply → List ℕ
 replies_text l replies = flat_map (reply_text l) replies
 
 -- what a script line prints at its mirror as it stands before the line
-unfoldable pub line_text : {W : Type 0} → Showing W → List Command → ScriptLine → MirrorState W → List ℕ
-line_text show commands (lines.World mirror copy) s = copy_block show mirror s.opening copy (run_of s copy)
+unfoldable pub line_text : {W : Type 0} → Showing W → List Command → ScriptLine → MirrorState W
+    → List ℕ
+line_text show commands (lines.World mirror copy) s =
+    copy_block show mirror s.opening copy (run_of s copy)
 line_text show commands (lines.Run mirror copy) s = run_line mirror copy (run_of s copy)
 line_text show commands l s = replies_text l (replies_to commands l s)
 
 -- what script lines print, one after the other, from these mirrors on
-unfoldable pub script_text : {W : Type 0} → Showing W → List Command → List (MirrorState W) → List ScriptLine → List ℕ
+unfoldable pub script_text : {W : Type 0} → Showing W → List Command → List (MirrorState W)
+    → List ScriptLine → List ℕ
 script_text show commands mirrors [] = []
 script_text show commands mirrors (l ∷ ls) =
     told_at (line_text show commands l) (mirror_of l) mirrors
@@ -72,7 +58,8 @@ turn_text number s = replies_text (lines.Turn number) (answers s (turn_events (l
 -- what turns print until a mirror is drained, at most so many
 unfoldable pub drain_text : {W : Type 0} → ℕ → ℕ → MirrorState W → List ℕ
 drain_text number zero s = []
-drain_text number (suc n) s = if is_drained s then [] else (turn_text number s ++ drain_text number n (turn s))
+drain_text number (suc n) s =
+    if is_drained s then [] else (turn_text number s ++ drain_text number n (turn s))
 
 -- what draining prints of mirrors one after the other, of which the first has this number
 unfoldable pub drains_text : {W : Type 0} → ℕ → List (MirrorState W) → List ℕ
@@ -85,6 +72,11 @@ drains_text number (s ∷ ss) = drain_text number (drain_bound s) s ++ drains_te
 abbrev pub line_of_mirror : {W : Type 0} → ℕ → MirrorState W → List ℕ
 line_of_mirror number s = mirror_line number (length s.accepted) (length s.turned) (repairs s)
 
+-- the lines of mirrors alone; the first has this number
+unfoldable pub lines_of_mirrors : {W : Type 0} → ℕ → List (MirrorState W) → List ℕ
+lines_of_mirrors number [] = []
+lines_of_mirrors number (s ∷ ss) = line_of_mirror number s ++ lines_of_mirrors (number + 1) ss
+
 -- the blocks of copies, of which the first has this number
 unfoldable pub copy_blocks : {W : Type 0} → Showing W → ℕ → W → ℕ → List (List Item) → List ℕ
 copy_blocks show number opening copy [] = []
@@ -95,7 +87,8 @@ copy_blocks show number opening copy (run ∷ behind) =
 unfoldable pub mirrors_text : {W : Type 0} → Showing W → ℕ → List (MirrorState W) → List ℕ
 mirrors_text show number [] = []
 mirrors_text show number (s ∷ ss) =
-    (line_of_mirror number s ++ copy_blocks show number s.opening 0 s.runs) ++ mirrors_text show (number + 1) ss
+    (line_of_mirror number s ++ copy_blocks show number s.opening 0 s.runs)
+    ++ mirrors_text show (number + 1) ss
 
 -- ---- the whole text
 

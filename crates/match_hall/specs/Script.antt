@@ -1,4 +1,5 @@
--- What happens to the mirrors of a match: along its script, and while they are drained. Nothing is printed here.
+-- What happens to the mirrors of a match: along its script, and while they are drained. Nothing is
+-- printed here.
 use Rattle.std.specs.Prelude.{ℕ, zero, suc, ◌+◌, Bool, false, ◌==◌, List, [], ◌∷◌, Option, Some, None, map, length}
 use Rattle.game_trait.specs.declared.command.Command.{Command}
 use Rattle.game_trait.specs.declared.event.Event.{Event}
@@ -9,8 +10,8 @@ use Rattle.game_trait.specs.Count.{times}
 use Rattle.sync_model.specs.State.{MirrorState, opening_state}
 use Rattle.sync_model.specs.Change.{after, answers}
 use Rattle.sync_model.specs.Turns.{turn_events, drain}
-use Rattle.sync_model.specs.Schedule.{Schedule}
-use Rattle.match_file.specs.Data.{MatchData, schedule_of}
+use Rattle.match_file.specs.Data.{MatchData}
+pub use Rattle.match_file.specs.Data.{all_plans, schedules}
 use Rattle.match_file.specs.declared.script_line.ScriptLine.{ScriptLine}
 use Rattle.match_file.specs.declared.script_line.ScriptLine.TheVariants as lines
 use Rattle.run_recorder.specs.declared.log.MirrorLog.{MirrorLog}
@@ -34,7 +35,8 @@ mirror_of (lines.Restagger mirror plan) = mirror
 unfoldable pub events_of : List Command → ℕ → ScriptLine → List Event
 events_of commands copies (lines.Tick mirror) = Tick ∷ []
 events_of commands copies (lines.Turn mirror) = turn_events copies
-events_of commands copies (lines.Arrive mirror from number) = arrival_of (command_named commands from number)
+events_of commands copies (lines.Arrive mirror from number) =
+    arrival_of (command_named commands from number)
 events_of commands copies (lines.Step mirror copy) = Step copy ∷ []
 events_of commands copies (lines.World mirror copy) = []
 events_of commands copies (lines.Run mirror copy) = []
@@ -48,7 +50,8 @@ abbrev pub replies_to : {W : Type 0} → List Command → ScriptLine → MirrorS
 replies_to commands l s = answers s (events_of commands (length s.runs) l)
 
 -- the mirror after script lines that all name it
-unfoldable pub after_lines : {W : Type 0} → List Command → List ScriptLine → MirrorState W → MirrorState W
+unfoldable pub after_lines : {W : Type 0} → List Command → List ScriptLine → MirrorState W
+    → MirrorState W
 after_lines commands [] s = s
 after_lines commands (l ∷ ls) s = after_lines commands ls (after_line commands l s)
 
@@ -56,7 +59,8 @@ after_lines commands (l ∷ ls) s = after_lines commands ls (after_line commands
 abbrev pub names : ℕ → ScriptLine → Bool
 names number l = mirror_of l == number
 
--- a list whose element of this number, if there is one, is what f makes of it, and what g tells of that element
+-- a list whose element of this number, if there is one, is what f makes of it, and what g tells of
+-- that element
 unfoldable pub changed_at : {X : Type 0} → (X → X) → ℕ → List X → List X
 changed_at f i [] = []
 changed_at f zero (x ∷ xs) = f x ∷ xs
@@ -68,7 +72,8 @@ told_at g zero (x ∷ xs) = g x
 told_at g (suc i) (x ∷ xs) = told_at g i xs
 
 -- all mirrors after script lines: each line happens at the mirror that it names
-unfoldable pub after_script : {W : Type 0} → List Command → List (MirrorState W) → List ScriptLine → List (MirrorState W)
+unfoldable pub after_script : {W : Type 0} → List Command → List (MirrorState W) → List ScriptLine
+    → List (MirrorState W)
 after_script commands mirrors [] = mirrors
 after_script commands mirrors (l ∷ ls) =
     after_script commands (changed_at (after_line commands l) (mirror_of l) mirrors) ls
@@ -93,23 +98,17 @@ restaggers_at number (lines.Step mirror copy) = false
 restaggers_at number (lines.World mirror copy) = false
 restaggers_at number (lines.Run mirror copy) = false
 
--- the plans of a match, plan 0 first
-abbrev pub all_plans : MatchData → List (List ℕ)
-all_plans m = m.delays ∷ m.plans
-
--- the schedules of these
-abbrev pub schedules : MatchData → List Schedule
-schedules m = map (schedule_of m) (all_plans m)
-
 -- a mirror as the match begins, with room for each of its arrivals and each change of its plan
 unfoldable pub opening_mirror : {W : Type 0} → W → MatchData → ℕ → MirrorState W
 opening_mirror opening m number =
-    opening_state opening m.length (all_plans m) (times (arrives_at number) m.script) (times (restaggers_at number) m.script)
+    opening_state opening m.length (all_plans m) (times (arrives_at number) m.script)
+    (times (restaggers_at number) m.script)
 
 -- so many mirrors as the match begins, of which the first has this number
 unfoldable pub opening_from : {W : Type 0} → W → MatchData → ℕ → ℕ → List (MirrorState W)
 opening_from opening m number zero = []
-opening_from opening m number (suc n) = opening_mirror opening m number ∷ opening_from opening m (number + 1) n
+opening_from opening m number (suc n) =
+    opening_mirror opening m number ∷ opening_from opening m (number + 1) n
 
 -- all mirrors as the match begins, after its script, and after draining
 abbrev pub opening_mirrors : {W : Type 0} → W → MatchData → List (MirrorState W)
@@ -124,4 +123,5 @@ played opening m = map (λ s. drain s) (scripted opening m)
 -- the logs of mirrors, of which the first has this number
 unfoldable pub logs_from : {W : Type 0} → ℕ → List (MirrorState W) → List MirrorLog
 logs_from number [] = []
-logs_from number (s ∷ ss) = record { mirror = number; events = s.history } ∷ logs_from (number + 1) ss
+logs_from number (s ∷ ss) =
+    record { mirror = number; events = s.history } ∷ logs_from (number + 1) ss

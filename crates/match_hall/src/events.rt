@@ -1,27 +1,40 @@
-//! The events that script lines and turns make at a mirror, and what it answers.
+//! The events of script lines and turns, and the turns of a mirror.
 
-ghost use Rattle.std.specs.Prelude.{◌≡◌, ◌≤◌, ◌∷◌, [], length};
-ghost use Rattle.std.specs.List.{AllByRecursion};
-ghost use Rattle.sync_model.specs.Change.{Fits, after, answers};
-ghost use Rattle.sync_model.specs.History.{HasRoomAlong};
+ghost use Rattle.std.specs.Prelude.{◌≡◌, ◌≤◌, ◌++◌, ◌∷◌, [], true, length, OnOk, OnErr};
+ghost use Rattle.game_trait.specs.CommandList.{command_named, has_command};
+ghost use Rattle.sync_model.specs.Change.{answers};
 ghost use Rattle.sync_model.specs.Turns.{turn, turn_events};
 ghost use Rattle.match_file.specs.Data.{IsScriptLine};
-ghost use Rattle.match_hall.specs.Script.{events_of, after_line, replies_to};
+ghost use Rattle.match_hall.specs.Script.{events_of};
+ghost use Rattle.match_hall.specs.Report.{turn_text};
 
+use crate::show::push_repairs;
 use arrayvec::ArrayVec;
-use game_trait::{Event, Game, Reply};
+use game_trait::{Command, Event, Game, MirrorId, Number, Reply};
 use match_file::{Match, ScriptLine, find_command};
 use mirror_core::Mirror;
+use tss_io::NoMemory;
 
 /// The events of one script line: of a turn a tick and a step of each copy, and else one at most.
 pub type Events = ArrayVec<Event, 9>;
 
-/// What a mirror answered to the events of one script line.
-pub type Replies = ArrayVec<Reply, 9>;
+/// What a mirror answered to the events of a turn: a tick, and a step of each copy.
+type Replies = ArrayVec<Reply, 9>;
 
-// The events of a turn of so many copies.
+/// The match's command of this mirror and number, which is there.
+pub fn command_of(m: &Match, from: MirrorId, number: Number) -> Command
+    requires { has_command m.now.commands from number ≡ true }
+    ensures { command_named m.now.commands from number ≡ Some result }
+{
+    match find_command(m, from, number) {
+        Some(x) => x,
+        None => unreachable!(),
+    }
+}
+
+/// The events of a turn of so many copies.
 #[tactic(auto, unfolding(sync_model::specs::Turns::steps_from))]
-fn turn_events(copies: u8) -> Events
+pub fn turn_events(copies: u8) -> Events
     requires { copies ≤ 8 }
     ensures { result.items ≡ turn_events copies }
 {
@@ -42,9 +55,9 @@ fn alone(event: Event) -> Events
     events
 }
 
-// The events that a script line makes at a mirror of so many copies.
+/// The events that a script line makes at a mirror of so many copies.
 #[tactic(auto, unfolding(crate::specs::Script::events_of))]
-fn events_of(m: &Match, copies: u8, line: &ScriptLine) -> Events
+pub fn events_of(m: &Match, copies: u8, line: &ScriptLine) -> Events
     requires copies { copies ≤ 8 }
     requires line { IsScriptLine m.now line.now }
     ensures { result.items ≡ events_of m.now.commands copies line.now }
@@ -52,51 +65,41 @@ fn events_of(m: &Match, copies: u8, line: &ScriptLine) -> Events
     match *line {
         ScriptLine::Tick { .. } => alone(Event::Tick),
         ScriptLine::Turn { .. } => turn_events(copies),
-        ScriptLine::Arrive { from, number, .. } => match find_command(m, from, number) {
-            Some(x) => alone(Event::Arrive(x)),
-            None => unreachable!(),
-        },
+        ScriptLine::Arrive { from, number, .. } => alone(Event::Arrive(command_of(
+            m, from, number,
+        ))),
         ScriptLine::Step { copy, .. } => alone(Event::Step(copy)),
         ScriptLine::Restagger { plan, .. } => alone(Event::Restagger(plan)),
         ScriptLine::World { .. } | ScriptLine::Run { .. } => ArrayVec::new(),
     }
 }
 
-// Makes events one after another, and hands back the answers.
-#[tactic(auto, unfolding(sync_model::specs::Change::after, sync_model::specs::Change::answers, sync_model::specs::History::HasRoomAlong))]
-fn make_events<G: Game>(mirror: &mut Mirror<G>, events: &[Event]) -> Replies
-    requires few { length events.now ≤ 9 }
-    requires fits { AllByRecursion (Fits mirror.old) events.now }
-    requires room { HasRoomAlong mirror.old events.now }
-    ensures state { mirror.new ≡ after mirror.old events.now }
-    ensures replies { result.items ≡ answers mirror.old events.now }
-{
-    let mut replies = ArrayVec::new();
-    for event in events {
-        replies.push(mirror.make(event));
-    }
-    replies
-}
-
-/// Makes the events of a script line at the mirror that it names, and hands back the answers.
-pub fn make<G: Game>(mirror: &mut Mirror<G>, m: &Match, line: &ScriptLine) -> Replies
-    requires line { IsScriptLine m.now line.now }
-    requires fits { AllByRecursion (Fits mirror.old) (events_of m.now.commands (length mirror.old.runs) line.now) }
-    requires room { HasRoomAlong mirror.old (events_of m.now.commands (length mirror.old.runs) line.now) }
-    ensures state { mirror.new ≡ after_line m.now.commands line.now mirror.old }
-    ensures replies { result.items ≡ replies_to m.now.commands line.now mirror.old }
-{
-    mirror.always();
-    let events = events_of(m, mirror.copies(), line);
-    make_events(mirror, events.as_slice())
-}
-
-/// Makes a turn of a mirror, and hands back the answers.
-pub fn turn<G: Game>(mirror: &mut Mirror<G>) -> Replies
+// Makes a turn of a mirror, and hands back the answers.
+#[tactic(auto, unfolding(sync_model::specs::Change::after, sync_model::specs::Change::answers))]
+fn turn<G: Game>(mirror: &mut Mirror<G>) -> Replies
     ensures state { mirror.new ≡ turn mirror.old }
     ensures replies { result.items ≡ answers mirror.old (turn_events (length mirror.old.runs)) }
 {
     mirror.always();
-    let events = turn_events(mirror.copies());
-    make_events(mirror, events.as_slice())
+    let mut replies = ArrayVec::new();
+    replies.push(Reply::Tick(mirror.tick()));
+    for copy in 0..mirror.copies() {
+        replies.push(Reply::Step(mirror.step(copy)));
+    }
+    replies
+}
+
+/// Makes a turn of the mirror of this number, and appends what it prints. On `NoMemory` the turn
+/// was made, and `out` is unchanged.
+pub fn push_turn<G: Game>(
+    mirror: &mut Mirror<G>,
+    number: MirrorId,
+    out: &mut Vec<u8>,
+) -> Result<(), NoMemory>
+    ensures state { mirror.new ≡ turn mirror.old }
+    ensures ok { OnOk result (out.new.items ≡ out.old.items ++ turn_text number mirror.old) }
+    ensures err { OnErr result (out.new.items ≡ out.old.items) }
+{
+    let replies = turn(mirror);
+    push_repairs(out, number, replies.as_slice())
 }

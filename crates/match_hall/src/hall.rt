@@ -8,22 +8,27 @@ ghost use Rattle.sync_model.specs.History.{HasRoomAlong};
 ghost use Rattle.sync_model.specs.Turns.{drain};
 ghost use Rattle.match_file.specs.Data.{IsScriptLine};
 ghost use Rattle.match_hall.specs.Script.{events_of, after_line, after_script, opening_mirrors, logs_from};
-ghost use Rattle.match_hall.specs.Report.{Showing, line_text, script_text, drains_text, mirrors_text};
+ghost use Rattle.match_hall.specs.Report.{Showing, line_text, script_text, drains_text, mirrors_text, lines_of_mirrors};
 ghost use Rattle.match_hall.specs.Stops.{IsStoppedScript, IsStoppedDraining};
+ghost use Rattle.match_hall.specs.Notes.{notes_of_all};
+ghost use Rattle.watch_board.specs.Told.{AreTold};
 
 use crate::drain::drain_mirror;
-use crate::events::make;
+use crate::events::{command_of, push_turn};
 use crate::open::open;
 use crate::script::mirror_of;
-use crate::show::{push_copy, push_mirror, push_replies, push_run};
+use crate::show::{push_copy, push_line_of_mirror, push_mirror, push_run};
+use crate::tell::tell_mirror;
 use arena_rules::{Roster, Shown};
 use game_trait::{Game, MirrorId};
 use match_file::{Match, ScriptLine};
 use mirror_core::Mirror;
+use report_text::{push_arrived, push_stepped, push_ticked};
 use run_recorder::MirrorLog;
 use std::alloc::Global;
 use std::marker::Model;
 use tss_io::{NoMemory, Seq};
+use watch_board::{Board, Watcher};
 
 /// The mirrors of a match. Contracts see the list of their states, mirror 0 first.
 #[derive(Drop)]
@@ -42,9 +47,9 @@ impl<G: Game> Model for Hall<G> {
     ghost invariant = { λ h. length h.mirrors.items ≤ 8 };
 }
 
-// Makes a script line at the mirror that it names, and appends what it prints. On `NoMemory` the line was made, and `out` is
-// unchanged.
-#[tactic(auto, unfolding(crate::specs::Report::line_text, crate::specs::Script::events_of, sync_model::specs::Change::after))]
+// Makes a script line at the mirror that it names, and appends what it prints. On `NoMemory` the
+// line was made, and `out` is unchanged.
+#[tactic(auto, unfolding(crate::specs::Report::line_text, crate::specs::Report::reply_text, crate::specs::Script::events_of, sync_model::specs::Change::after, sync_model::specs::Change::answers, sync_model::specs::History::HasRoomAlong))]
 fn play_line<G: Game + Shown>(
     mirror: &mut Mirror<G>,
     m: &Match,
@@ -53,30 +58,40 @@ fn play_line<G: Game + Shown>(
 ) -> Result<(), NoMemory>
     requires line { IsScriptLine m.now line.now }
     requires copies { length mirror.old.runs ≡ length m.now.delays }
-    requires fits { AllByRecursion (Fits mirror.old) (events_of m.now.commands (length mirror.old.runs) line.now) }
-    requires room { HasRoomAlong mirror.old (events_of m.now.commands (length mirror.old.runs) line.now) }
+    requires fits { AllByRecursion (Fits mirror.old)
+        (events_of m.now.commands (length mirror.old.runs) line.now) }
+    requires room { HasRoomAlong mirror.old
+        (events_of m.now.commands (length mirror.old.runs) line.now) }
     ensures state { mirror.new ≡ after_line m.now.commands line.now mirror.old }
-    ensures ok { let show : Showing G = record { rules = G.rules; lines = G.lines; names = m.now.names } in
-        OnOk result (out.new.items ≡ out.old.items ++ line_text show m.now.commands line.now mirror.old) }
+    ensures ok { let show : Showing G =
+        record { rules = G.rules; lines = G.lines; names = m.now.names } in
+        OnOk result (out.new.items
+        ≡ out.old.items ++ line_text show m.now.commands line.now mirror.old) }
     ensures err { OnErr result (out.new.items ≡ out.old.items) }
 {
     match *line {
-        ScriptLine::World {
-            mirror: number,
-            copy,
-        } => push_copy(out, number, mirror, copy, &m.roster),
-        ScriptLine::Run {
-            mirror: number,
-            copy,
-        } => push_run(out, number, mirror, copy),
-        _ => {
-            let replies = make(mirror, m, line);
-            push_replies(out, line, replies.as_slice())
+        ScriptLine::Tick { mirror: at } => push_ticked(out, at, mirror.tick()),
+        ScriptLine::Turn { mirror: at } => push_turn(mirror, at, out),
+        ScriptLine::Arrive {
+            mirror: at,
+            from,
+            number,
+        } => {
+            let x = command_of(m, from, number);
+            push_arrived(out, at, from, number, mirror.arrive(&x))
+        }
+        ScriptLine::Step { mirror: at, copy } => push_stepped(out, at, copy, mirror.step(copy)),
+        ScriptLine::World { mirror: at, copy } => push_copy(out, at, mirror, copy, &m.roster),
+        ScriptLine::Run { mirror: at, copy } => push_run(out, at, mirror, copy),
+        ScriptLine::Restagger { plan, .. } => {
+            mirror.restagger(plan);
+            Ok(())
         }
     }
 }
 
-// Makes the lines of a match's script one after another, each at the mirror that it names, and appends what they print.
+// Makes the lines of a match's script one after another, each at the mirror that it names, and
+// appends what they print.
 fn play_script<G: Game + Shown>(
     mirrors: &mut Vec<Mirror<G>>,
     m: &Match,
@@ -86,11 +101,14 @@ fn play_script<G: Game + Shown>(
     ensures count { length mirrors.new.items ≡ length mirrors.old.items }
     ensures state { OnOk result (mirrors.new.items
         ≡ after_script m.now.commands mirrors.old.items m.now.script) }
-    ensures text { let show : Showing G = record { rules = G.rules; lines = G.lines; names = m.now.names } in
+    ensures text { let show : Showing G =
+        record { rules = G.rules; lines = G.lines; names = m.now.names } in
         OnOk result (out.new.items ≡ out.old.items
         ++ script_text show m.now.commands mirrors.old.items m.now.script) }
-    ensures stopped { let show : Showing G = record { rules = G.rules; lines = G.lines; names = m.now.names } in
-        OnErr result (IsStoppedScript show m.now mirrors.old.items mirrors.new.items out.old.items out.new.items) }
+    ensures stopped { let show : Showing G =
+        record { rules = G.rules; lines = G.lines; names = m.now.names } in
+        OnErr result (IsStoppedScript show m.now mirrors.old.items mirrors.new.items
+        out.old.items out.new.items) }
 {
     let script = m.script.as_slice();
     for line in script {
@@ -106,11 +124,34 @@ fn drain_mirrors<G: Game>(mirrors: &mut Vec<Mirror<G>>, out: &mut Vec<u8>) -> Re
     ensures count { length mirrors.new.items ≡ length mirrors.old.items }
     ensures state { OnOk result (mirrors.new.items ≡ map (λ s. drain s) mirrors.old.items) }
     ensures text { OnOk result (out.new.items ≡ out.old.items ++ drains_text 0 mirrors.old.items) }
-    ensures stopped { OnErr result (IsStoppedDraining mirrors.old.items mirrors.new.items out.old.items out.new.items) }
+    ensures stopped { OnErr result
+        (IsStoppedDraining mirrors.old.items mirrors.new.items out.old.items out.new.items) }
 {
     for at in 0..mirrors.len() {
         let turns = mirrors[at].turns_to_drain();
         drain_mirror(&mut mirrors[at], at as MirrorId, turns, out)?;
+    }
+    Ok(())
+}
+
+// Plays mirrors to watchers, one after another.
+fn tell_mirrors<G: Game>(
+    mirrors: &mut Vec<Mirror<G>>,
+    m: &Match,
+    board: &mut Board,
+    out: &mut Vec<u8>,
+) -> Result<(), NoMemory>
+    requires opening { (opening : G) × (mirrors.old.items ≡ opening_mirrors opening m.now) }
+    ensures count { length mirrors.new.items ≡ length mirrors.old.items }
+    ensures state { OnOk result (mirrors.new.items
+        ≡ map (λ s. drain s) (after_script m.now.commands mirrors.old.items m.now.script)) }
+    ensures told { OnOk result (AreTold (notes_of_all 0 mirrors.new.items)
+        (map (λ w. behaviour (w.vtable, w.value)) board.old.watchers.items)
+        (map (λ w. behaviour
+        (w.vtable, w.value)) board.new.watchers.items) out.old.items out.new.items) }
+{
+    for number in 0..m.mirrors {
+        tell_mirror(&mut mirrors[usize::from(number)], number, m, board, out)?;
     }
     Ok(())
 }
@@ -123,7 +164,8 @@ fn push_mirrors<G: Game + Shown>(
     out: &mut Vec<u8>,
 ) -> Result<(), NoMemory>
     requires { length mirrors.now ≤ 8 }
-    ensures { let show : Showing G = record { rules = G.rules; lines = G.lines; names = roster.now } in
+    ensures { let show : Showing G =
+        record { rules = G.rules; lines = G.lines; names = roster.now } in
         OnOk result (out.new.items ≡ out.old.items ++ mirrors_text show 0 mirrors.now) }
 {
     let mut number: MirrorId = 0;
@@ -134,9 +176,24 @@ fn push_mirrors<G: Game + Shown>(
     Ok(())
 }
 
-// The logs of mirrors, mirror 0 first.
+// Appends the lines of mirrors, mirror 0 first.
+#[tactic(auto, unfolding(crate::specs::Report::lines_of_mirrors))]
+fn push_lines_of_mirrors<G: Game>(mirrors: &[Mirror<G>], out: &mut Vec<u8>) -> Result<(), NoMemory>
+    requires { length mirrors.now ≤ 8 }
+    ensures { OnOk result (out.new.items ≡ out.old.items ++ lines_of_mirrors 0 mirrors.now) }
+{
+    let mut number: MirrorId = 0;
+    for mirror in mirrors {
+        push_line_of_mirror(out, number, mirror)?;
+        number += 1;
+    }
+    Ok(())
+}
+
+/// The logs of mirrors, mirror 0 first: of each the events that changed it, in order. Want of
+/// memory makes none.
 #[tactic(auto, unfolding(crate::specs::Script::logs_from))]
-fn logs_of<G: Game>(alloc: Global, mirrors: &[Mirror<G>]) -> Result<Seq<MirrorLog>, NoMemory>
+pub fn logs_of<G: Game>(alloc: Global, mirrors: &[Mirror<G>]) -> Result<Seq<MirrorLog>, NoMemory>
     requires { length mirrors.now ≤ 8 }
     ensures { IfOk result (λ kept. kept ≡ logs_from 0 mirrors.now) }
 {
@@ -151,8 +208,8 @@ fn logs_of<G: Game>(alloc: Global, mirrors: &[Mirror<G>]) -> Result<Seq<MirrorLo
 }
 
 impl<G: Game + Shown> Hall<G> {
-    /// The mirrors of a match as it begins with this world. Each has room for the script's arrivals at it, and for the script's
-    /// changes of its plan. Want of memory makes nothing.
+    /// The mirrors of a match as it begins with this world. Each has room for the script's arrivals
+    /// at it, and for the script's changes of its plan. Want of memory makes nothing.
     pub fn new(alloc: Global, m: &Match, opening: &G) -> Result<Hall<G>, NoMemory>
         ensures mirrors { IfOk result (λ hall. hall ≡ opening_mirrors opening.now m.now) }
         ensures count { IfOk result (λ hall. length hall ≡ m.now.mirrors) }
@@ -161,40 +218,73 @@ impl<G: Game + Shown> Hall<G> {
         Ok(Hall { mirrors })
     }
 
-    /// Makes the lines of the match's script one after another, each at the mirror that it names, and appends what they print.
-    /// The hall is as `new` made it of this match. On `NoMemory` it stopped at one of the lines, which was made and whose text
-    /// wasn't appended; each mirror is the state after its history, as always.
+    /// Makes the lines of the match's script one after another, each at the mirror that it names,
+    /// and appends what they print. The hall is as `new` made it of this match. On `NoMemory` it
+    /// stopped at one of the lines, which was made and whose text wasn't appended; each mirror is
+    /// the state after its history, as always.
     pub fn play(&mut self, m: &Match, out: &mut Vec<u8>) -> Result<(), NoMemory>
         requires opened { (opening : G) × (self.old ≡ opening_mirrors opening m.now) }
         ensures count { length self.new ≡ length self.old }
         ensures state { OnOk result (self.new ≡ after_script m.now.commands self.old m.now.script) }
-        ensures text { let show : Showing G = record { rules = G.rules; lines = G.lines; names = m.now.names } in
-            OnOk result (out.new.items ≡ out.old.items ++ script_text show m.now.commands self.old m.now.script) }
-        ensures stopped { let show : Showing G = record { rules = G.rules; lines = G.lines; names = m.now.names } in
-            OnErr result (IsStoppedScript show m.now self.old self.new out.old.items out.new.items) }
+        ensures text { let show : Showing G =
+            record { rules = G.rules; lines = G.lines; names = m.now.names } in
+            OnOk result (out.new.items
+            ≡ out.old.items ++ script_text show m.now.commands self.old m.now.script) }
+        ensures stopped { let show : Showing G =
+            record { rules = G.rules; lines = G.lines; names = m.now.names } in
+            OnErr result (IsStoppedScript show m.now self.old self.new
+            out.old.items out.new.items) }
     {
         play_script(&mut self.mirrors, m, out)
     }
 
-    /// Drains the mirrors, mirror 0 first: turns of each until each of its copies has run the whole match. It appends what these
-    /// print, which is their repairs. On `NoMemory` it stopped at a turn of one of the mirrors, which was made and whose text
-    /// wasn't appended.
+    /// Drains the mirrors, mirror 0 first: turns of each until each of its copies has run the whole
+    /// match. It appends what these print, which is their repairs. On `NoMemory` it stopped at a
+    /// turn of one of the mirrors, which was made and whose text wasn't appended.
     pub fn drain(&mut self, out: &mut Vec<u8>) -> Result<(), NoMemory>
         ensures count { length self.new ≡ length self.old }
         ensures state { OnOk result (self.new ≡ map (λ s. drain s) self.old) }
         ensures text { OnOk result (out.new.items ≡ out.old.items ++ drains_text 0 self.old) }
-        ensures stopped { OnErr result (IsStoppedDraining self.old self.new out.old.items out.new.items) }
+        ensures stopped { OnErr result
+            (IsStoppedDraining self.old self.new out.old.items out.new.items) }
     {
         drain_mirrors(&mut self.mirrors, out)
     }
 
-    /// Appends the line of each mirror, mirror 0 first, and behind it the blocks of its copies, copy 0 first. On `NoMemory`
-    /// some of it may have been appended.
+    /// Plays the match to watchers: each mirror, mirror 0 first, makes the script's lines that name
+    /// it and is drained, and each event that changed it is told to the board with its answer. Of
+    /// that only the lines of watchers that left are appended. The hall is as `new` made it of this
+    /// match. On `NoMemory` it stopped at one of the events; each mirror is the state after its
+    /// history, as always.
+    pub fn tell(&mut self, m: &Match, board: &mut Board, out: &mut Vec<u8>) -> Result<(), NoMemory>
+        requires opened { (opening : G) × (self.old ≡ opening_mirrors opening m.now) }
+        ensures count { length self.new ≡ length self.old }
+        ensures state { OnOk result (self.new
+            ≡ map (λ s. drain s) (after_script m.now.commands self.old m.now.script)) }
+        ensures told { OnOk result (AreTold (notes_of_all 0 self.new)
+            (map (λ w. behaviour (w.vtable, w.value)) board.old.watchers.items)
+            (map (λ w. behaviour
+            (w.vtable, w.value)) board.new.watchers.items) out.old.items out.new.items) }
+    {
+        tell_mirrors(&mut self.mirrors, m, board, out)
+    }
+
+    /// Appends the line of each mirror, mirror 0 first, and behind it the blocks of its copies,
+    /// copy 0 first. On `NoMemory` some of it may have been appended.
     pub fn show(&self, roster: &Roster, out: &mut Vec<u8>) -> Result<(), NoMemory>
-        ensures { let show : Showing G = record { rules = G.rules; lines = G.lines; names = roster.now } in
+        ensures { let show : Showing G =
+            record { rules = G.rules; lines = G.lines; names = roster.now } in
             OnOk result (out.new.items ≡ out.old.items ++ mirrors_text show 0 self.now) }
     {
         push_mirrors(self.mirrors.as_slice(), roster, out)
+    }
+
+    /// Appends the line of each mirror, mirror 0 first. On `NoMemory` some of it may have been
+    /// appended.
+    pub fn show_lines(&self, out: &mut Vec<u8>) -> Result<(), NoMemory>
+        ensures { OnOk result (out.new.items ≡ out.old.items ++ lines_of_mirrors 0 self.now) }
+    {
+        push_lines_of_mirrors(self.mirrors.as_slice(), out)
     }
 
     /// The mirror of this number, which is there.
@@ -205,7 +295,8 @@ impl<G: Game + Shown> Hall<G> {
         &self.mirrors[usize::from(mirror)]
     }
 
-    /// The logs of the mirrors, mirror 0 first: of each the events that changed it, in order. Want of memory makes none.
+    /// The logs of the mirrors, mirror 0 first: of each the events that changed it, in order. Want
+    /// of memory makes none.
     pub fn logs(&self, alloc: Global) -> Result<Seq<MirrorLog>, NoMemory>
         ensures { IfOk result (λ kept. kept ≡ logs_from 0 self.now) }
     {

@@ -1,4 +1,5 @@
-//! What the words of a hall's promises come to. Each is the contract of a function without parameters that does nothing.
+//! What the words of a hall's promises come to. Each is the contract of a function without
+//! parameters that does nothing.
 
 ghost use Rattle.std.specs.Prelude.{◌≡◌, ◌↔◌, ◌<◌, ◌++◌, ◌∷◌, ℕ, false, List, take, filter, slice_get, option_map};
 ghost use Rattle.game_trait.specs.declared.command.Command.{Command};
@@ -14,25 +15,33 @@ ghost use Rattle.match_file.specs.declared.script_line.ScriptLine.{ScriptLine};
 ghost use Rattle.match_hall.specs.Script.{names, after_lines, after_script, played, logs_from};
 ghost use Rattle.match_hall.specs.Report.{Showing, script_text};
 ghost use Rattle.match_hall.specs.Headline.{IsPlayed, AllPlayed};
+ghost use Rattle.match_hall.specs.Few.{IsFew};
+ghost use Rattle.std.specs.List.{AllByRecursion};
 
 use game_trait::Game;
 
 /// What a script makes of a mirror is what its lines that name that mirror make of it.
 pub fn a_mirror_sees_its_own_lines<G: Game>()
-    ensures { (commands : List Command) (mirrors : List (MirrorState G)) (script : List ScriptLine) (number : ℕ)
+    ensures { (commands : List Command) (mirrors : List (MirrorState G)) (script : List ScriptLine)
+        (number : ℕ)
         → slice_get (after_script commands mirrors script) number
-        ≡ option_map (after_lines commands (filter (names number) script)) (slice_get mirrors number) }
+        ≡ option_map (after_lines commands (filter (names number) script))
+        (slice_get mirrors number) }
 {}
 
 /// What the first lines of a script print is the front of what all of it prints.
 pub fn first_lines_print_the_front<G: Game>()
-    ensures { (show : Showing G) (commands : List Command) (mirrors : List (MirrorState G)) (script : List ScriptLine) (n : ℕ)
-        → (rest : List ℕ) × (script_text show commands mirrors script ≡ script_text show commands mirrors (take n script) ++ rest) }
+    ensures { (show : Showing G) (commands : List Command) (mirrors : List (MirrorState G))
+        (script : List ScriptLine) (n : ℕ)
+        → (rest : List ℕ)
+        × (script_text show commands mirrors script
+        ≡ script_text show commands mirrors (take n script) ++ rest) }
 {}
 
-/// The mirrors of a match, played along its script and drained, keep what playing promises of each: their logs are legal, they
-/// are staggered after each front of these, and at the end they are drained, with the time-ordered execution of what each accepted
-/// as the world of each of its copies.
+/// The mirrors of a match, played along its script and drained, keep what playing promises of each:
+/// their logs are legal, they are staggered after each front of these, and at the end they are
+/// drained, with the time-ordered execution of what each accepted as the world of each of its
+/// copies.
 pub fn played_mirrors_keep_the_headline<G: Game>()
     ensures { (m : MatchData) (opening : G) → IsMatch m
         → AllPlayed G.rules opening m 0 (played opening m) (logs_from 0 (played opening m)) }
@@ -46,11 +55,21 @@ pub fn staggered_after_each_front<G: Game>()
         → IsPlayed G.rules m start end log → IsStaggered end }
 {}
 
-/// Each arrival in the log of a mirror that was played was answered Late exactly where the command was older than the last
-/// copy's clock, and else it was taken.
+/// Each arrival in the log of a mirror that was played was answered Late exactly where the command
+/// was older than the last copy's clock, and else it was taken.
 pub fn late_exactly_in_a_log<G: Game>()
-    ensures { (m : MatchData) (start end : MirrorState G) (log front rest : List Event) (x : Command)
+    ensures { (m : MatchData) (start end : MirrorState G) (log front rest : List Event)
+        (x : Command)
         → IsPlayed G.rules m start end log → log ≡ front ++ Arrive x ∷ rest
-        → (said (after start front) (Arrive x) ≡ ToArrive (Late (last_clock (after start front).runs)))
-        ↔ ((is_repeat (after start front) x ≡ false) × (x.time < last_clock (after start front).runs)) }
+        → (said (after start front) (Arrive x)
+        ≡ ToArrive (Late (last_clock (after start front).runs)))
+        ↔ ((is_repeat (after start front) x ≡ false)
+        × (x.time < last_clock (after start front).runs)) }
+{}
+
+/// The mirrors of a match, played along its script and drained, began with its world, have some
+/// copy each, and neither took nor turned away more commands than a script has lines.
+pub fn mirrors_take_no_more_than_a_script_brings<G: Game>()
+    ensures { (m : MatchData) (opening : G) → IsMatch m
+        → AllByRecursion (IsFew opening) (played opening m) }
 {}

@@ -23,7 +23,8 @@ fn plans(alloc: Global, m: &Match) -> Result<Vec<Stagger>, NoMemory>
     Ok(plans)
 }
 
-/// The mirrors of a match as it begins, each with room for the script's arrivals at it and its changes of the plan.
+/// The mirrors of a match as it begins, each with room for the script's arrivals at it and its
+/// changes of the plan.
 #[tactic(auto, unfolding(crate::specs::Script::opening_from))]
 pub fn open<G: Game>(alloc: Global, opening: &G, m: &Match) -> Result<Vec<Mirror<G>>, NoMemory>
     ensures mirrors { IfOk result (λ mirrors. mirrors.items ≡ opening_mirrors opening.now m.now) }

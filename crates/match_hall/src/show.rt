@@ -3,15 +3,14 @@
 ghost use Rattle.std.specs.Prelude.{◌≡◌, ◌++◌, ◌<◌, length, take, OnOk, OnErr};
 ghost use Rattle.sync_model.specs.History.{repaired_in};
 ghost use Rattle.report_text.specs.Mirrors.{run_line};
-ghost use Rattle.match_hall.specs.Report.{Showing, run_of, copy_block, copy_blocks, reply_text, replies_text, line_of_mirror};
+ghost use Rattle.match_file.specs.declared.script_line.ScriptLine.TheVariants.{Turn};
+ghost use Rattle.match_hall.specs.Report.{Showing, run_of, copy_block, copy_blocks, replies_text, line_of_mirror};
 
 use arena_rules::{Roster, Shown};
 use game_trait::{Arrived, Game, MirrorId, Reply, Stepped};
-use match_file::ScriptLine;
 use mirror_core::Mirror;
 use report_text::{
-    push_arrived, push_copy_block, push_line_end, push_mirror_line, push_repair, push_run_head,
-    push_run_mark, push_stepped, push_ticked,
+    push_copy_block, push_line_end, push_mirror_line, push_repair, push_run_head, push_run_mark,
 };
 use tss_io::NoMemory;
 
@@ -26,48 +25,27 @@ fn repaired_in(reply: Reply) -> u8
     }
 }
 
-// Appends what one answer to an event of a script line prints. On `NoMemory` `out` is unchanged.
+// Appends the line of each repair that answers tell of. On `NoMemory` some of it may have been
+// appended.
 #[tactic(auto, unfolding(crate::specs::Report::reply_text))]
-fn push_reply(out: &mut Vec<u8>, line: &ScriptLine, reply: Reply) -> Result<(), NoMemory>
-    ensures ok { OnOk result (out.new.items ≡ out.old.items ++ reply_text line.now reply) }
-    ensures err { OnErr result (out.new.items ≡ out.old.items) }
-{
-    match (*line, reply) {
-        (ScriptLine::Turn { mirror }, _) => push_repair(out, mirror, repaired_in(reply)),
-        (ScriptLine::Tick { mirror }, Reply::Tick(ticked)) => push_ticked(out, mirror, ticked),
-        (
-            ScriptLine::Arrive {
-                mirror,
-                from,
-                number,
-            },
-            Reply::Arrive(arrived),
-        ) => push_arrived(out, mirror, from, number, arrived),
-        (ScriptLine::Step { mirror, copy }, Reply::Step(stepped)) => {
-            push_stepped(out, mirror, copy, stepped)
-        }
-        _ => Ok(()),
-    }
-}
-
-// Appends what answers to the events of a script line print. On `NoMemory` some of it may have been appended.
-fn push_each_reply(out: &mut Vec<u8>, line: &ScriptLine, replies: &[Reply]) -> Result<(), NoMemory>
-    ensures ok { OnOk result (out.new.items ≡ out.old.items ++ replies_text line.now replies.now) }
+fn push_each_repair(out: &mut Vec<u8>, at: MirrorId, replies: &[Reply]) -> Result<(), NoMemory>
+    ensures ok { OnOk result (out.new.items ≡ out.old.items ++ replies_text (Turn at) replies.now) }
     ensures front { take (length out.old.items) out.new.items ≡ out.old.items }
 {
     for &reply in replies {
-        push_reply(out, line, reply)?;
+        push_repair(out, at, repaired_in(reply))?;
     }
     Ok(())
 }
 
-/// Appends what answers to the events of a script line print. On `NoMemory` `out` is unchanged.
-pub fn push_replies(out: &mut Vec<u8>, line: &ScriptLine, replies: &[Reply]) -> Result<(), NoMemory>
-    ensures ok { OnOk result (out.new.items ≡ out.old.items ++ replies_text line.now replies.now) }
+/// Appends what the answers to a turn's events print, which is their repairs. On `NoMemory` `out`
+/// is unchanged.
+pub fn push_repairs(out: &mut Vec<u8>, at: MirrorId, replies: &[Reply]) -> Result<(), NoMemory>
+    ensures ok { OnOk result (out.new.items ≡ out.old.items ++ replies_text (Turn at) replies.now) }
     ensures err { OnErr result (out.new.items ≡ out.old.items) }
 {
     let length = out.len();
-    match push_each_reply(out, line, replies) {
+    match push_each_repair(out, at, replies) {
         Ok(()) => Ok(()),
         Err(fault) => {
             out.truncate(length);
@@ -85,7 +63,8 @@ pub fn push_copy<G: Game + Shown>(
     roster: &Roster,
 ) -> Result<(), NoMemory>
     requires { copy < length mirror.now.runs }
-    ensures ok { let show : Showing G = record { rules = G.rules; lines = G.lines; names = roster.now } in
+    ensures ok { let show : Showing G =
+        record { rules = G.rules; lines = G.lines; names = roster.now } in
         OnOk result (out.new.items ≡ out.old.items
         ++ copy_block show number mirror.now.opening copy (run_of mirror.now copy)) }
     ensures err { OnErr result (out.new.items ≡ out.old.items) }
@@ -109,7 +88,8 @@ fn push_run_parts<G: Game>(
     copy: u8,
 ) -> Result<(), NoMemory>
     requires { copy < length mirror.now.runs }
-    ensures ok { OnOk result (out.new.items ≡ out.old.items ++ run_line number copy (run_of mirror.now copy)) }
+    ensures ok { OnOk result
+        (out.new.items ≡ out.old.items ++ run_line number copy (run_of mirror.now copy)) }
     ensures front { take (length out.old.items) out.new.items ≡ out.old.items }
 {
     push_run_head(out, number, copy)?;
@@ -127,7 +107,8 @@ pub fn push_run<G: Game>(
     copy: u8,
 ) -> Result<(), NoMemory>
     requires { copy < length mirror.now.runs }
-    ensures ok { OnOk result (out.new.items ≡ out.old.items ++ run_line number copy (run_of mirror.now copy)) }
+    ensures ok { OnOk result
+        (out.new.items ≡ out.old.items ++ run_line number copy (run_of mirror.now copy)) }
     ensures err { OnErr result (out.new.items ≡ out.old.items) }
 {
     let length = out.len();
@@ -140,17 +121,14 @@ pub fn push_run<G: Game>(
     }
 }
 
-/// Appends the line of the mirror of this number, and its copies' blocks. On `NoMemory` some of it may have been appended.
-#[tactic(auto, unfolding(crate::specs::Report::copy_blocks))]
-pub fn push_mirror<G: Game + Shown>(
+/// Appends the line of the mirror of this number. On `NoMemory` `out` is unchanged.
+pub fn push_line_of_mirror<G: Game>(
     out: &mut Vec<u8>,
     number: MirrorId,
     mirror: &Mirror<G>,
-    roster: &Roster,
 ) -> Result<(), NoMemory>
-    ensures { let show : Showing G = record { rules = G.rules; lines = G.lines; names = roster.now } in
-        OnOk result (out.new.items ≡ out.old.items
-        ++ (line_of_mirror number mirror.now ++ copy_blocks show number mirror.now.opening 0 mirror.now.runs)) }
+    ensures ok { OnOk result (out.new.items ≡ out.old.items ++ line_of_mirror number mirror.now) }
+    ensures err { OnErr result (out.new.items ≡ out.old.items) }
 {
     push_mirror_line(
         out,
@@ -158,7 +136,25 @@ pub fn push_mirror<G: Game + Shown>(
         mirror.accepted().len() as u64,
         mirror.turned().len() as u64,
         mirror.repairs(),
-    )?;
+    )
+}
+
+/// Appends the line of the mirror of this number, and its copies' blocks. On `NoMemory` some of it
+/// may have been appended.
+#[tactic(auto, unfolding(crate::specs::Report::copy_blocks))]
+pub fn push_mirror<G: Game + Shown>(
+    out: &mut Vec<u8>,
+    number: MirrorId,
+    mirror: &Mirror<G>,
+    roster: &Roster,
+) -> Result<(), NoMemory>
+    ensures { let show : Showing G =
+        record { rules = G.rules; lines = G.lines; names = roster.now } in
+        OnOk result (out.new.items ≡ out.old.items
+        ++ (line_of_mirror number mirror.now
+        ++ copy_blocks show number mirror.now.opening 0 mirror.now.runs)) }
+{
+    push_line_of_mirror(out, number, mirror)?;
     for copy in 0..mirror.copies() {
         push_copy(out, number, mirror, copy, roster)?;
     }

@@ -28,6 +28,7 @@ walled_grid (suc i) = with_wall (walled_grid i) (8 * (i % 4) + 4) (8 * (i / 4) +
 unfoldable pub kind_at : ℕ → Kind
 kind_at i = if i % 3 == 0 then Ammo else if i % 3 == 1 then Heal else Gold
 
+-- they lie side by side in the first row
 abbrev pub pickup_at : ℕ → PickupSpot
 pickup_at i = record { x = i; y = 0; kind = kind_at i }
 
@@ -43,7 +44,11 @@ name_at i = codes "p" ++ decimal i
 
 -- how the world begins
 abbrev pub the_layout : Layout
-the_layout = record { grid = walled_grid 16; pickups = each_below pickup_at 32; players = each_below home_at 16 }
+the_layout = record {
+  grid = walled_grid 16;
+  pickups = each_below pickup_at 32;
+  players = each_below home_at 16;
+}
 
 -- ---- the commands
 
@@ -51,8 +56,8 @@ the_layout = record { grid = walled_grid 16; pickups = each_below pickup_at 32; 
 unfoldable pub act_of : ℕ → Act
 act_of a = if nat_lt a 4 then Go else if a == 4 then Left else if a == 5 then Right else Shoot
 
--- command j: 8 of them in each tick, one of each mirror. Nine draws are made for it: the player, the act, and then a lag for
--- each mirror but the sender
+-- command j: 8 of them in each tick, one of each mirror. Nine draws are made for it: the player,
+-- the act, and then a lag for each mirror but the sender
 abbrev pub command_at : ℕ → ℕ → Command
 command_at seed j = record {
   time = j / 8;
@@ -62,7 +67,8 @@ command_at seed j = record {
   act = act_of (drawn seed (9 * j + 1) 8);
 }
 
--- how many draws there were before the lag of command j at this mirror, for which none is drawn at the sender
+-- how many draws there were before the lag of command j at this mirror, for which none is drawn at
+-- the sender
 abbrev pub draws_before_lag : ℕ → ℕ → ℕ
 draws_before_lag j mirror = 9 * j + 2 + (if nat_lt (j % 8) mirror then mirror - 1 else mirror)
 
@@ -74,7 +80,8 @@ lag seed j mirror = if mirror == j % 8 then 0 else drawn seed (draws_before_lag 
 
 -- command j arrives at this mirror in this tick of the script, or not
 unfoldable pub arrival : ℕ → ℕ → ℕ → ℕ → List ScriptLine
-arrival seed tick mirror j = if j / 8 + lag seed j mirror == tick then Arrive mirror (j % 8) (j / 8) ∷ [] else []
+arrival seed tick mirror j =
+    if j / 8 + lag seed j mirror == tick then Arrive mirror (j % 8) (j / 8) ∷ [] else []
 
 -- what arrives at a mirror in a tick
 abbrev pub arrivals : ℕ → ℕ → ℕ → List ScriptLine

@@ -95,7 +95,7 @@ fn name_at(alloc: Global, i: u8) -> Result<Vec<u8>, NoMemory>
     Ok(name)
 }
 
-// Puts the next player's name last.
+// Appends the next player's name.
 fn push_name(alloc: Global, roster: &mut Roster, i: u8) -> Result<(), NoMemory>
     requires players { i < 16 }
     requires names { roster.old ≡ each_below name_at i }

@@ -54,8 +54,10 @@ fn draw_next(
     requires place { place < 4096 }
     requires count { draws.old.count ≡ 9 * place }
     requires commands { commands.old.items ≡ each_below (command_at draws.old.seed) place }
-    requires rows { map (λ row. row.items) rows.old.items ≡ each_below (λ j. each_below (lag draws.old.seed j) 8) place }
-    ensures commands { OnOk result (commands.new.items ≡ each_below (command_at draws.old.seed) (place + 1)) }
+    requires rows { map (λ row. row.items) rows.old.items
+        ≡ each_below (λ j. each_below (lag draws.old.seed j) 8) place }
+    ensures commands { OnOk result
+        (commands.new.items ≡ each_below (command_at draws.old.seed) (place + 1)) }
     ensures rows { OnOk result (map (λ row. row.items) rows.new.items
         ≡ each_below (λ j. each_below (lag draws.old.seed j) 8) (place + 1)) }
     ensures seed { draws.new.seed ≡ draws.old.seed }

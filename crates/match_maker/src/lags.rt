@@ -12,7 +12,8 @@ use std::marker::Model;
 /// How many ticks a command is on its way to each mirror.
 pub type Row = ArrayVec<u8, 8>;
 
-/// How many ticks each command is on its way to each mirror. Contracts see the number that makes the match.
+/// How many ticks each command is on its way to each mirror. Contracts see the number that makes
+/// the match.
 #[derive(Drop)]
 pub struct Lags {
     seed: u32,
@@ -28,13 +29,15 @@ impl Model for Lags {
 
     ghost view = { λ l. l.seed };
 
-    ghost invariant = { λ l. map (λ row. row.items) l.rows.items ≡ each_below (λ j. each_below (lag l.seed j) 8) 4096 };
+    ghost invariant = { λ l. map (λ row. row.items) l.rows.items
+        ≡ each_below (λ j. each_below (lag l.seed j) 8) 4096 };
 }
 
 impl Lags {
     /// The lags of all commands of the match that this number makes.
     pub fn of(seed: u32, rows: Vec<Row>) -> Lags
-        requires { map (λ row. row.items) rows.items ≡ each_below (λ j. each_below (lag seed j) 8) 4096 }
+        requires { map (λ row. row.items) rows.items
+            ≡ each_below (λ j. each_below (lag seed j) 8) 4096 }
         ensures { result ≡ seed }
     {
         Lags { seed, rows }

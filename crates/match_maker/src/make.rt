@@ -16,8 +16,9 @@ fn delays(alloc: Global) -> Result<Seq<u32>, NoMemory>
     Ok(Seq::of(vec![in alloc; 0, 4, 8, 16, 32]?))
 }
 
-/// The match that a number makes: 512 ticks, 8 mirrors of 5 copies, 16 players, and 4,096 commands, each of which arrives at each
-/// mirror at most 31 ticks behind its time. The generator is this project's own.
+/// The match that a number makes: 512 ticks, 8 mirrors of 5 copies, 16 players, and 4,096 commands,
+/// each of which arrives at each mirror at most 31 ticks behind its time. The generator is this
+/// project's own.
 pub fn make_match(alloc: Global, seed: u32) -> Result<Match, NoMemory>
     ensures { IfOk result (λ m. m ≡ made seed) }
 {

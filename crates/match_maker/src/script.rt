@@ -33,7 +33,8 @@ fn push_arrival(
     })
 }
 
-// The arrivals at a mirror in a tick. Whatever arrives then is due in this tick or in one of the 31 before.
+// The arrivals at a mirror in a tick. Whatever arrives then is due in this tick or in one of the 31
+// before.
 #[tactic(auto, using(crate::proofs::Lists::joined_more, crate::proofs::Lists::joined_none))]
 fn push_arrivals(
     script: &mut Seq<ScriptLine>,

@@ -35,13 +35,13 @@ unfolding opening_from
 length-opening opening m first zero = refl
 length-opening opening m first (suc n) = let more = length-opening opening m (first + 1) n in omega (arith, more)
 
-length-played : {W : Type 0} (opening : W) (seed : ℕ) → length (played opening (made seed)) ≡ 8
+pub length-played : {W : Type 0} (opening : W) (seed : ℕ) → length (played opening (made seed)) ≡ 8
 length-played {W} opening seed =
     length-map (scripted opening (made seed)) (λ (s : MirrorState W). drain s)
     ∙ (length-script (made seed).commands (opening_mirrors opening (made seed)) (made seed).script ∙ length-opening opening (made seed) 0 8)
 
 -- what holds of the element at each place
-all-gets : {X : Type 0} → (P : X → Type 0) (xs : List X) → ((i : ℕ) → i < length xs → (x : X) × (slice_get xs i ≡ Some x) × P x) → AllByRecursion P xs
+pub all-gets : {X : Type 0} → (P : X → Type 0) (xs : List X) → ((i : ℕ) → i < length xs → (x : X) × (slice_get xs i ≡ Some x) × P x) → AllByRecursion P xs
 all-gets P [] h = tt
 all-gets P (x ∷ xs) h =
     let first = h zero (omega arith) in

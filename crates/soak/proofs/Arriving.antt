@@ -14,6 +14,7 @@ use Rattle.match_maker.proofs.Bounds.{lag-below}
 use Rattle.match_maker.proofs.Sums.{sum_below, sum_swap, sum_equal}
 use Rattle.match_maker.proofs.Sound.{NamesDiffer-made}
 use Rattle.soak.specs.Soak.{arriving, fed_in, fed_until, all_commands}
+use Rattle.game_trait.proofs.CommandLists.{NamesDiffer-front}
 
 -- how often what passes stands in joined lists
 times-joined : {X : Type 0} → (p : X → Bool) (f : ℕ → List X) (n : ℕ) → times p (joined_below f n) ≡ sum_below (λ j. times p (f j)) n
@@ -61,16 +62,6 @@ times-fed p seed mirror = sym (
     (λ tick m. times-arriving p seed mirror tick j)
     ∙ weight_once (j / 8 + lag seed j mirror) (times p (command_at seed j ∷ [])) 544 (omega (arith, l, lag-below seed j mirror)))
     ∙ sym (times-joined p (λ j. command_at seed j ∷ []) 4096)))))
-
--- different names, of a front
-NamesDiffer-front : (xs ys : List Command) → NamesDiffer (xs ++ ys) → NamesDiffer xs
-unfolding NamesDiffer
-NamesDiffer-front [] ys h = tt
-NamesDiffer-front (x ∷ xs) ys h = (front-all (λ y. same_name x y ≡ false) xs ys h.0, NamesDiffer-front xs ys h.1)
-  where
-    front-all : (P : Command → Type 0) (xs ys : List Command) → AllByRecursion P (xs ++ ys) → AllByRecursion P xs
-    front-all P [] ys h = tt
-    front-all P (x ∷ xs) ys h = (h.0, front-all P xs ys h.1)
 
 -- what arrives in the first so many ticks has different names
 NamesDiffer-back : (seed mirror ticks more : ℕ) → NamesDiffer (fed_until seed mirror (ticks + more)) → NamesDiffer (fed_until seed mirror ticks)

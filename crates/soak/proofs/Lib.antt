@@ -3,3 +3,4 @@ pub mod Feeding
 pub mod Soaked
 pub mod Played
 pub mod Agreed
+pub mod Whole

@@ -1,8 +1,7 @@
 -- What a mirror of the match comes to once it is drained.
-use Rattle.std.proofs.Common.{◌≡◌, ℕ, true, List, [], ◌∷◌, length, refl, sym, ap, subst, ◌∙◌, lit<, arith}
+use Rattle.std.proofs.Common.{◌≡◌, ℕ, true, [], ◌∷◌, length, sym, ap, subst, ◌∙◌, lit<, arith}
 use Rattle.game_trait.specs.Game.{Rules}
 use Rattle.game_trait.specs.Run.{world_of}
-use Rattle.game_trait.specs.Count.{times}
 use Rattle.game_trait.specs.Ordered.{ordered, time_ordered}
 use Rattle.game_trait.proofs.KeyOrder.{all-weaker}
 use Rattle.game_trait.proofs.OrderedParts.{ticks-same}
@@ -18,16 +17,11 @@ use Rattle.match_maker.proofs.Sound.{NamesDiffer-made}
 use Rattle.soak.specs.Soak.{fed_until, events_until, all_commands, IsSoaked}
 use Rattle.soak.proofs.Arriving.{times-fed, NamesDiffer-fed}
 use Rattle.soak.proofs.Feeding.{the_delays, IsFed, IsFed-script}
+use Rattle.game_trait.proofs.Counts.{times-all}
 
 rising : DelaysRise the_delays
 unfolding DelaysRise
 rising = ((lit< tt, (lit< tt, (lit< tt, (lit< tt, tt)))), ((lit< tt, (lit< tt, (lit< tt, tt))), ((lit< tt, (lit< tt, tt)), ((lit< tt, tt), (tt, tt)))))
-
--- a list is as long as what passes any test in it is often
-times-all : {X : Type 0} (xs : List X) → times (λ x. true) xs ≡ length xs
-unfolding times
-times-all [] = refl
-times-all (x ∷ xs) = let more = times-all xs in omega (arith, more)
 
 -- each command was accepted
 length-fed : (seed mirror : ℕ) → length (fed_until seed mirror 544) ≡ 4096

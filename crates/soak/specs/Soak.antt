@@ -14,7 +14,8 @@ use Rattle.match_maker.specs.Generator.{command_at, lag}
 
 -- command j, if it arrives at a mirror in this tick of the script
 unfoldable pub arriving : ℕ → ℕ → ℕ → ℕ → List Command
-arriving seed mirror tick j = if j / 8 + lag seed j mirror == tick then command_at seed j ∷ [] else []
+arriving seed mirror tick j =
+    if j / 8 + lag seed j mirror == tick then command_at seed j ∷ [] else []
 
 -- the commands that arrive at a mirror in a tick
 abbrev pub fed_in : ℕ → ℕ → ℕ → List Command
@@ -36,11 +37,15 @@ events_until seed mirror ticks = joined_below (events_in seed mirror) ticks
 abbrev pub all_commands : ℕ → List Command
 all_commands seed = each_below (command_at seed) 4096
 
--- a mirror at the end of the match of a number that opened so: it accepted every command and turned none away, it is drained, and the world of
--- each of its copies is the time-ordered execution of all commands
-pub record IsSoaked {W : Type 0} (rules : Rules W) (opening : W) (seed : ℕ) (end : MirrorState W) : Type 0 where
+-- a mirror at the end of the match of a number that opened so: it accepted every command and turned
+-- none away, it is drained, and the world of each of its copies is the time-ordered execution of
+-- all commands
+pub record IsSoaked {W : Type 0} (rules : Rules W) (opening : W) (seed : ℕ)
+    (end : MirrorState W) : Type 0 where
   pub opened : end.opening ≡ opening
   pub accepted : length end.accepted ≡ 4096
   pub turned : end.turned ≡ []
   pub drained : IsDrained end
-  pub worlds : AllByRecursion (λ run. world_of rules opening run ≡ time_ordered rules opening (all_commands seed) 512) end.runs
+  pub worlds : AllByRecursion
+      (λ run. world_of rules opening run
+      ≡ time_ordered rules opening (all_commands seed) 512) end.runs

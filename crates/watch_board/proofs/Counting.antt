@@ -5,7 +5,7 @@ use Rattle.std.specs.Option.{is_some}
 use Rattle.game_trait.specs.declared.event.Note.{Note}
 use Rattle.game_trait.specs.Count.{times}
 use Rattle.sync_model.specs.History.{repaired_in, repairs_in}
-use Rattle.watch_board.specs.Watchers.{counted, is_late, is_repair, watch_line, mirror_word, repairs_line, late_line, first_repaired, first_line}
+use Rattle.watch_board.specs.Watchers.{counted, says_late, is_repair, watch_line, mirror_word, repairs_line, late_line, first_repaired, first_line}
 
 -- what is told later is counted on
 counted-later : (count now later result : ℕ) → result ≡ counted (count + now) → counted (result + later) ≡ counted (count + (now + later))
@@ -29,11 +29,11 @@ repairs_line-none count h = ap (λ n. watch_line (codes "repairs") (decimal n)) 
 
 -- a count of late commands goes on
 pub late_line-later : (count result : ℕ) (note : Note) (notes : List Note)
-    → result ≡ counted (count + cond (is_late note.reply) 1 0) → late_line result notes ≡ late_line count (note ∷ notes)
+    → result ≡ counted (count + cond (says_late note.reply) 1 0) → late_line result notes ≡ late_line count (note ∷ notes)
 unfolding late_line times
 late_line-later count result note notes h =
     ap (λ n. watch_line (codes "late") (decimal n))
-    (counted-later count (cond (is_late note.reply) 1 0) (times is_late (map (λ n. n.reply) notes)) result h)
+    (counted-later count (cond (says_late note.reply) 1 0) (times says_late (map (λ n. n.reply) notes)) result h)
 
 -- before any note it is the count
 pub late_line-none : (count : ℕ) → count ≤ 2 ^ 64 - 1 → late_line count [] ≡ watch_line (codes "late") (decimal count)

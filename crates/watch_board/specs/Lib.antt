@@ -1,3 +1,4 @@
 pub mod Behaviour
 pub mod Board
+pub mod Told
 pub mod Watchers

@@ -19,21 +19,24 @@ abbrev pub counted : ℕ → ℕ
 counted n = min n (2 ^ 64 - 1)
 
 -- an answer says that a command was late
-abbrev pub is_late : Reply → Bool
-is_late (ToTick ticked) = false
-is_late (ToArrive (Taken n)) = false
-is_late (ToArrive Repeat) = false
-is_late (ToArrive (Late bound)) = true
-is_late (ToStep stepped) = false
-is_late Restaggered = false
+abbrev pub says_late : Reply → Bool
+says_late (ToTick ticked) = false
+says_late (ToArrive (Taken n)) = false
+says_late (ToArrive Repeat) = false
+says_late (ToArrive (Late bound)) = true
+says_late (ToStep stepped) = false
+says_late Restaggered = false
 
 -- the line of a count that goes on over the notes: of the copies that they say were repaired
 unfoldable pub repairs_line : ℕ → List Note → List ℕ
-repairs_line count notes = watch_line (codes "repairs") (decimal (counted (count + repairs_in (map (λ n. n.reply) notes))))
+repairs_line count notes =
+    watch_line (codes "repairs") (decimal (counted (count + repairs_in (map (λ n. n.reply) notes))))
 
 -- the line of a count that goes on over the notes: of the commands that they say were late
 unfoldable pub late_line : ℕ → List Note → List ℕ
-late_line count notes = watch_line (codes "late") (decimal (counted (count + times is_late (map (λ n. n.reply) notes))))
+late_line count notes =
+    watch_line (codes "late")
+    (decimal (counted (count + times says_late (map (λ n. n.reply) notes))))
 
 -- it stays, and counts the copies that were repaired
 abbrev pub repair_count : ℕ → Behaviour
@@ -51,7 +54,8 @@ is_repair note = nat_lt 0 (repaired_in note.reply)
 unfoldable pub first_repaired : Option ℕ → List Note → Option ℕ
 first_repaired (Some mirror) notes = Some mirror
 first_repaired None [] = None
-first_repaired None (note ∷ notes) = if is_repair note then Some note.mirror else first_repaired None notes
+first_repaired None (note ∷ notes) =
+    if is_repair note then Some note.mirror else first_repaired None notes
 
 -- the mirror's number, or that there is none
 abbrev pub mirror_word : Option ℕ → List ℕ

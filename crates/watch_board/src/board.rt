@@ -5,6 +5,7 @@ ghost use Rattle.game_trait.specs.declared.event.Note.{Note};
 ghost use Rattle.tss_io.specs.Lines.{as_line};
 ghost use Rattle.watch_board.specs.Behaviour.{Behaviour, leaves};
 ghost use Rattle.watch_board.specs.Board.{still_there, leaving_lines, last_lines, TellsAt, IsWithout, HasLineOf, IsCutShort, IsClosedShort};
+ghost use Rattle.watch_board.specs.Told.{AreTold};
 
 use crate::watcher::{Stay, Watcher};
 use game_trait::Note;
@@ -20,7 +21,8 @@ pub struct Board {
 fn leaves(watcher: &mut Box<dyn Watcher>, note: &Note) -> bool
     ensures left { result ≡ leaves note.now (behaviour watcher.old) }
     ensures answers { (earlier : List Note) (later : Note)
-        → (behaviour watcher.new).answer earlier later ≡ (behaviour watcher.old).answer (note.now ∷ earlier) later }
+        → (behaviour watcher.new).answer earlier later
+        ≡ (behaviour watcher.old).answer (note.now ∷ earlier) later }
     ensures lines { (earlier : List Note)
         → (behaviour watcher.new).line earlier ≡ (behaviour watcher.old).line (note.now ∷ earlier) }
 {
@@ -40,7 +42,8 @@ fn push_words_of(watcher: &Box<dyn Watcher>, out: &mut Vec<u8>) -> Result<(), No
 
 // Appends the watcher's line and a newline. On `NoMemory` `out` is unchanged.
 fn push_line_of(watcher: &Box<dyn Watcher>, out: &mut Vec<u8>) -> Result<(), NoMemory>
-    ensures ok { OnOk result (out.new.items ≡ out.old.items ++ as_line ((behaviour watcher.now).line [])) }
+    ensures ok { OnOk result
+        (out.new.items ≡ out.old.items ++ as_line ((behaviour watcher.now).line [])) }
     ensures err { OnErr result (out.new.items ≡ out.old.items) }
 {
     let length = out.len();
@@ -62,7 +65,8 @@ impl Board {
         Board { watchers }
     }
 
-    /// How many watchers are still there, or the greatest `u32` where there are more. It takes no memory.
+    /// How many watchers are still there, or the greatest `u32` where there are more. It takes no
+    /// memory.
     pub fn len(&self) -> u32
         ensures { result ≡ min (length self.now.watchers.items) (2 ^ 32 - 1) }
     {
@@ -93,15 +97,21 @@ impl Board {
         push_line_of(&gone, out)
     }
 
-    /// Hands the note to each watcher that is still there, in their order. One that leaves has its line appended, with a
-    /// newline, and is let go at once. On `NoMemory` the watchers in front of the one that left have taken the note, this one
-    /// is let go, those behind it haven't taken the note, and the lines of those in front that left were appended.
+    /// Hands the note to each watcher that is still there, in their order. One that leaves has its
+    /// line appended, with a newline, and is let go at once. On `NoMemory` the watchers in front of
+    /// the one that left have taken the note, this one is let go, those behind it haven't taken the
+    /// note, and the lines of those in front that left were appended.
     pub fn take(&mut self, note: &Note, out: &mut Vec<u8>) -> Result<(), NoMemory>
         ensures still_there { OnOk result (map (λ w. behaviour w) self.new.watchers.items
             ≡ still_there note.now (map (λ w. behaviour w) self.old.watchers.items)) }
         ensures lines { OnOk result (out.new.items
-            ≡ out.old.items ++ leaving_lines note.now (map (λ w. behaviour w) self.old.watchers.items)) }
-        ensures err { OnErr result (IsCutShort note.now (map (λ w. behaviour w) self.old.watchers.items)
+            ≡ out.old.items
+            ++ leaving_lines note.now (map (λ w. behaviour w) self.old.watchers.items)) }
+        ensures told { OnOk result
+            (AreTold (note.now ∷ []) (map (λ w. behaviour w) self.old.watchers.items)
+            (map (λ w. behaviour w) self.new.watchers.items) out.old.items out.new.items) }
+        ensures err { OnErr result
+            (IsCutShort note.now (map (λ w. behaviour w) self.old.watchers.items)
             (map (λ w. behaviour w) self.new.watchers.items) out.old.items out.new.items) }
     {
         let mut place = 0;
@@ -115,8 +125,8 @@ impl Board {
         Ok(())
     }
 
-    /// Appends the lines of the watchers that are still there, in their order, and lets them go. On `NoMemory` those in front
-    /// of the one whose line couldn't be appended have theirs appended.
+    /// Appends the lines of the watchers that are still there, in their order, and lets them go. On
+    /// `NoMemory` those in front of the one whose line couldn't be appended have theirs appended.
     pub fn close(self, out: &mut Vec<u8>) -> Result<(), NoMemory>
         ensures ok { OnOk result (out.new.items
             ≡ out.old.items ++ last_lines (map (λ w. behaviour w) self.watchers.items)) }

@@ -2,7 +2,7 @@
 
 ghost use Rattle.std.specs.Prelude.{◌≡◌, cond};
 ghost use Rattle.sync_model.specs.History.{repaired_in};
-ghost use Rattle.watch_board.specs.Watchers.{is_late, repair_count, late_count};
+ghost use Rattle.watch_board.specs.Watchers.{says_late, repair_count, late_count};
 
 use crate::lines::push_watch;
 use crate::watcher::{Stay, Watcher};
@@ -23,7 +23,7 @@ pub fn repaired(reply: &Reply) -> u8
 
 // How many commands an answer says were late: one or none.
 fn late(reply: &Reply) -> u8
-    ensures { result ≡ cond (is_late reply.now) 1 0 }
+    ensures { result ≡ cond (says_late reply.now) 1 0 }
 {
     match *reply {
         Reply::Arrive(Arrived::Late { .. }) => 1,
@@ -31,7 +31,8 @@ fn late(reply: &Reply) -> u8
     }
 }
 
-/// Counts the copies that were repaired, and says `watch repairs K`. The count stays at its greatest value, 2 ^ 64 - 1.
+/// Counts the copies that were repaired, and says `watch repairs K`. The count stays at its
+/// greatest value, 2 ^ 64 - 1.
 #[derive(Drop)]
 pub struct RepairCount {
     count: u64,
@@ -60,7 +61,8 @@ impl Watcher for RepairCount {
     }
 }
 
-/// Counts the commands that were late, and says `watch late K`. The count stays at its greatest value, 2 ^ 64 - 1.
+/// Counts the commands that were late, and says `watch late K`. The count stays at its greatest
+/// value, 2 ^ 64 - 1.
 #[derive(Drop)]
 pub struct LateCount {
     count: u64,

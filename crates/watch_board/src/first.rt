@@ -10,8 +10,8 @@ use game_trait::{MirrorId, Note};
 use itoa::Buffer;
 use tss_io::NoMemory;
 
-/// Tells at which mirror copies were repaired first: it leaves at that note and says `watch first M`, and says `watch first
-/// none` where none were.
+/// Tells at which mirror copies were repaired first: it leaves at that note and says `watch first
+/// M`, and says `watch first none` where none were.
 #[derive(Drop)]
 pub struct FirstRepair {
     mirror: Option<MirrorId>,

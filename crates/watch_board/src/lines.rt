@@ -19,7 +19,8 @@ fn push_parts(out: &mut Vec<u8>, what: &[u8], value: &[u8]) -> Result<(), NoMemo
     Ok(())
 }
 
-/// Appends what a watcher has to say of what it watches, without a newline. On `NoMemory` `out` is unchanged.
+/// Appends what a watcher has to say of what it watches, without a newline. On `NoMemory` `out` is
+/// unchanged.
 pub fn push_watch(out: &mut Vec<u8>, what: &[u8], value: &[u8]) -> Result<(), NoMemory>
     ensures ok { OnOk result (out.new.items ≡ out.old.items ++ watch_line what.now value.now) }
     ensures err { OnErr result (out.new.items ≡ out.old.items) }

@@ -25,7 +25,8 @@ pub trait Watcher: Drop {
     fn take(&mut self, note: &Note) -> Stay
         ensures answered { result ≡ (behaviour self.old).answer [] note.now }
         ensures answers { (earlier : List Note) (later : Note)
-            → (behaviour self.new).answer earlier later ≡ (behaviour self.old).answer (note.now ∷ earlier) later }
+            → (behaviour self.new).answer earlier later
+            ≡ (behaviour self.old).answer (note.now ∷ earlier) later }
         ensures lines { (earlier : List Note)
             → (behaviour self.new).line earlier ≡ (behaviour self.old).line (note.now ∷ earlier) };
 

@@ -1,6 +1,7 @@
-use Rattle.std.proofs.Common.{rules, ◌<◌, length}
+use Rattle.std.proofs.Common.{rules, ◌<◌, ◌≤◌, length}
 use Rattle.watch_board.proofs.Places.{on_err-since}
-use Rattle.watch_board.proofs.Telling.{IsOnWay-first, IsOnWay-stays, IsOnWay-leaves, IsOnWay-cut, seen-below}
+use Rattle.watch_board.proofs.Telling.{IsOnWay-first, IsOnWay-stays, IsOnWay-leaves, IsOnWay-cut, IsOnWay-last, seen-below, seen-behind}
+use Rattle.watch_board.proofs.Told.{AreTold-one}
 use Rattle.watch_board.proofs.board.Board.take.Goals as goal
 
 pub loop-place-init : goal.loop-place-init
@@ -22,3 +23,9 @@ pub loop-place-preserved : goal.loop-place-preserved
 loop-place-preserved g c =
     let there : c.loop-place.place < length c.loop-place.self.watchers.items = search rules in
     IsOnWay-stays _ _ _ _ _ _ _ _ c.if-leaves_from.false (seen-below _ _ _ there) c.leaves_from.ensures.told c.loop-place.invariant
+
+pub returns-clause-told : goal.returns-clause-told
+returns-clause-told g c =
+    let past : length c.loop-place.self.watchers.items ≤ c.loop-place.place = search rules in
+    let last = IsOnWay-last _ _ _ _ _ _ (seen-behind _ _ _ past) c.loop-place.invariant in
+    AreTold-one _ _ _ _ _ last.0 last.1

@@ -1,6 +1,0 @@
-use Rattle.std.proofs.Common.{◌≡◌, ◌++◌, take}
-use Rattle.match_hall.specs.Report.{replies_text}
-use Rattle.match_hall.proofs.show.push_each_reply.Given as goal
-
-abbrev pub invariant-loop-reply : goal.invariant-loop-reply
-invariant-loop-reply l = l.out.items ≡ l.fn.out.items ++ replies_text l.line (take l.reply-index l.replies)

@@ -1,0 +1,3 @@
+mod Players
+mod RowByRow
+mod Watched

@@ -1,0 +1,8 @@
+//! What is told of a match of the arena that is played to watchers: the scoreboard, and what the
+//! watchers have to say.
+#![tactic(auto)]
+
+mod answer;
+mod rows;
+
+pub use answer::{ScoreAnswer, score};

@@ -1,0 +1,122 @@
+//! The match of a number, played, and what is told of it.
+
+ghost use Rattle.std.specs.Prelude.{◌≡◌, length, IfOk, OnOk};
+ghost use Rattle.arena_rules.specs.World.{arena_rules};
+ghost use Rattle.game_trait.specs.Ordered.{time_ordered};
+ghost use Rattle.match_hall.specs.Script.{played, logs_from};
+ghost use Rattle.soak.specs.Answer.{soaked, IsSoakText, soak_text, TellsOf, TellsAgreement};
+
+use crate::agree::are_all_at;
+use crate::laws::the_text_says_same_yes;
+use arena_rules::Arena;
+use game_trait::{Game, MirrorId, execute_in_order};
+use match_file::Match;
+use match_hall::Hall;
+use match_maker::make_match;
+use report_text::{push_done, push_same, push_soak_line};
+use run_recorder::MirrorLog;
+use std::alloc::Global;
+use tss_io::{NoMemory, Seq};
+use watch_board::Board;
+
+// How many commands the match of a number has.
+const COMMANDS: u32 = 4096;
+
+/// What is told of the match of a number: its text, and the logs of its mirrors, mirror 0 first.
+#[derive(Drop)]
+pub struct SoakAnswer {
+    pub text: Seq<u8>,
+    pub kept: Seq<MirrorLog>,
+}
+
+// The mirrors of a match that opens so, played and drained. Nobody is told of it.
+fn play(alloc: Global, opening: &Arena, m: &Match) -> Result<Hall<Arena>, NoMemory>
+    ensures mirrors { IfOk result (λ hall. hall ≡ played opening.now m.now) }
+    ensures count { IfOk result (λ hall. length hall ≡ m.now.mirrors) }
+{
+    let mut hall = Hall::new(alloc, m, opening)?;
+    let mut nobody = Board::over(Vec::new(alloc));
+    let mut lines = Vec::new(alloc);
+    hall.tell(m, &mut nobody, &mut lines)?;
+    Ok(hall)
+}
+
+// The time-ordered execution of all commands of a match that opens so.
+fn in_order(alloc: Global, opening: &Arena, m: &Match) -> Result<Arena, NoMemory>
+    ensures { IfOk result
+        (λ world. world ≡ time_ordered arena_rules opening.now m.now.commands m.now.length) }
+{
+    let mut commands = Vec::from_slice(alloc, m.commands.as_slice())?;
+    let mut world = opening.twin();
+    execute_in_order(&mut world, commands.as_mut_slice(), m.length);
+    Ok(world)
+}
+
+// Appends whether each copy of each mirror of the hall, which has so many, has this world.
+fn push_agreement(
+    out: &mut Vec<u8>,
+    hall: &Hall<Arena>,
+    mirrors: MirrorId,
+    world: &Arena,
+) -> Result<(), NoMemory>
+    requires { length hall.now ≡ mirrors }
+    ensures { OnOk result
+        (TellsAgreement arena_rules world.now hall.now out.old.items out.new.items) }
+{
+    push_same(out, are_all_at(hall, mirrors, world))
+}
+
+// The text of a number and of the hall of its match, whose time-ordered execution is this world.
+#[tactic(auto, unfolding(crate::specs::Answer::lines_of))]
+fn text_of(
+    alloc: Global,
+    number: u32,
+    hall: &Hall<Arena>,
+    mirrors: MirrorId,
+    world: &Arena,
+) -> Result<Seq<u8>, NoMemory>
+    requires { length hall.now ≡ mirrors }
+    ensures { IfOk result (λ text. TellsOf arena_rules world.now number hall.now text) }
+{
+    let mut text = Vec::new(alloc);
+    push_soak_line(&mut text, number, COMMANDS)?;
+    hall.show_lines(&mut text)?;
+    push_agreement(&mut text, hall, mirrors, world)?;
+    push_done(&mut text)?;
+    Ok(Seq::of(text))
+}
+
+// What is told of a match that opens so, and that a number makes.
+fn answer(alloc: Global, number: u32, opening: &Arena, m: &Match) -> Result<SoakAnswer, NoMemory>
+    ensures told { IfOk result (λ s. TellsOf arena_rules
+        (time_ordered arena_rules opening.now m.now.commands m.now.length) number
+        (played opening.now m.now) s.text) }
+    ensures kept { IfOk result (λ s. s.kept ≡ logs_from 0 (played opening.now m.now)) }
+{
+    let world = in_order(alloc, opening, m)?;
+    let hall = play(alloc, opening, m)?;
+    let text = text_of(alloc, number, &hall, m.mirrors, &world)?;
+    let kept = hall.logs(alloc)?;
+    Ok(SoakAnswer { text, kept })
+}
+
+// Makes the match of a number and plays it; what is told of it compares its copies.
+fn make_and_play(alloc: Global, number: u32) -> Result<SoakAnswer, NoMemory>
+    ensures told { IfOk result (λ s. IsSoakText number s.text) }
+    ensures kept { IfOk result (λ s. s.kept ≡ logs_from 0 (soaked number)) }
+{
+    let m = make_match(alloc, number)?;
+    answer(alloc, number, &Arena::start(&m.setup), &m)
+}
+
+/// Makes the match of a number, plays it along its script and drains it. The text is that of
+/// `soak`: it says that all copies have the time-ordered execution of all commands as their world,
+/// which was compared and is so for every number. Want of memory leaves nothing.
+pub fn soak(alloc: Global, number: u32) -> Result<SoakAnswer, NoMemory>
+    ensures told { IfOk result (λ s. IsSoakText number s.text) }
+    ensures same { IfOk result (λ s. s.text ≡ soak_text number) }
+    ensures kept { IfOk result (λ s. s.kept ≡ logs_from 0 (soaked number)) }
+{
+    the_text_says_same_yes();
+    make_and_play(alloc, number)
+}
