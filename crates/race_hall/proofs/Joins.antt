@@ -20,7 +20,7 @@ use Rattle.race_hall.specs.Holding.{Holding, AreHeld, AreJoined}
 use Rattle.race_hall.proofs.Joined.{fed-sent}
 use Rattle.race_hall.proofs.Looks.{sender-below}
 
-map-long : {X Y : Type 0} (f : X → Y) (xs : List X) → length (map f xs) ≡ length xs
+pub map-long : {X Y : Type 0} (f : X → Y) (xs : List X) → length (map f xs) ≡ length xs
 map-long f [] = refl
 map-long f (x ∷ xs) = ap suc (map-long f xs)
 
@@ -29,7 +29,7 @@ map-get f [] i d v below here = absurd (omega arith)
 map-get f (x ∷ xs) zero d v below here = here
 map-get f (x ∷ xs) (suc i) d v below here = map-get f xs i d v (omega arith) here
 
-zip-count : {X : Type 0} (P : ℕ → X → Type 0) (i : ℕ) (xs : List X) → ((j : ℕ) (x : X) → j < length xs → x ≡ get_or xs j x → P (i + j) x) → AllZip P (count_from i (length xs)) xs
+pub zip-count : {X : Type 0} (P : ℕ → X → Type 0) (i : ℕ) (xs : List X) → ((j : ℕ) (x : X) → j < length xs → x ≡ get_or xs j x → P (i + j) x) → AllZip P (count_from i (length xs)) xs
 unfolding count_from
 zip-count P i [] each = tt
 zip-count P i (x ∷ xs) each = (

@@ -25,3 +25,9 @@ mod Posts
 mod Closings
 mod Passing
 mod Copies
+mod Manning
+mod Closes
+mod Linings
+mod Posting
+mod Crewing
+mod Ending

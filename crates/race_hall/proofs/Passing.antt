@@ -17,7 +17,7 @@ none-left : {X Y : Type 0} (R : X → Y → Type 0) (xs : List X) → AllZip R x
 none-left R [] h = refl
 none-left R (x ∷ xs) h = absurd h
 
-append-none : {X : Type 0} (xs : List X) → xs ++ [] ≡ xs
+pub append-none : {X : Type 0} (xs : List X) → xs ++ [] ≡ xs
 append-none [] = refl
 append-none {X} (x ∷ xs) = ap (λ (l : List X). x ∷ l) (append-none xs)
 

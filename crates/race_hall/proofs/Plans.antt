@@ -14,7 +14,7 @@ use Rattle.race_hall.specs.Finish.{unissued}
 use Rattle.race_hall.proofs.Lists.{total-append}
 use Rattle.game_trait.proofs.Lists.{all-filter}
 
-count-push : (i n : ℕ) → count_from i (suc n) ≡ count_from i n ++ (i + n) ∷ []
+pub count-push : (i n : ℕ) → count_from i (suc n) ≡ count_from i n ++ (i + n) ∷ []
 unfolding count_from
 count-push i zero = ap (λ (k : ℕ). k ∷ []) (omega arith)
 count-push i (suc n) = ap (λ (l : List ℕ). i ∷ l) (count-push (i + 1) n ∙ ap (λ (k : ℕ). count_from (i + 1) n ++ k ∷ []) (omega arith))

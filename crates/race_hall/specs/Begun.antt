@@ -3,7 +3,8 @@ use Rattle.std.specs.Prelude.{◌≡◌}
 use Rattle.race_hall.specs.declared.threads.Begun.{Begun}
 use Rattle.race_hall.specs.declared.threads.Begun.TheVariants.{Thread, Kept, Done}
 
--- this job was begun so: the thread has promised it, or it is the job that was kept, or this is its end
+-- this job was begun so: the thread has promised it, or it is the job that was kept, or this is its
+-- end
 abbrev pub IsBegun : {H J E : Type 0} → (H → J) → (J → E → Type 0) → J → Begun H J E → Type 0
 IsBegun promised Ends job (Thread handle) = promised handle ≡ job
 IsBegun promised Ends job (Kept other) = other ≡ job

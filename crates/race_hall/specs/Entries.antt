@@ -60,7 +60,8 @@ commands_asked (Arrive x ∷ es) = x ∷ commands_asked es
 commands_asked (Step c ∷ es) = commands_asked es
 commands_asked (Restagger p ∷ es) = commands_asked es
 
--- an arriving command isn't older than the clock by more than the longest delay, and no plan is changed
+-- an arriving command isn't older than the clock by more than the longest delay, and no plan is
+-- changed
 abbrev pub IsInTime : {W : Type 0} → MirrorState W → Event → Type 0
 IsInTime s Tick = Unit {0}
 IsInTime s (Arrive x) = s.clock ≤ x.time + longest_delay (delays_of s)

@@ -29,7 +29,8 @@ left_over c m left = joined (map (λ k. commands_in (left k)) (others c.mirrors 
 
 -- what was never issued, by rising sender
 abbrev pub never_issued : Course → (ℕ → ℕ) → List Command
-never_issued c marked = joined (map (λ k. unissued (plan_of c k) (marked k)) (count_from 0 c.mirrors))
+never_issued c marked =
+    joined (map (λ k. unissued (plan_of c k) (marked k)) (count_from 0 c.mirrors))
 
 -- all that is still delivered to mirror m
 abbrev pub to_deliver : Course → ℕ → (ℕ → ℕ) → (ℕ → List Message) → List Command
@@ -44,14 +45,16 @@ abbrev pub finished : {W : Type 0} → MirrorState W → List Command → Mirror
 finished s xs = drain (delivered s xs)
 
 -- where a mirror of a race ends
-pub record EndsAtFold {W : Type 0} (rules : Rules W) (c : Course) (opening : W) (t : MirrorState W) : Type 0 where
+pub record EndsAtFold {W : Type 0} (rules : Rules W) (c : Course) (opening : W)
+    (t : MirrorState W) : Type 0 where
   pub same_opening : t.opening ≡ opening
   pub same_length : t.length ≡ c.length
   pub same_plans : t.plans ≡ c.plans
   pub once : (test : Command → Bool) → times test t.accepted ≡ times test c.commands
   pub turned : t.turned ≡ []
   pub drained : IsDrained t
-  pub worlds : AllByRecursion (λ run. world_of rules opening run ≡ time_ordered rules opening c.commands c.length) t.runs
+  pub worlds : AllByRecursion
+      (λ run. world_of rules opening run ≡ time_ordered rules opening c.commands c.length) t.runs
   pub from_history : IsFromHistory t
   pub legal : IsLegal c.commands (opening_of t) t.history
 
@@ -60,13 +63,16 @@ pub record CanTake {W : Type 0} (s : MirrorState W) (xs : List Command) : Type 0
   pub within : AllByRecursion (λ x. x.time < s.length) xs
   pub room : length xs ≤ s.spare
 
--- what is true after the joins: all that arrived was taken, and each command has arrived, or is left in a link, or was never
--- issued; those that are still to be delivered are taken too
-pub record NothingLate {W : Type 0} (c : Course) (opening : W) (spare m : ℕ) (marked : ℕ → ℕ) (left : ℕ → List Message) (history : List Entry) (s : MirrorState W) : Type 0 where
+-- what is true after the joins: all that arrived was taken, and each command has arrived, or is
+-- left in a link, or was never issued; those that are still to be delivered are taken too
+pub record NothingLate {W : Type 0} (c : Course) (opening : W) (spare m : ℕ) (marked : ℕ → ℕ)
+    (left : ℕ → List Message) (history : List Entry) (s : MirrorState W) : Type 0 where
   pub accepted : s.accepted ≡ commands_asked (events_of (pairs_of history))
   pub turned : s.turned ≡ []
   pub taken : AllTaken (race_opening c opening spare) (events_of (pairs_of history))
-  pub shared : (test : Command → Bool) → times test (commands_asked (events_of (pairs_of history))) + times test (left_over c m left) + times test (never_issued c marked) ≡ times test c.commands
+  pub shared : (test : Command → Bool)
+      → times test (commands_asked (events_of (pairs_of history))) + times test (left_over c m left)
+      + times test (never_issued c marked) ≡ times test c.commands
   pub can : CanTake s (to_deliver c m marked left)
   pub later : AllTaken s (map Arrive (to_deliver c m marked left))
 
@@ -78,7 +84,8 @@ pub record HasNext {W : Type 0} (s : MirrorState W) (waiting : List Message) : T
   pub can : CanTake s (commands_in (message ∷ []))
 
 -- while a link is emptied: what is still to come
-pub record Taking {W : Type 0} (first now : MirrorState W) (all waiting : List Message) (count : ℕ) : Type 0 where
+pub record Taking {W : Type 0} (first now : MirrorState W) (all waiting : List Message)
+    (count : ℕ) : Type 0 where
   pub still : List Message
   pub count_of : length still ≡ count
   pub ahead : IsPrefix still waiting

@@ -30,8 +30,10 @@ use Rattle.race_hall.specs.Entries.{IsStepping}
 use Rattle.race_hall.specs.Posting.{asked_by, SameSeat, IsReadied}
 
 module _ {S W : Type 0} (game : GameRules W) where
-  -- a copy's worker may work over this seat, which has asked nothing: it may ask for the copy's drafts and steps, and has calls enough
-  pub record CanCopy (job : CopyJob) (seat : Seat S (View (MirrorState W) (LockCall W) (LockReply W))) : Type 0 where
+  -- a copy's worker may work over this seat, which has asked nothing: it may ask for the copy's
+  -- drafts and steps, and has calls enough
+  pub record CanCopy (job : CopyJob)
+      (seat : Seat S (View (MirrorState W) (LockCall W) (LockReply W))) : Type 0 where
     pub new : asked_by (view seat) ≡ []
     pub takes : FitsSeat (mirror_rules game) (view seat) (Event (Step job.copy))
     pub readied : IsReadied game (view seat)
@@ -39,9 +41,11 @@ module _ {S W : Type 0} (game : GameRules W) where
     pub calls : 2 * job.budget ≤ (view seat).calls
 
   -- a feeder may work over this seat
-  pub record CanFeed (job : FeederJob) (seat : Seat S (View (MirrorState W) (LockCall W) (LockReply W))) : Type 0 where
+  pub record CanFeed (job : FeederJob)
+      (seat : Seat S (View (MirrorState W) (LockCall W) (LockReply W))) : Type 0 where
     pub new : asked_by (view seat) ≡ []
-    pub takes : (e : AnEvent) → IsFeedingBelow job.stagger.length e → FitsSeat (mirror_rules game) (view seat) (Event e)
+    pub takes : (e : AnEvent) → IsFeedingBelow job.stagger.length e
+        → FitsSeat (mirror_rules game) (view seat) (Event e)
     pub readied : IsReadied game (view seat)
     pub calls : 8 * job.budget + length job.plan.items ≤ (view seat).calls
     pub grows : length job.plan.items + job.foreign ≤ (view seat).grows
@@ -65,12 +69,16 @@ Asks (Feeder job) None asked = ⊥
 Asks (Feeder job) (Some end) asked = FeederEnds job end [] asked
 
 -- a job and its end
-pub record Ends {T S W : Type 0} (seat_of : T → Seat S (View (MirrorState W) (LockCall W) (LockReply W))) (job : JobOver T) (end : EndOver T) : Type 0 where
+pub record Ends {T S W : Type 0}
+    (seat_of : T → Seat S (View (MirrorState W) (LockCall W) (LockReply W))) (job : JobOver T)
+    (end : EndOver T) : Type 0 where
   pub mirror : end.mirror ≡ job.mirror
   pub seat : SameSeat (seat_of job.seat) (seat_of end.seat)
   pub asks : Asks job.work end.feeder (asked_by (view (seat_of end.seat)))
 
 -- a job may be done where the locks have these names: its seat is one of its mirror's lock
-pub record CanDo {T S W : Type 0} (game : GameRules W) (seat_of : T → Seat S (View (MirrorState W) (LockCall W) (LockReply W))) (names : List TableId) (job : JobOver T) : Type 0 where
+pub record CanDo {T S W : Type 0} (game : GameRules W)
+    (seat_of : T → Seat S (View (MirrorState W) (LockCall W) (LockReply W))) (names : List TableId)
+    (job : JobOver T) : Type 0 where
   pub own : slice_get names job.mirror ≡ Some (seat_of job.seat).table_id
   pub can : CanWork game job.work (seat_of job.seat)

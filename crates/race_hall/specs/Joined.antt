@@ -1,4 +1,5 @@
--- What the caller of a race holds after the joins: what the feeders gave back, the locks' histories, and the links.
+-- What the caller of a race holds after the joins: what the feeders gave back, the locks'
+-- histories, and the links.
 use Rattle.std.specs.Prelude.{◌≡◌, ◌≢◌, ℕ, ◌<◌, List, [], ◌∷◌, ◌++◌}
 use Rattle.std.specs.List.{AllByRecursion, AllZip}
 use Rattle.link_ring.specs.declared.message.Message.{Message}
@@ -36,20 +37,25 @@ pub record IsLeftOf (sends : List LinkSend) (r : LinkReceive) (left : List Messa
   pub whole : received_of r ++ left ≡ sent_of send
 
 -- a feeder did its job, and this is what it asked
-pub record Fed (c : Course) (m : ℕ) (job : FeederJob) (end : FeederEnd) (asked : List Asked) : Type 0 where
+pub record Fed (c : Course) (m : ℕ) (job : FeederJob) (end : FeederEnd)
+    (asked : List Asked) : Type 0 where
   pub of : IsJobOf c m job
   pub ends : FeederEnds job end [] asked
 
 -- a lock was closed: its history, the seat of the feeder, the state that it gave back
-pub record Closed {W : Type 0} (c : Course) (opening : W) (spare seat : ℕ) (history : List Entry) (s : MirrorState W) : Type 0 where
+pub record Closed {W : Type 0} (c : Course) (opening : W) (spare seat : ℕ) (history : List Entry)
+    (s : MirrorState W) : Type 0 where
   pub sound : IsSound (race_opening c opening spare) (pairs_of history)
   pub state : s ≡ after (race_opening c opening spare) (events_of (pairs_of history))
   pub workers : (i : ℕ) → i ≢ seat → AllByRecursion (λ p. IsStepping p.event) (own i history)
 
 -- all feeders of a race
 abbrev pub AllFed : Course → (ℕ → FeederJob) → (ℕ → FeederEnd) → (ℕ → ℕ) → (ℕ → List Entry) → Type 0
-AllFed c job end seat history = (k : ℕ) → k < c.mirrors → Fed c k (job k) (end k) (own (seat k) (history k))
+AllFed c job end seat history = (k : ℕ) → k < c.mirrors
+    → Fed c k (job k) (end k) (own (seat k) (history k))
 
 -- what is left in the links to mirror m
 abbrev pub IsLeftAt : Course → (ℕ → FeederEnd) → ℕ → (ℕ → List Message) → Type 0
-IsLeftAt c end m left = AllZip (λ k r. IsLeftOf (end k).sends.items r (left k)) (others c.mirrors m) (end m).receives.items
+IsLeftAt c end m left =
+    AllZip (λ k r. IsLeftOf (end k).sends.items r (left k)) (others c.mirrors m)
+    (end m).receives.items

@@ -11,3 +11,6 @@ pub mod Posting
 pub mod Closing
 pub mod Jobs
 pub mod Begun
+pub mod Lining
+pub mod Crews
+pub mod Raced

@@ -37,13 +37,16 @@ pub record IsLinkedAt (place : ℕ) (sends : List LinkSend) (link : LinkReceive)
 -- each link to mirror m has its other end at its sender
 abbrev pub IsRowLinked : ℕ → List (Vec LinkSend Global) → List LinkReceive → Type 0
 IsRowLinked m sends row =
-    (j : ℕ) (r : LinkReceive) (v : Vec LinkSend Global) → j < length row → r ≡ slice_index_or row j r → v ≡ slice_index_or sends (sender_at m j) v
+    (j : ℕ) (r : LinkReceive) (v : Vec LinkSend Global) → j < length row
+    → r ≡ slice_index_or row j r → v ≡ slice_index_or sends (sender_at m j) v
     → IsLinkedAt (place_at m j) v.items r
 
 -- each sender sent the same on all its links
 abbrev pub AllSent : (ℕ → List Message) → List (Vec LinkSend Global) → Type 0
-AllSent sent sends = (k : ℕ) (v : Vec LinkSend Global) → k < length sends → v ≡ slice_index_or sends k v → AllByRecursion (λ s. sent_of s ≡ sent k) v.items
+AllSent sent sends = (k : ℕ) (v : Vec LinkSend Global) → k < length sends
+    → v ≡ slice_index_or sends k v → AllByRecursion (λ s. sent_of s ≡ sent k) v.items
 
 -- what was received and what is left is what was sent, for the first so many links of mirror m
 abbrev pub IsWholeTo : (ℕ → List Message) → ℕ → ℕ → List LinkReceive → Type 0
-IsWholeTo sent m count row = (j : ℕ) (r : LinkReceive) → j < count → r ≡ slice_index_or row j r → received_of r ++ waiting_of r ≡ sent (sender_at m j)
+IsWholeTo sent m count row = (j : ℕ) (r : LinkReceive) → j < count → r ≡ slice_index_or row j r
+    → received_of r ++ waiting_of r ≡ sent (sender_at m j)

@@ -19,7 +19,8 @@ pub record IsNewReceive (r : LinkReceive) : Type 0 where
   pub misses : misses_of r ≡ 0
 
 -- one more link: its ends stand at the ends of the lists
-pub record IsJoined (room : ℕ) (a b : Vec LinkSend Global) (p q : Vec LinkReceive Global) : Type 0 where
+pub record IsJoined (room : ℕ) (a b : Vec LinkSend Global)
+    (p q : Vec LinkReceive Global) : Type 0 where
   pub send : LinkSend
   pub receive : LinkReceive
   pub sends : b.items ≡ a.items ++ send ∷ []
@@ -42,12 +43,16 @@ pub record IsLonger (a b : Vec LinkSend Global) : Type 0 where
   pub parts : b.items ≡ a.items ++ more
 
 -- the ends that each mirror sends on: how many, and new
-pub record AreMade (rooms : List ℕ) (long : ℕ → ℕ) (sends : List (Vec LinkSend Global)) : Type 0 where
-  pub lengths : (k : ℕ) (v : Vec LinkSend Global) → k < length sends → v ≡ slice_index_or sends k v → length v.items ≡ long k
-  pub new : (k : ℕ) (v : Vec LinkSend Global) → k < length sends → v ≡ slice_index_or sends k v → AllByRecursion (IsNewSend (slice_index_or rooms k 0)) v.items
+pub record AreMade (rooms : List ℕ) (long : ℕ → ℕ)
+    (sends : List (Vec LinkSend Global)) : Type 0 where
+  pub lengths : (k : ℕ) (v : Vec LinkSend Global) → k < length sends → v ≡ slice_index_or sends k v
+      → length v.items ≡ long k
+  pub new : (k : ℕ) (v : Vec LinkSend Global) → k < length sends → v ≡ slice_index_or sends k v
+      → AllByRecursion (IsNewSend (slice_index_or rooms k 0)) v.items
 
 -- the first links of a row
-pub record IsRowMade (m j : ℕ) (rooms : List ℕ) (first now : List (Vec LinkSend Global)) (row : List LinkReceive) : Type 0 where
+pub record IsRowMade (m j : ℕ) (rooms : List ℕ) (first now : List (Vec LinkSend Global))
+    (row : List LinkReceive) : Type 0 where
   pub count : length row ≡ j
   pub longer : AllZip IsLonger first now
   pub made : AreMade rooms (λ k. long_at m k + cond (is_visited m j k) 1 0) now
@@ -55,19 +60,23 @@ pub record IsRowMade (m j : ℕ) (rooms : List ℕ) (first now : List (Vec LinkS
   pub new_row : AllByRecursion IsNewReceive row
 
 -- one row: as many links as there are other mirrors, each with its other end at its sender, and new
-pub record IsRow (m : ℕ) (rooms : List ℕ) (sends : List (Vec LinkSend Global)) (row : List LinkReceive) : Type 0 where
+pub record IsRow (m : ℕ) (rooms : List ℕ) (sends : List (Vec LinkSend Global))
+    (row : List LinkReceive) : Type 0 where
   pub count : length row + 1 ≡ length rooms
   pub linked : IsRowLinked m sends row
   pub new : AllByRecursion IsNewReceive row
 
 -- the links to the first so many mirrors
-pub record AreLinksTo (mirrors : ℕ) (rooms : List ℕ) (sends : List (Vec LinkSend Global)) (rows : List (Vec LinkReceive Global)) : Type 0 where
+pub record AreLinksTo (mirrors : ℕ) (rooms : List ℕ) (sends : List (Vec LinkSend Global))
+    (rows : List (Vec LinkReceive Global)) : Type 0 where
   pub sends_count : length sends ≡ length rooms
   pub rows_count : length rows ≡ mirrors
   pub made : AreMade rooms (long_at mirrors) sends
-  pub each : (m : ℕ) (v : Vec LinkReceive Global) → m < mirrors → v ≡ slice_index_or rows m v → IsRow m rooms sends v.items
+  pub each : (m : ℕ) (v : Vec LinkReceive Global) → m < mirrors → v ≡ slice_index_or rows m v
+      → IsRow m rooms sends v.items
 
 -- so many lists, all empty
 pub record AreEmpty (count : ℕ) (sends : List (Vec LinkSend Global)) : Type 0 where
   pub count_of : length sends ≡ count
-  pub empty : (k : ℕ) (v : Vec LinkSend Global) → k < length sends → v ≡ slice_index_or sends k v → v.items ≡ []
+  pub empty : (k : ℕ) (v : Vec LinkSend Global) → k < length sends → v ≡ slice_index_or sends k v
+      → v.items ≡ []

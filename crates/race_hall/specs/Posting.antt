@@ -80,7 +80,8 @@ module _ {W : Type 0} where
 
   -- that draft may be committed, once it is run
   abbrev pub IsReadied : GameRules W → View (MirrorState W) (LockCall W) (LockReply W) → Type 0
-  IsReadied game v = (d : DraftTick W) → drawn_by v ≡ Some d → FitsSeat (mirror_rules game) v (Commit (ready_of game d))
+  IsReadied game v = (d : DraftTick W) → drawn_by v ≡ Some d
+      → FitsSeat (mirror_rules game) v (Commit (ready_of game d))
 
 -- the second is the same seat of the same lock, later
 pub record SameSeat {S H C R : Type 0} (first now : Seat S (View H C R)) : Type 0 where
@@ -89,4 +90,5 @@ pub record SameSeat {S H C R : Type 0} (first now : Seat S (View H C R)) : Type 
 
 -- what is the same seat as the first stays so
 abbrev pub StaysSame : {X S H C R : Type 0} → (X → Seat S (View H C R)) → X → X → Type 0
-StaysSame {X} seat_of before after = (p : X) → SameSeat (seat_of p) (seat_of before) → SameSeat (seat_of p) (seat_of after)
+StaysSame {X} seat_of before after = (p : X) → SameSeat (seat_of p) (seat_of before)
+    → SameSeat (seat_of p) (seat_of after)

@@ -16,8 +16,8 @@ use Rattle.copy_workers.specs.Fed.{ArriveInTime}
 use Rattle.race_hall.specs.Entries.{Entry, pairs_of, own, events_of, IsSound, IsStepping}
 use Rattle.sync_model.specs.Schedule.{DelaysRise, longest_delay}
 
--- what of a match matters to a race: its commands, how many mirrors there are, its length, its plans, and how far a clock may go
--- past what the other mirrors' feeders promised
+-- what of a match matters to a race: its commands, how many mirrors there are, its length, its
+-- plans, and how far a clock may go past what the other mirrors' feeders promised
 pub record Course : Type 0 where
   pub commands : List Command
   pub mirrors : ℕ
@@ -33,8 +33,9 @@ first_plan c = slice_index_or c.plans 0 []
 abbrev pub race_opening : {W : Type 0} → Course → W → ℕ → MirrorState W
 race_opening c opening spare = opening_state opening c.length c.plans spare 0
 
--- what is always true of a match that may be raced: the names differ, each command is due within the match and of a mirror that is
--- there, the delays rise, and the pace is at most the longest delay
+-- what is always true of a match that may be raced: the names differ, each command is due within
+-- the match and of a mirror that is there, the delays rise, and the pace is at most the longest
+-- delay
 pub record IsCourse (c : Course) : Type 0 where
   pub names : NamesDiffer c.commands
   pub within : AllByRecursion (λ x. x.time < c.length) c.commands
@@ -61,27 +62,37 @@ abbrev pub foreign_of : Course → ℕ → ℕ
 foreign_of c m = total (λ k. length (plan_of c k)) (others c.mirrors m)
 
 -- what a feeder promises where what it received was orderly and had few commands
-pub record IsFairlyFed (pace length : ℕ) (issued : List Command) (gots : List (List Message)) (asked : List Asked) : Type 0 where
+pub record IsFairlyFed (pace length : ℕ) (issued : List Command) (gots : List (List Message))
+    (asked : List Asked) : Type 0 where
   pub in_time : AllByRecursion (ArriveInTime asked pace) gots
-  pub counts : (x : Command) → arrivals_of x asked ≡ times (same_command x) issued + total (λ got. times (same_command x) (commands_in got)) gots
-  pub bounds : AllByRecursion (λ got. (moves asked ≤ last_mark got + pace) ⊎ (last_mark got ≡ length)) gots
+  pub counts : (x : Command)
+      → arrivals_of x asked
+      ≡ times (same_command x) issued + total (λ got. times (same_command x) (commands_in got)) gots
+  pub bounds : AllByRecursion
+      (λ got. (moves asked ≤ last_mark got + pace) ⊎ (last_mark got ≡ length)) gots
 
--- what a feeder did: its plan, how many received commands it may ask, how many ticks it issued, what it received, what it asked
-pub record IsFedBy (c : Course) (plan : List Command) (foreign marked : ℕ) (gots : List (List Message)) (asked : List Asked) : Type 0 where
+-- what a feeder did: its plan, how many received commands it may ask, how many ticks it issued,
+-- what it received, what it asked
+pub record IsFedBy (c : Course) (plan : List Command) (foreign marked : ℕ)
+    (gots : List (List Message)) (asked : List Asked) : Type 0 where
   pub least : min c.length (moves asked) ≤ marked
   pub most : marked ≤ c.length
   pub arrive : AllByRecursion (λ x. ArrivesAt asked x x.time) (commands_in (messages plan marked))
   pub feeding : AllByRecursion (λ p. IsFeeding p.event) asked
-  pub fair : AllByRecursion (IsOrderly c.length) gots → total (λ got. length (commands_in got)) gots ≤ foreign
+  pub fair : AllByRecursion (IsOrderly c.length) gots
+      → total (λ got. length (commands_in got)) gots ≤ foreign
       → IsFairlyFed c.pace c.length (commands_in (messages plan marked)) gots asked
 
--- one mirror of a race after the joins: the seat of its feeder, the lock's history, the state that the lock gave back; of each
--- other mirror k how many ticks it issued, and what of its link was received and is left
-pub record Raced {W : Type 0} (c : Course) (opening : W) (spare m : ℕ) (marked : ℕ → ℕ) (got left : ℕ → List Message)
+-- one mirror of a race after the joins: the seat of its feeder, the lock's history, the state that
+-- the lock gave back; of each other mirror k how many ticks it issued, and what of its link was
+-- received and is left
+pub record Raced {W : Type 0} (c : Course) (opening : W) (spare m : ℕ) (marked : ℕ → ℕ)
+    (got left : ℕ → List Message)
     (seat : ℕ) (history : List Entry) (s : MirrorState W) : Type 0 where
   pub sound : IsSound (race_opening c opening spare) (pairs_of history)
   pub state : s ≡ after (race_opening c opening spare) (events_of (pairs_of history))
   pub workers : (i : ℕ) → i ≢ seat → AllByRecursion (λ p. IsStepping p.event) (own i history)
-  pub fed : IsFedBy c (plan_of c m) (foreign_of c m) (marked m) (map got (others c.mirrors m)) (own seat history)
+  pub fed : IsFedBy c (plan_of c m) (foreign_of c m) (marked m) (map got (others c.mirrors m))
+      (own seat history)
   pub below : (k : ℕ) → k < c.mirrors → marked k ≤ c.length
   pub links : (k : ℕ) → k < c.mirrors → k ≢ m → messages (plan_of c k) (marked k) ≡ got k ++ left k

@@ -42,9 +42,9 @@ fn take_next<G: Game>(mirror: &mut Mirror<G>, link: &mut LinkReceive)
     }
 }
 
-/// Delivers the commands that are left in a link, in the order in which they were sent. It takes as many messages as the
-/// link's last look knew of; marks are passed over. The mirror must have room for each command, which must be due
-/// within the match.
+/// Delivers the commands that are left in a link, in the order in which they were sent. It takes as
+/// many messages as the link's last look knew of; marks are passed over. The mirror must have room
+/// for each command, which must be due within the match.
 pub fn take_left<G: Game>(mirror: &mut Mirror<G>, link: &mut LinkReceive)
     requires { CanTake mirror.old (commands_in (waiting_of link.old)) }
     ensures { mirror.new ≡ delivered mirror.old (commands_in (waiting_of link.old)) }
@@ -82,7 +82,8 @@ fn make_turn<G: Game>(mirror: &mut Mirror<G>)
     make_steps(mirror);
 }
 
-/// Makes turns until the mirror is drained, at most so many. A turn is a tick and then a step of each copy, from copy 0 on.
+/// Makes turns until the mirror is drained, at most so many. A turn is a tick and then a step of
+/// each copy, from copy 0 on.
 pub fn drain_mirror<G: Game>(mirror: &mut Mirror<G>, turns: u32)
     ensures { mirror.new ≡ drain_within turns mirror.old }
 {
@@ -113,8 +114,9 @@ pub struct Sender {
     pub issued: u32,
 }
 
-/// Delivers what the feeders never issued, from the first sender on, each one's commands in key order. This is this project's
-/// own: a feeder whose budget runs out leaves commands that no mirror has seen.
+/// Delivers what the feeders never issued, from the first sender on, each one's commands in key
+/// order. This is this project's own: a feeder whose budget runs out leaves commands that no mirror
+/// has seen.
 pub fn take_unissued<G: Game>(mirror: &mut Mirror<G>, senders: &[Sender])
     requires places { AllByRecursion (λ one. one.issued ≤ length one.plan.items) senders.now }
     requires can { CanTake mirror.old (unissued_in senders.now) }
@@ -125,8 +127,9 @@ pub fn take_unissued<G: Game>(mirror: &mut Mirror<G>, senders: &[Sender])
     }
 }
 
-/// Finishes a mirror of a race, in three parts: it delivers what is left in the links to it, by rising sender, then what was
-/// never issued, by rising sender, and makes turns until it is drained. The order is this project's own.
+/// Finishes a mirror of a race, in three parts: it delivers what is left in the links to it, by
+/// rising sender, then what was never issued, by rising sender, and makes turns until it is
+/// drained. The order is this project's own.
 pub fn finish_mirror<G: Game>(mirror: &mut Mirror<G>, links: &mut [LinkReceive], senders: &[Sender])
     requires places { AllByRecursion (λ one. one.issued ≤ length one.plan.items) senders.now }
     requires can { CanTake mirror.old (left_in links.old ++ unissued_in senders.now) }

@@ -81,8 +81,9 @@ fn copy_over<R: Wait, G: Game, P: Gate>(
     post.into_seat()
 }
 
-/// Does a job of a race, over its seat of this lock, and gives the seat back. It may wait for the lock and at the gate.
-/// Afterwards a copy's worker has asked for steps alone, and a feeder what its end says.
+/// Does a job of a race, over its seat of this lock, and gives the seat back. It may wait for the
+/// lock and at the gate. Afterwards a copy's worker has asked for steps alone, and a feeder what
+/// its end says.
 pub fn do_job<R: Wait, G: Game, P: Gate>(
     rt: &R,
     gate: &P,

@@ -12,22 +12,24 @@ ghost use Rattle.race_hall.specs.Joined.{Closed, AllFed, IsLeftAt};
 
 use game_trait::Game;
 
-/// Whatever the workers did before they ended: nothing that arrived was late, nothing that is still to be delivered is late, and
-/// each command has arrived, is left in a link, or was never issued.
+/// Whatever the workers did before they ended: nothing that arrived was late, nothing that is still
+/// to be delivered is late, and each command has arrived, is left in a link, or was never issued.
 pub fn nothing_is_late<G: Game>()
     ensures { (c : Course) (opening : G) (spare : ℕ) (job : ℕ → FeederJob) (end : ℕ → FeederEnd)
-        (seat : ℕ → ℕ) (history : ℕ → List Entry) (m : ℕ) (s : MirrorState G) (left : ℕ → List Message)
+        (seat : ℕ → ℕ) (history : ℕ → List Entry) (m : ℕ) (s : MirrorState G)
+        (left : ℕ → List Message)
         → IsCourse c → length c.commands ≤ spare → m < c.mirrors
         → AllFed c job end seat history → Closed c opening spare (seat m) (history m) s
         → IsLeftAt c end m left
         → NothingLate c opening spare m (λ k. (end k).marked) left (history m) s }
 {}
 
-/// Whatever the workers did before they ended: each mirror, finished, has every command once, and its copies' worlds at the
-/// time-ordered execution of all commands.
+/// Whatever the workers did before they ended: each mirror, finished, has every command once, and
+/// its copies' worlds at the time-ordered execution of all commands.
 pub fn race_ends<G: Game>()
     ensures { (c : Course) (opening : G) (spare : ℕ) (job : ℕ → FeederJob) (end : ℕ → FeederEnd)
-        (seat : ℕ → ℕ) (history : ℕ → List Entry) (m : ℕ) (s : MirrorState G) (left : ℕ → List Message)
+        (seat : ℕ → ℕ) (history : ℕ → List Entry) (m : ℕ) (s : MirrorState G)
+        (left : ℕ → List Message)
         → IsCourse c → length c.commands ≤ spare → m < c.mirrors
         → AllFed c job end seat history → Closed c opening spare (seat m) (history m) s
         → IsLeftAt c end m left

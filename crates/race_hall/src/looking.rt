@@ -19,7 +19,8 @@ fn look_one(sends: &mut [LinkSend], place: usize, link: &mut LinkReceive)
     let _left = rest(&mut sends[place], link);
 }
 
-/// The sender of a mirror's link of this number: the links to a mirror stand by rising sender, and none comes from itself.
+/// The sender of a mirror's link of this number: the links to a mirror stand by rising sender, and
+/// none comes from itself.
 pub fn sender_of(mirror: usize, link: usize) -> usize
     requires { link < 256 }
     ensures { result ≡ sender_at mirror link }
@@ -34,8 +35,9 @@ fn place_of(mirror: usize, link: usize) -> usize
     if link < mirror { mirror - 1 } else { mirror }
 }
 
-/// Looks at each link to a mirror, so that afterwards all messages that were sent and not received are known to wait there.
-/// Nothing is sent or received by it. `sends` has each mirror's sending ends.
+/// Looks at each link to a mirror, so that afterwards all messages that were sent and not received
+/// are known to wait there. Nothing is sent or received by it. `sends` has each mirror's sending
+/// ends.
 pub fn look_row(mirror: usize, sends: &mut [Vec<LinkSend>], row: &mut [LinkReceive])
     requires mirrors { length row.old + 1 ≡ length sends.old }
     requires few { length row.old < 256 }

@@ -59,9 +59,10 @@ fn empty_sends(alloc: Global, mirrors: usize) -> Result<Vec<Vec<LinkSend>>, NoMe
     Ok(sends)
 }
 
-/// Makes the links of a race, from each mirror to each other: `rooms` has, mirror by mirror, how many messages a link of this
-/// sender has room for. The first list holds the ends that each mirror sends on, the second those that it receives on, both by
-/// rising other mirror. `NoMemory` where there isn't memory for them; then all that was made is let go.
+/// Makes the links of a race, from each mirror to each other: `rooms` has, mirror by mirror, how
+/// many messages a link of this sender has room for. The first list holds the ends that each mirror
+/// sends on, the second those that it receives on, both by rising other mirror. `NoMemory` where
+/// there isn't memory for them; then all that was made is let go.
 pub fn make_links(
     alloc: Global,
     rooms: &[u32],

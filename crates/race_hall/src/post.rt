@@ -38,8 +38,8 @@ impl<'a, R: Wait, L: Named, T: Named + Readied> Model for PostOver<'a, R, L, T> 
     ghost invariant = { λ p. (T.name p.seat ≡ L.name p.lock.now) × T.readied p.seat };
 }
 
-/// A post over a mirror's lock and a seat of it. What was asked are the events among the seat's own entries in the lock's
-/// history, and the steps that its commits stand for.
+/// A post over a mirror's lock and a seat of it. What was asked are the events among the seat's own
+/// entries in the lock's history, and the steps that its commits stand for.
 pub type LockPost<'a, R, G> = PostOver<'a, R, MirrorLock<G>, MirrorSeat<G>>;
 
 impl<'a, R: Wait, L: Named, T: Named + Readied> PostOver<'a, R, L, T> {
@@ -105,13 +105,17 @@ impl<'a, R: Wait, G: Game> DraftPost<G> for PostOver<'a, R, MirrorLock<G>, Mirro
     }
 
     fn commit(&mut self, r: Ready<G>) -> Committed
-        requires drawn { (d : DraftTick G) × (drawn_by (view self.old.seat) ≡ Some d) × (r ≡ ready_of G.rules d) }
+        requires drawn { (d : DraftTick G) × (drawn_by (view self.old.seat) ≡ Some d)
+            × (r ≡ ready_of G.rules d) }
         requires calls { 0 < self.old.calls }
-        ensures trail { trail_by (view self.new.seat) ≡ trail_by (view self.old.seat) ++ commit_mark r.copy result ∷ [] }
-        ensures asked { asked_by (view self.new.seat) ≡ asked_by (view self.old.seat) ++ commit_asked r.copy result }
+        ensures trail { trail_by (view self.new.seat)
+            ≡ trail_by (view self.old.seat) ++ commit_mark r.copy result ∷ [] }
+        ensures asked { asked_by (view self.new.seat)
+            ≡ asked_by (view self.old.seat) ++ commit_asked r.copy result }
         ensures calls { self.new.calls + 1 ≡ self.old.calls }
         ensures grows { self.new.grows ≡ self.old.grows }
-        ensures takes { (e : AnEvent) → FitsSeat (mirror_rules G.rules) (view self.old.seat) (AskEvent e)
+        ensures takes { (e : AnEvent)
+            → FitsSeat (mirror_rules G.rules) (view self.old.seat) (AskEvent e)
             → FitsSeat (mirror_rules G.rules) (view self.new.seat) (AskEvent e) }
         ensures same { StaysSame (λ s. s.seat) self.old self.new }
     {

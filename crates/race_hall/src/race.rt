@@ -15,8 +15,8 @@ use game_trait::Game;
 use link_ring::{LinkReceive, LinkSend};
 use mirror_core::Mirror;
 
-// Finishes one mirror of a race: afterwards it has every command of the match once, and its copies' worlds are at the
-// time-ordered execution of all commands.
+// Finishes one mirror of a race: afterwards it has every command of the match once, and its copies'
+// worlds are at the time-ordered execution of all commands.
 fn finish_one<G: Game>(
     number: usize,
     mirror: &mut Mirror<G>,
@@ -33,8 +33,9 @@ fn finish_one<G: Game>(
     finish_mirror(mirror, row, senders);
 }
 
-/// Finishes all mirrors of a race, mirror by mirror. Afterwards each has every command of the match once, and its copies' worlds
-/// are at the time-ordered execution of all commands, whatever the workers did before they ended.
+/// Finishes all mirrors of a race, mirror by mirror. Afterwards each has every command of the match
+/// once, and its copies' worlds are at the time-ordered execution of all commands, whatever the
+/// workers did before they ended.
 pub fn finish_race<G: Game>(
     mirrors: &mut [Mirror<G>],
     sends: &mut [Vec<LinkSend>],
@@ -57,8 +58,9 @@ pub fn finish_race<G: Game>(
     }
 }
 
-/// Finishes a race from what the joins gave: the mirrors of the locks, and what the feeders gave back, mirror by mirror, with
-/// empty lists that have room for what these hold. Afterwards each mirror stands as `finish_race` leaves it.
+/// Finishes a race from what the joins gave: the mirrors of the locks, and what the feeders gave
+/// back, mirror by mirror, with empty lists that have room for what these hold. Afterwards each
+/// mirror stands as `finish_race` leaves it.
 pub fn finish_joined<G: Game>(
     mirrors: &mut [Mirror<G>],
     ends: Vec<FeederEnd>,

@@ -51,7 +51,8 @@ pub type InThread<J, E> = Begun<PromisedHandle<E, EndOf<J>>, J, E>;
 
 // Does a task that was kept. A thread goes on meanwhile.
 fn go_on<E: Drop, J: Task<E> + Drop, D: Doer<J, E>>(doer: &D, one: InThread<J, E>) -> InThread<J, E>
-    requires { (task : J) × IsBegun (λ h. h.promise.task.value) J.ends task one × D.can doer.now task }
+    requires { (task : J) × IsBegun (λ h. h.promise.task.value) J.ends task one
+        × D.can doer.now task }
     ensures { (task : J) → IsBegun (λ h. h.promise.task.value) J.ends task one
         → IsGoing (λ h. h.promise.task.value) J.ends task result }
 {
@@ -68,10 +69,12 @@ fn go_on_all<E: Drop, J: Task<E> + Drop, D: Doer<J, E>>(
     begun: Vec<InThread<J, E>>,
     mut going: Vec<InThread<J, E>>,
 ) -> Vec<InThread<J, E>>
-    requires begun { (tasks : List J) × AllZip (IsBegun (λ h. h.promise.task.value) J.ends) tasks begun.items
+    requires begun { (tasks : List J)
+        × AllZip (IsBegun (λ h. h.promise.task.value) J.ends) tasks begun.items
         × AllByRecursion (D.can doer.now) tasks }
     requires room { (going.items ≡ []) × (vec_len begun ≤ vec_capacity going) }
-    ensures { (tasks : List J) → AllZip (IsBegun (λ h. h.promise.task.value) J.ends) tasks begun.items
+    ensures { (tasks : List J)
+        → AllZip (IsBegun (λ h. h.promise.task.value) J.ends) tasks begun.items
         → AllZip (IsGoing (λ h. h.promise.task.value) J.ends) tasks result.items }
 {
     for one in begun {
@@ -83,7 +86,8 @@ fn go_on_all<E: Drop, J: Task<E> + Drop, D: Doer<J, E>>(
 // The end of a task that a thread does, or that is done.
 fn join_one<R: Threads, E: Drop, J: Task<E> + Drop>(rt: &R, one: InThread<J, E>) -> E
     requires { (task : J) × IsGoing (λ h. h.promise.task.value) J.ends task one }
-    ensures { (task : J) → IsGoing (λ h. h.promise.task.value) J.ends task one → J.ends task result }
+    ensures { (task : J) → IsGoing (λ h. h.promise.task.value) J.ends task one
+        → J.ends task result }
 {
     match one {
         Begun::Thread(handle) => handle.join(rt),
@@ -98,9 +102,11 @@ fn join_all<R: Threads, E: Drop, J: Task<E> + Drop>(
     going: Vec<InThread<J, E>>,
     mut ends: Vec<E>,
 ) -> Vec<E>
-    requires going { (tasks : List J) × AllZip (IsGoing (λ h. h.promise.task.value) J.ends) tasks going.items }
+    requires going { (tasks : List J)
+        × AllZip (IsGoing (λ h. h.promise.task.value) J.ends) tasks going.items }
     requires room { (ends.items ≡ []) × (vec_len going ≤ vec_capacity ends) }
-    ensures { (tasks : List J) → AllZip (IsGoing (λ h. h.promise.task.value) J.ends) tasks going.items
+    ensures { (tasks : List J)
+        → AllZip (IsGoing (λ h. h.promise.task.value) J.ends) tasks going.items
         → AllZip J.ends tasks result.items }
 {
     for one in going {
@@ -110,6 +116,7 @@ fn join_all<R: Threads, E: Drop, J: Task<E> + Drop>(
 }
 
 /// Lists with room for each task, made before the threads, so that these take no memory.
+#[derive(Drop)]
 pub struct Rooms<H, J, E> {
     /// For tasks that were begun.
     pub begun: Vec<Begun<H, J, E>>,
@@ -119,9 +126,9 @@ pub struct Rooms<H, J, E> {
     pub ends: Vec<E>,
 }
 
-/// Does the tasks, of which there are at most 128, and gives an end of each, in order. A task is done by the caller where its
-/// bit of `inline` is set or where no thread can be made for it, and by a thread otherwise. It takes no memory, and waits for
-/// all threads.
+/// Does the tasks, of which there are at most 128, and gives an end of each, in order. A task is
+/// done by the caller where its bit of `inline` is set or where no thread can be made for it, and
+/// by a thread otherwise. It takes no memory, and waits for all threads.
 pub fn do_all<R, E, J, D>(
     rt: &R,
     doer: &D,
@@ -137,7 +144,8 @@ where
     requires can { AllByRecursion (D.can doer.now) tasks.items }
     requires few { vec_len tasks ≤ 128 }
     requires empty { (rooms.begun.items ≡ []) × (rooms.going.items ≡ []) × (rooms.ends.items ≡ []) }
-    requires room { (vec_len tasks ≤ vec_capacity rooms.begun) × (vec_len tasks ≤ vec_capacity rooms.going)
+    requires room { (vec_len tasks ≤ vec_capacity rooms.begun)
+        × (vec_len tasks ≤ vec_capacity rooms.going)
         × (vec_len tasks ≤ vec_capacity rooms.ends) }
     ensures { AllZip J.ends tasks.items result.items }
 {
@@ -151,7 +159,8 @@ where
         rt,
         move |scope| -> Vec<InThread<J, E>>
             requires { AllByRecursion (D.can doer.now) tasks.items
-                × (vec_len tasks ≤ 128) × (begun.items ≡ []) × (vec_len tasks ≤ vec_capacity begun) }
+                × (vec_len tasks ≤ 128) × (begun.items ≡ [])
+                × (vec_len tasks ≤ vec_capacity begun) }
             ensures { AllZip (IsBegun (λ h. h.promise.task.value) J.ends) tasks.items result.items }
         {
             let mut number = 0u32;

@@ -1,0 +1,51 @@
+//! A race of a match, and its record.
+
+ghost use Rattle.std.specs.Prelude.{◌≡◌, List, IfOk};
+ghost use Rattle.sync_model.specs.State.{MirrorState};
+ghost use Rattle.match_hall.specs.Report.{Showing};
+ghost use Rattle.tss_race.specs.Run.{IsRaceOf};
+
+use crate::record::record_of;
+use arena_rules::Shown;
+use copy_workers::Gate;
+use game_trait::Game;
+use match_file::Match;
+use race_hall::racing::race;
+use run_recorder::{MirrorLog, RaceRecord, print_record};
+use std::alloc::Global;
+use std::sync::Wait;
+use std::thread::Threads;
+use tss_io::{NoMemory, Seq};
+
+/// What is answered to a match that is raced: its record's text, and the logs, mirror 0 first.
+#[derive(Drop)]
+pub struct Raced {
+    pub text: Seq<u8>,
+    pub kept: Seq<MirrorLog>,
+}
+
+/// Races a match that opens so, and answers the record of that race.
+pub fn race_match<R: Threads + Wait + Sync, G: Game + Shown + Send, P: Gate + Sync>(
+    rt: &R,
+    alloc: Global,
+    opening: &G,
+    m: Match,
+    gate: &P,
+) -> Result<Raced, NoMemory>
+    ensures { let show : Showing G = record { rules = G.rules; lines = G.lines; names = m.names } in
+        IfOk result (λ a. (mirrors : List (MirrorState G))
+        × IsRaceOf show opening.now m mirrors a.text a.kept) }
+{
+    let mirrors = race(rt, alloc, &m, opening, gate)?;
+    let r = record_of(alloc, m, mirrors.as_slice())?;
+    let text = print_record(alloc, &r)?;
+    let RaceRecord {
+        game: _,
+        logs,
+        worlds: _,
+    } = r;
+    Ok(Raced {
+        text: Seq::of(text),
+        kept: logs,
+    })
+}
