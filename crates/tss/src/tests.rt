@@ -1,5 +1,5 @@
-//! The tests of every crate's public calls. They stand in the top crate, since a crate's tests are proved together with the
-//! whole crate once more.
+//! The tests of every crate's public calls. They stand in the top crate, since a crate's tests are
+//! proved together with the whole crate once more.
 
 mod arena;
 mod copy_workers_tests;
@@ -12,6 +12,7 @@ mod limits;
 mod link_ring_tests;
 mod match_hall_tests;
 mod match_maker_tests;
+mod match_score_tests;
 mod match_texts;
 mod memory_post;
 mod mirror_core_tests;
@@ -20,14 +21,17 @@ mod pending_list_tests;
 mod plain_arena;
 mod plays;
 mod program;
+mod race_hall_tests;
 mod repair_copy_tests;
 mod report_text_tests;
 mod run_auditor_tests;
 mod run_recorder_tests;
 mod several_copies;
 mod slow_mirror;
+mod soak_tests;
 mod stagger_clock_tests;
 mod trailing_copy_tests;
 mod tss_io_tests;
+mod tss_race_tests;
 mod turn_lock_tests;
 mod watch_board_tests;

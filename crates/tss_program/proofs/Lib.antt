@@ -1,3 +1,5 @@
+mod AnswerLaws
 mod Ends
+mod Inputs
 mod Lifting
 mod Whole

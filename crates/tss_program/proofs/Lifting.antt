@@ -4,7 +4,8 @@ use Rattle.sync_model.specs.State.{MirrorState}
 use Rattle.sync_model.specs.Turns.{drain}
 use Rattle.match_file.specs.Data.{MatchData, lifted}
 use Rattle.match_hall.specs.Script.{opening_mirror, opening_from, after_script, scripted, played}
-use Rattle.match_hall.specs.Report.{Showing, script_text, drains_text, mirrors_text, play_text}
+use Rattle.report_text.specs.Worlds.{Showing}
+use Rattle.match_hall.specs.Report.{script_text, drains_text, mirrors_text, play_text}
 use Rattle.report_text.specs.Ends.{done_line}
 use Rattle.tss_program.specs.Due.{order_text}
 

@@ -5,7 +5,8 @@ use Rattle.sync_model.specs.Turns.{drain}
 use Rattle.report_text.specs.Ends.{done_line}
 use Rattle.match_file.specs.Data.{MatchData}
 use Rattle.match_hall.specs.Script.{after_script, opening_mirrors, scripted, played}
-use Rattle.match_hall.specs.Report.{Showing, script_text, drains_text, mirrors_text, play_text}
+use Rattle.report_text.specs.Worlds.{Showing}
+use Rattle.match_hall.specs.Report.{script_text, drains_text, mirrors_text, play_text}
 
 pub play-parts :
     {W : Type 0} (show : Showing W) (opening : W) (m : MatchData) (opened made drained : List (MirrorState W)) (none one two three all : List ℕ)

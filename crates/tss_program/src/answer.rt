@@ -1,24 +1,34 @@
-//! What is answered to a match: one function for each subcommand.
+//! What is answered to a match, a record or a number: one function for each subcommand.
 
-ghost use Rattle.std.specs.Prelude.{◌≡◌, [], IfOk};
+ghost use Rattle.std.specs.Prelude.{◌≡◌, [], map, IfOk};
 ghost use Rattle.match_file.specs.Data.{lifted};
 ghost use Rattle.match_file.specs.Text.{match_text};
 ghost use Rattle.match_hall.specs.Script.{played, logs_from};
-ghost use Rattle.match_hall.specs.Report.{Showing, play_text};
-ghost use Rattle.tss_program.specs.Due.{order_text};
+ghost use Rattle.report_text.specs.Worlds.{Showing};
+ghost use Rattle.match_hall.specs.Report.{play_text};
+ghost use Rattle.match_score.specs.Score.{ends_of, watched_text};
+ghost use Rattle.run_auditor.specs.declared.verdict.Verdict.{Verdict};
+ghost use Rattle.run_recorder.specs.Data.{IsRecord};
+ghost use Rattle.soak.specs.Answer.{soaked, soak_text};
+ghost use Rattle.tss_program.specs.Due.{order_text, IsVerdictOf, due_of_verdict, status_of};
 ghost use Rattle.tss_program.specs.declared.status.Status.TheVariants.{Complete};
 
 use crate::status::Status;
-use arena_rules::Shown;
+use arena_rules::{Arena, Shown};
 use game_trait::{Game, execute_in_order};
 use match_file::{Match, lift, print_match};
 use match_hall::Hall;
+use match_score::{ScoreAnswer, score};
 use report_text::{push_done, push_order_block};
-use run_recorder::MirrorLog;
+use run_auditor::{Verdict, audit};
+use run_recorder::{MirrorLog, RaceRecord};
+use soak::{SoakAnswer, soak};
 use std::alloc::Global;
 use tss_io::{NoMemory, Seq};
+use watch_board::Watcher;
 
-/// What is answered to a match: the status and the text that are due, and the logs that are kept, mirror 0 first.
+/// What is answered to a match, a record or a number: the status and the text that are due, and the
+/// logs that are kept, mirror 0 first.
 #[derive(Drop)]
 pub struct Answer {
     pub status: Status,
@@ -26,11 +36,14 @@ pub struct Answer {
     pub kept: Seq<MirrorLog>,
 }
 
-/// The answer of `order` to a match that opens so: the world after its commands in key order and its beats.
+/// The answer of `order` to a match that opens so: the world after its commands in key order and
+/// its beats.
 #[tactic(auto, unfolding(crate::specs::Due::order_text))]
 pub fn order<G: Game + Shown>(alloc: Global, opening: &G, m: &Match) -> Result<Answer, NoMemory>
-    ensures { let show : Showing G = record { rules = G.rules; lines = G.lines; names = m.now.names } in
-        IfOk result (λ a. (a.status ≡ Complete) × (a.text ≡ order_text show opening.now m.now) × (a.kept ≡ [])) }
+    ensures { let show : Showing G =
+        record { rules = G.rules; lines = G.lines; names = m.now.names } in
+        IfOk result (λ a.
+        (a.status ≡ Complete) × (a.text ≡ order_text show opening.now m.now) × (a.kept ≡ [])) }
 {
     let mut commands = Vec::from_slice(alloc, m.commands.as_slice())?;
     let mut world = opening.twin();
@@ -45,10 +58,14 @@ pub fn order<G: Game + Shown>(alloc: Global, opening: &G, m: &Match) -> Result<A
     })
 }
 
-/// The answer of `play` to a match that opens so: what its script and then draining print, and its mirrors at the end.
+/// The answer of `play` to a match that opens so: what its script and then draining print, and its
+/// mirrors at the end.
 pub fn play<G: Game + Shown>(alloc: Global, opening: &G, m: &Match) -> Result<Answer, NoMemory>
-    ensures { let show : Showing G = record { rules = G.rules; lines = G.lines; names = m.now.names } in
-        IfOk result (λ a. (a.status ≡ Complete) × (a.text ≡ play_text show opening.now m.now) × (a.kept ≡ logs_from 0 (played opening.now m.now))) }
+    ensures { let show : Showing G =
+        record { rules = G.rules; lines = G.lines; names = m.now.names } in
+        IfOk result (λ a.
+        (a.status ≡ Complete) × (a.text ≡ play_text show opening.now m.now)
+        × (a.kept ≡ logs_from 0 (played opening.now m.now))) }
 {
     let mut hall = Hall::new(alloc, m, opening)?;
     let mut text = Vec::new(alloc);
@@ -66,12 +83,75 @@ pub fn play<G: Game + Shown>(alloc: Global, opening: &G, m: &Match) -> Result<An
 
 /// The answer of `lift` to a match: its text with version 2.
 pub fn lift_match(alloc: Global, m: Match) -> Result<Answer, NoMemory>
-    ensures { IfOk result (λ a. (a.status ≡ Complete) × (a.text ≡ match_text (lifted m)) × (a.kept ≡ [])) }
+    ensures { IfOk result
+        (λ a. (a.status ≡ Complete) × (a.text ≡ match_text (lifted m)) × (a.kept ≡ [])) }
 {
     let lifted = lift(m);
     let text = print_match(alloc, &lifted)?;
     Ok(Answer {
         status: Status::Complete,
+        text: Seq::of(text),
+        kept: Seq::new(alloc),
+    })
+}
+
+/// The answer of `score` to a match: its scoreboard and what the watchers have to say, and its
+/// mirrors at the end.
+pub fn score_match(
+    alloc: Global,
+    m: &Match,
+    watchers: Vec<Box<dyn Watcher>>,
+) -> Result<Answer, NoMemory>
+    ensures { IfOk result
+        (λ a. (a.status ≡ Complete)
+        × (a.text ≡ watched_text (map (λ w. behaviour w) watchers.items) m.now)
+        × (a.kept ≡ logs_from 0 (ends_of m.now))) }
+{
+    let ScoreAnswer { text, kept } = score(alloc, m, watchers)?;
+    Ok(Answer {
+        status: Status::Complete,
+        text,
+        kept,
+    })
+}
+
+/// The answer of `soak` to a number: what playing its match comes to, and its mirrors at the end.
+pub fn soak_number(alloc: Global, number: u32) -> Result<Answer, NoMemory>
+    ensures { IfOk result
+        (λ a. (a.status ≡ Complete) × (a.text ≡ soak_text number)
+        × (a.kept ≡ logs_from 0 (soaked number))) }
+{
+    let SoakAnswer { text, kept } = soak(alloc, number)?;
+    Ok(Answer {
+        status: Status::Complete,
+        text,
+        kept,
+    })
+}
+
+// The status that goes with a verdict.
+fn status_of(verdict: Verdict) -> Status
+    ensures { result ≡ status_of verdict }
+{
+    match verdict {
+        Verdict::Legal { .. } => Status::Complete,
+        Verdict::NotLegal { .. } => Status::NotLegal,
+    }
+}
+
+/// The answer of `audit` to a record: that it is legal, or where its first fault is.
+pub fn audit_record(alloc: Global, r: &RaceRecord) -> Result<Answer, NoMemory>
+    requires { IsRecord r.now }
+    ensures { IfOk result (λ a. (verdict : Verdict) × IsVerdictOf r.now verdict
+        × (a.status ≡ (due_of_verdict verdict).status) × (a.text ≡ (due_of_verdict verdict).text)
+        × (a.kept ≡ [])) }
+{
+    let opening = Arena::start(&r.game.setup);
+    let verdict = audit(alloc, r, &opening)?;
+    let mut text = Vec::new(alloc);
+    verdict.push(&mut text)?;
+    Ok(Answer {
+        status: status_of(verdict),
         text: Seq::of(text),
         kept: Seq::new(alloc),
     })

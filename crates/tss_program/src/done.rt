@@ -12,10 +12,10 @@ use tss_io::Seq;
 /// What a run of the program leaves.
 #[derive(Debug, Drop)]
 pub struct Done {
-    /// The exit status, from 0 to 5.
+    /// The exit status, from 0 to 6.
     pub status: u8,
-    /// One log for each mirror, mirror 0 first, at status 0 of `play`, and at status 4 where its text was due; none
-    /// elsewhere.
+    /// One log for each mirror, mirror 0 first, at status 0 of `play`, `score` and `soak`, and at
+    /// status 4 where such a text was due; none elsewhere.
     pub kept: Seq<MirrorLog>,
 }
 
@@ -38,7 +38,8 @@ impl Done {
         ExitCode::from(self.status)
     }
 
-    /// What failed, in words: memory at status 1, reading at 3, writing at 4, and nothing elsewhere.
+    /// What failed, in words: memory at status 1, reading at 3, writing at 4, and nothing
+    /// elsewhere.
     pub fn failure(&self) -> Option<&'static str>
         ensures { option_map (λ words. words.now) result ≡ failure_at self.now.status }
     {

@@ -2,6 +2,7 @@
 #![tactic(auto)]
 
 mod answer;
+mod asked;
 mod done;
 pub mod laws;
 mod run;
@@ -9,7 +10,9 @@ mod status;
 mod stop;
 mod subcommand;
 
+pub use asked::read_match_text;
 pub use done::Done;
-pub use run::{run_arguments, run_plain};
+pub use run::{put, run_arguments, run_plain};
 pub use status::Status;
-pub use subcommand::Subcommand;
+pub use stop::Stop;
+pub use subcommand::{MatchTask, Subcommand};

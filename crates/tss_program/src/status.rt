@@ -15,4 +15,6 @@ pub enum Status {
     WriteFault = 4,
     /// The text was refused, and the line that says so was written.
     Refusal = 5,
+    /// The record isn't legal, and the line that says so was written.
+    NotLegal = 6,
 }

@@ -21,7 +21,8 @@ fn lying(x: u8, y: u8, kind: Kind) -> PickupSpot
     PickupSpot { x, y, kind }
 }
 
-// A grid of 4 by 2 cells with a wall in (1, 1), player 0 in (0, 0) to the east and player 1 in (2, 0) to the south.
+// A grid of 4 by 2 cells with a wall in (1, 1), player 0 in (0, 0) to the east and player 1 in (2,
+// 0) to the south.
 pub(super) fn two_players() -> Arena
     ensures { length result.players ≡ 2 }
 {
@@ -45,8 +46,8 @@ struct Worlds {
     plain: PlainArena,
 }
 
-// A grid of 12 by 2 cells with a wall in (6, 1). Player 0 is in (0, 0) and player 1 in (0, 1), both to the east, and gold and
-// ammunition lie before player 1.
+// A grid of 12 by 2 cells with a wall in (6, 1). Player 0 is in (0, 0) and player 1 in (0, 1), both
+// to the east, and gold and ammunition lie before player 1.
 fn two_lanes() -> Worlds {
     let mut ground = Ground::new(12, 2);
     ground.wall(6, 1);
@@ -96,8 +97,8 @@ fn only_ann(alloc: Global) -> Result<Roster, NoMemory> {
     Ok(roster)
 }
 
-/// Whether this is the block of the arena.
-pub fn does_show(
+// Whether this is the block of the arena.
+pub(super) fn does_show(
     alloc: Global,
     arena: &Arena,
     roster: &Roster,

@@ -1,4 +1,5 @@
-//! The workers of a mirror, over posts in memory: the feeder and the worker of a copy, with every budget.
+//! The workers of a mirror, over posts in memory: the feeder and the worker of a copy, with every
+//! budget.
 
 ghost use Rattle.std.specs.Prelude.{◌≡◌, ◌+◌, ◌<◌, ◌≤◌, ◌^◌, [], ◌∷◌, IfSome, length};
 ghost use Rattle.std.specs.List.{AllByRecursion};
@@ -60,8 +61,8 @@ fn has_asked(post: &MemoryPost<LastCommand>, due: &[Event]) -> bool {
 
 // ---- feeders
 
-// What a feeder came to: the clock, the mark sent, what was issued, the turns, how often nothing came over its first link, and
-// whether the events that are due were asked.
+// What a feeder came to: the clock, the mark sent, what was issued, the turns, how often nothing
+// came over its first link, and whether the events that are due were asked.
 #[derive(Clone, Copy, Debug, PartialEq)]
 struct Outcome {
     clock: Tick,
@@ -128,7 +129,8 @@ fn both_ways(alloc: Global, send: LinkSend, receive: LinkReceive) -> Option<Link
     requires room { HasRoom 5 send }
     requires misses { misses_of receive ≡ 0 }
     ensures room { IfSome result (λ links. AllByRecursion (HasRoom 5) links.0.items) }
-    ensures misses { IfSome result (λ links. AllByRecursion (λ r. misses_of r < 2 ^ 63) links.1.items) }
+    ensures misses { IfSome result
+        (λ links. AllByRecursion (λ r. misses_of r < 2 ^ 63) links.1.items) }
     ensures one { IfSome result (λ links. length links.1.items ≡ 1) }
 {
     let mut sends = Vec::new(alloc);
@@ -172,7 +174,8 @@ const AT_ONE: [Event; 7] = [
     Event::Tick,
 ];
 
-// What mirror 0's feeder and then mirror 1's came to, each with a link to the other. So many events are due of each.
+// What mirror 0's feeder and then mirror 1's came to, each with a link to the other. So many events
+// are due of each.
 fn fed_in_turn(alloc: Global, budget: u16, zero: usize, one: usize) -> Option<(Outcome, Outcome)>
     requires { budget ≤ 1000 }
 {
@@ -187,7 +190,8 @@ fn fed_in_turn(alloc: Global, budget: u16, zero: usize, one: usize) -> Option<(O
     ))
 }
 
-// Mirror 0 waits at clock 2, since no mark comes to it. Mirror 1 has what mirror 0 sent: with the mark 3, it waits at clock 5.
+// Mirror 0 waits at clock 2, since no mark comes to it. Mirror 1 has what mirror 0 sent: with the
+// mark 3, it waits at clock 5.
 fn due_in_turn(turns: u64) -> (Outcome, Outcome) {
     let zero = Outcome {
         clock: 2,
@@ -295,20 +299,41 @@ impl Partner {
     }
 }
 
-// A gate at which the partner sends a message before every third turn. It counts the turns, and those that aren't the next one.
+// A gate of this worker of mirror 0. It counts the turns, and those that aren't the next one.
 #[derive(Drop)]
-struct LateGate {
-    partner: RefCell<Partner>,
+struct CountingGate {
+    worker: u8,
     passes: Cell<u64>,
     wrong: Cell<u64>,
 }
 
-impl Gate for LateGate {
+fn counting_gate(worker: u8) -> CountingGate {
+    CountingGate {
+        worker,
+        passes: Cell::new(0),
+        wrong: Cell::new(0),
+    }
+}
+
+impl Gate for CountingGate {
     fn pass(&self, mirror: u8, worker: u8, turn: u64) {
-        if (mirror, worker, turn) != (0, 2, self.passes.get()) {
+        if (mirror, worker, turn) != (0, self.worker, self.passes.get()) {
             self.wrong.set(1);
         }
         self.passes.set(self.passes.get().wrapping_add(1));
+    }
+}
+
+// The feeder's gate, at which the partner sends a message before every third turn.
+#[derive(Drop)]
+struct LateGate {
+    turns: CountingGate,
+    partner: RefCell<Partner>,
+}
+
+impl Gate for LateGate {
+    fn pass(&self, mirror: u8, worker: u8, turn: u64) {
+        self.turns.pass(mirror, worker, turn);
         if turn % 3 == 0
             && let Ok(mut partner) = self.partner.try_borrow_mut()
         {
@@ -317,15 +342,15 @@ impl Gate for LateGate {
     }
 }
 
-// What the feeder of mirror 0 came to with this partner, how often the gate was passed, and how often out of order.
+// What the feeder of mirror 0 came to with this partner, how often the gate was passed, and how
+// often out of order.
 fn fed_late(alloc: Global, budget: u16, due: usize) -> Option<(Outcome, u64, u64)>
     requires { budget ≤ 1000 }
 {
     let (send, receive) = link(alloc, 5).ok()?;
     let gate = LateGate {
+        turns: counting_gate(2),
         partner: RefCell::new(Partner { send, left: 5 }),
-        passes: Cell::new(0),
-        wrong: Cell::new(0),
     };
     let mut receives = Vec::new(alloc);
     receives.push(receive).ok()?;
@@ -337,11 +362,11 @@ fn fed_late(alloc: Global, budget: u16, due: usize) -> Option<(Outcome, u64, u64
         budget,
         BOTH.get(..due)?,
     )?;
-    Some((fed, gate.passes.get(), gate.wrong.get()))
+    Some((fed, gate.turns.passes.get(), gate.turns.wrong.get()))
 }
 
-// The clock, the mark sent and how much was asked after so many turns. The command comes before turn 0, mark 1 before turn 3 and
-// so on, and with mark 4 the clock may go to its end.
+// The clock, the mark sent and how much was asked after so many turns. The command comes before
+// turn 0, mark 1 before turn 3 and so on, and with mark 4 the clock may go to its end.
 const LATE: [(Tick, Tick, usize); 14] = [
     (0, 0, 0),
     (1, 1, 3),
@@ -385,7 +410,8 @@ fn waits_for_a_late_partner(rt: HostRuntime) {
 
 // ---- copy workers
 
-// A mirror to which so many commands of tick 0 have come, and whose clock has gone on by so many ticks.
+// A mirror to which so many commands of tick 0 have come, and whose clock has gone on by so many
+// ticks.
 fn gone_on(alloc: Global, commands: u8, ticks: u8) -> Option<SmallMirror<LastCommand>> {
     let mut mirror = fresh(alloc)?;
     for number in 0..commands {
@@ -408,7 +434,8 @@ const STEPS: [Event; 4] = [
     Event::Step(0),
 ];
 
-// Runs copy 0 of the mirror. Answers what its worker came to, and whether the marks and so many steps were left.
+// Runs copy 0 of the mirror. Answers what its worker came to, and whether the marks and so many
+// steps were left and the gate was passed once a turn.
 fn copied(
     alloc: Global,
     mirror: SmallMirror<LastCommand>,
@@ -426,9 +453,11 @@ fn copied(
         length: 4,
         budget: u64::from(budget),
     };
-    let end = run_copy::<LastCommand, _, _>(&mut post, &OpenGate, job);
+    let gate = counting_gate(0);
+    let end = run_copy::<LastCommand, _, _>(&mut post, &gate, job);
     let asked = has_asked(&post, STEPS.get(..steps)?);
-    Some((end, asked && post.trail() == marks))
+    let passed = (gate.passes.get(), gate.wrong.get()) == (end.turns, 0);
+    Some((end, asked && passed && post.trail() == marks))
 }
 
 const DRAWN: TrailMark = TrailMark::Drawn { copy: 0 };

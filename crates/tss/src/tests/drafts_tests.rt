@@ -56,8 +56,8 @@ fn make<G: Game>(mirror: &mut Mirror<G>, event: &Event, times: u32)
     }
 }
 
-// Drafts copy 0's due tick, executes it, makes the event, and commits the tick. Answers the epoch and the clock that the tick
-// had, the copy's epoch before the commit, and the answer to it.
+// Drafts copy 0's due tick, executes it, makes the event, and commits the tick. Answers the epoch
+// and the clock that the tick had, the copy's epoch before the commit, and the answer to it.
 fn commit_after<G: Game>(
     mirror: &mut Mirror<G>,
     event: &Event,
@@ -108,8 +108,8 @@ fn drafts_are_committed(rt: HostRuntime) -> Result<(), Fail> {
     Ok(())
 }
 
-// What is drafted of copy 0 after so many commands of tick 0 and one tick: the numbers that the world then shows, or how many
-// commands there are.
+// What is drafted of copy 0 after so many commands of tick 0 and one tick: the numbers that the
+// world then shows, or how many commands there are.
 fn drafted(alloc: Global, commands: u32) -> Option<Result<(u32, u32), u32>> {
     let mut mirror = opened(alloc).ok()?;
     for number in 0..commands {

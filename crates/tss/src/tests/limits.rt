@@ -1,5 +1,5 @@
-//! Each limit of a match text, and one past it: what stands at the limit is read, by `lift`, and one more is refused, by
-//! `order`.
+//! Each limit of a match text, and one past it: what stands at the limit is read, by `lift`, and
+//! one more is refused, by `order`.
 
 use std::alloc::Global;
 use tss_io::{MemSink, MemSource, NoMemory};
@@ -24,7 +24,8 @@ enum Counted {
     World,
 }
 
-// So many lines of a kind may stand in a text of a version, between a front and a back. One more is refused at its line.
+// So many lines of a kind may stand in a text of a version, between a front and a back. One more is
+// refused at its line.
 #[derive(Clone, Copy)]
 struct Count {
     name: &'static str,
@@ -260,7 +261,13 @@ fn ends_so(
     words.push(String::from_str(alloc, word)?)?;
     let mut source = MemSource::new(input, 65_536, Vec::new(alloc));
     let mut sink = MemSink::new(alloc, 16_777_216, 65_536, Vec::new(alloc))?;
-    let done = run_plain(alloc, words.as_slice(), &mut source, &mut sink);
+    let done = run_plain(
+        alloc,
+        words.as_slice(),
+        &mut source,
+        &mut sink,
+        Vec::new(alloc),
+    );
     Ok(done.status == status && sink.taken() == written)
 }
 

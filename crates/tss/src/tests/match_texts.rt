@@ -18,8 +18,9 @@ fn prints_back(alloc: Global, text: &[u8], lifted_text: &[u8]) -> Result<bool, T
     Ok(same && print_match(alloc, &lift(game))?.as_slice() == lifted_text)
 }
 
-// What follows the front, and how many commands and script lines are read of the whole, where it isn't refused.
-// What follows the front, and how many commands and script lines are read of the whole, or the line and the cause for which it is refused.
+// What follows the front, and how many commands and script lines are read of the whole, where it
+// isn't refused. What follows the front, and how many commands and script lines are read of the
+// whole, or the line and the cause for which it is refused.
 const ENDINGS: [(&str, Result<(usize, usize), (u32, Cause)>); 27] = [
     ("pace 0\nplayer ann 0 0 e\nend\n", Ok((0, 0))),
     (

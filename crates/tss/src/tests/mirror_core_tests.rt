@@ -21,8 +21,8 @@ const IDLE: Reply = Reply::Step(Stepped::Idle);
 
 const TAKEN: Reply = Reply::Arrive(Arrived::Taken { repaired: 0 });
 
-// What a mirror of eight ticks answers whose copy is 4 ticks behind by plan 0 and 2 by plan 1. The command of tick 2 comes
-// early, that of tick 1 too late, that of tick 3 just in time.
+// What a mirror of eight ticks answers whose copy is 4 ticks behind by plan 0 and 2 by plan 1. The
+// command of tick 2 comes early, that of tick 1 too late, that of tick 3 just in time.
 fn events() -> [(Event, Reply); 36] {
     let late = Reply::Arrive(Arrived::Late { bound: 3 });
     [

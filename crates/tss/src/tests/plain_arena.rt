@@ -1,4 +1,5 @@
-//! A slow plain arena, written from the page of its rules: cells are pairs of whole numbers, and walls a list of cells.
+//! A slow plain arena, written from the page of its rules: cells are pairs of whole numbers, and
+//! walls a list of cells.
 
 use arena_rules::{Face, Kind, PickupSpot, Roster, Setup, Spot};
 use arrayvec::ArrayVec;
@@ -116,8 +117,8 @@ fn pickups_ready(setup: &Setup) -> ArrayVec<PlainPickup, 32> {
 }
 
 impl PlainArena {
-    /// The walls are given beside the setup, since a ground only tells which cells are free.
-    pub fn start(setup: &Setup, walls: &[(i32, i32)]) -> PlainArena {
+    // The walls are given beside the setup, since a ground only tells which cells are free.
+    pub(super) fn start(setup: &Setup, walls: &[(i32, i32)]) -> PlainArena {
         let mut kept = ArrayVec::new();
         for &wall in walls {
             let _ = kept.try_push(wall);
@@ -163,8 +164,8 @@ impl PlainArena {
         }
     }
 
-    /// Executes a command.
-    pub fn apply(&mut self, number: usize, act: Act) {
+    // Executes a command.
+    pub(super) fn apply(&mut self, number: usize, act: Act) {
         let Some(player) = self.live(number) else {
             return;
         };
@@ -253,8 +254,8 @@ impl PlainArena {
         self.put(number, taken);
     }
 
-    /// Ends a tick.
-    pub fn beat(&mut self) {
+    // Ends a tick.
+    pub(super) fn beat(&mut self) {
         self.fly_all();
         for number in 0..self.players.len() {
             self.wait_or_return(number);
@@ -340,8 +341,8 @@ impl PlainArena {
         self.put(number, returned);
     }
 
-    /// The lines of the world, as they are shown.
-    pub fn block(&self, roster: &Roster, out: &mut Vec<u8>) -> Result<(), NoMemory> {
+    // The lines of the world, as they are shown.
+    pub(super) fn block(&self, roster: &Roster, out: &mut Vec<u8>) -> Result<(), NoMemory> {
         for (number, player) in self.players.iter().enumerate() {
             push_player(player, name_of(roster, number), out)?;
         }

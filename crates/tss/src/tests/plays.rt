@@ -1,4 +1,5 @@
-//! Whole plays of several mirrors and copies, with worlds and runs on the way and delays that change.
+//! Whole plays of several mirrors and copies, with worlds and runs on the way and delays that
+//! change.
 
 use crate::tests::program::{calls, words_of};
 use std::alloc::Global;
@@ -117,7 +118,13 @@ fn played(
     let input = Vec::from_slice(alloc, text)?;
     let mut source = MemSource::new(input, 64, calls(alloc, failing_read)?);
     let mut sink = MemSink::new(alloc, 16384, 64, calls(alloc, failing_put)?)?;
-    let done = run_plain(alloc, words.as_slice(), &mut source, &mut sink);
+    let done = run_plain(
+        alloc,
+        words.as_slice(),
+        &mut source,
+        &mut sink,
+        Vec::new(alloc),
+    );
     let mut events = Vec::new(alloc);
     for log in done.kept.as_slice() {
         events.push(log.events.len())?;
@@ -182,7 +189,8 @@ fn a_read_may_fail_in_the_middle(rt: HostRuntime) {
     }
 }
 
-// ---- the office match: 3 mirrors of 4 copies, 900 ticks, and 200 commands that arrive up to 250 ticks late
+// ---- the office match: 3 mirrors of 4 copies, 900 ticks, and 200 commands that arrive up to 250
+// ticks late
 
 const OFFICE_HEAD: &str =
     "tss match 1\nlength 900\ngrid 20 10\nmirrors 3\ndelays 0 100 300 600\npace 50\npickup 10 2 gold\nplayer ann 2 2 e\nplayer bob 17 2 w\nplayer cat 10 7 n\n";
@@ -233,7 +241,7 @@ fn push_clock(out: &mut Vec<u8>, clock: u64, mirror: u64) -> Result<(), NoMemory
     push_line(out, &[Word::Text(b"turn"), Word::Count(mirror)])
 }
 
-fn office_text(alloc: Global) -> Result<Vec<u8>, NoMemory> {
+pub(super) fn office_text(alloc: Global) -> Result<Vec<u8>, NoMemory> {
     let mut text = Vec::from_slice(alloc, OFFICE_HEAD.as_bytes())?;
     for j in 0..200 {
         push_command(&mut text, j)?;
@@ -248,7 +256,8 @@ fn office_text(alloc: Global) -> Result<Vec<u8>, NoMemory> {
     Ok(text)
 }
 
-// Its worlds at the end, all alike, and the repairs of its mirrors, both by a slow model of the definitions.
+// Its worlds at the end, all alike, and the repairs of its mirrors, both by a slow model of the
+// definitions.
 const OFFICE_WORLD: &str =
     "live ann 5 3 s 3 0 0\nlive bob 15 0 n 3 0 0\nlive cat 13 6 s 3 0 0\nitem 10 2 gold 0\n";
 
@@ -288,7 +297,8 @@ fn office_end(alloc: Global) -> Result<Vec<u8>, NoMemory> {
     Ok(text)
 }
 
-// Whether the match ends so: at status 0, with the same text behind its repairs, and with each event kept.
+// Whether the match ends so: at status 0, with the same text behind its repairs, and with each
+// event kept.
 fn office_ends_so(alloc: Global) -> Result<bool, NoMemory> {
     let text = office_text(alloc)?;
     let ended = played(alloc, "the office match", text.as_slice(), None, None)?;

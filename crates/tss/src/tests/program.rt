@@ -30,7 +30,8 @@ const FACINGS: &str =
 const FACINGS_ORDERED: &str =
     "order 1\nlive ann 1 2 n 3 5 0\nlive bob 2 1 e 3 5 0\nlive cat 3 2 s 3 5 0\nlive dan 2 3 w 3 5 0\ndone\n";
 
-// Two commands of one tick in the wrong order of lines: the turn has the smaller key, so the move is blocked.
+// Two commands of one tick in the wrong order of lines: the turn has the smaller key, so the move
+// is blocked.
 const TURN_BEFORE_MOVE: &str =
     "tss match 1\nlength 2\ngrid 3 1\nmirrors 1\ndelays 0\npace 0\nplayer ann 0 0 e\ncmd 0 0 1 0 go\ncmd 0 0 0 0 right\nend\n";
 
@@ -65,6 +66,15 @@ const LATE_ORDERED: &str = "order 6\nlive ann 2 0 s 3 5 0\ndone\n";
 
 const LATE_PLAYED: &str =
     "repeat 0 0 0\nlate 0 0 2 5\nmirror 0 accepted 2 turned 1 repairs 0\nworld 0 0 6\nlive ann 2 0 e 3 5 0\ndone\n";
+
+// A record of one mirror with two copies that stand at the end, and one with a tick behind it.
+const SMALL_RECORD: &str =
+    "tss record 1\ntss match 1\nlength 1\ngrid 3 1\nmirrors 1\ndelays 0 1\npace 1\nplayer ann 0 0 e\nend\nlog 0 4\ntick\nstep 0\ntick\nstep 1\nworld 0 0 1\nlive ann 0 0 e 3 5 0\nworld 0 1 1\nlive ann 0 0 e 3 5 0\ndone\n";
+
+const OVER_RECORD: &str =
+    "tss record 1\ntss match 1\nlength 1\ngrid 3 1\nmirrors 1\ndelays 0 1\npace 1\nplayer ann 0 0 e\nend\nlog 0 5\ntick\nstep 0\ntick\ntick\nstep 1\nworld 0 0 1\nlive ann 0 0 e 3 5 0\nworld 0 1 1\nlive ann 0 0 e 3 5 0\ndone\n";
+
+const OVER_TEXT: &str = "not legal mirror 0 place 3 why over\n";
 
 // The arrivals of these matches.
 const ARRIVES_GO_AT_1: Event = Event::Arrive(Command {
@@ -210,7 +220,15 @@ const PLAYED: Case = Case {
     ..ORDERED
 };
 
-const CASES: [Case; 20] = [
+const AUDITED: Case = Case {
+    name: "a small record, audited",
+    words: &["audit"],
+    input: SMALL_RECORD,
+    written: "legal 4\ndone\n",
+    ..ORDERED
+};
+
+const CASES: [Case; 25] = [
     ORDERED,
     USED_WRONG,
     Case {
@@ -299,6 +317,35 @@ const CASES: [Case; 20] = [
         written: "refused line 1 c",
         ..REFUSED
     },
+    AUDITED,
+    Case {
+        name: "over in a log",
+        input: OVER_RECORD,
+        status: 6,
+        written: OVER_TEXT,
+        ..AUDITED
+    },
+    Case {
+        name: "the verdict isn't written",
+        input: OVER_RECORD,
+        failing_put: Some(1),
+        status: 4,
+        written: "not lega",
+        ..AUDITED
+    },
+    Case {
+        name: "a match is no record",
+        words: &["audit"],
+        input: OPENING,
+        written: "refused line 1 cause 1 head\n",
+        ..REFUSED
+    },
+    Case {
+        name: "a record is no match",
+        input: SMALL_RECORD,
+        written: "refused line 1 cause 1 head\n",
+        ..REFUSED
+    },
     PLAYED,
     Case {
         name: "late by one tick, twice",
@@ -374,7 +421,13 @@ fn ended(alloc: Global, case: &Case) -> Result<Outcome, NoMemory> {
     let words = words_of(alloc, case.words)?;
     let mut source = source_of(alloc, case)?;
     let mut sink = sink_of(alloc, case)?;
-    let done = run_plain(alloc, words.as_slice(), &mut source, &mut sink);
+    let done = run_plain(
+        alloc,
+        words.as_slice(),
+        &mut source,
+        &mut sink,
+        Vec::new(alloc),
+    );
     ended_so(alloc, case.name, &done, sink.taken())
 }
 
@@ -399,7 +452,8 @@ fn runs_end_as_is_due(rt: HostRuntime) {
     }
 }
 
-// A source that fails at one of its calls: status 3, and nothing is written. `order` of the opening reads 6 times.
+// A source that fails at one of its calls: status 3, and nothing is written. `order` of the opening
+// reads 6 times.
 #[test]
 fn a_source_may_fail_anywhere(rt: HostRuntime) {
     for call in 0..6 {
@@ -420,7 +474,8 @@ fn a_source_may_fail_anywhere(rt: HostRuntime) {
     assert_eq!(rt; ended(rt.alloc(), &case), due(rt.alloc(), &case));
 }
 
-// A sink that fails at one of its calls: status 4, and the front of the text before it is written. Logs are kept whole.
+// A sink that fails at one of its calls: status 4, and the front of the text before it is written.
+// Logs are kept whole.
 #[test]
 fn a_sink_may_fail_anywhere(rt: HostRuntime) {
     for whole in &[ORDERED, PLAYED] {
@@ -488,7 +543,7 @@ fn ended_on(
 ) -> Result<(u8, Option<&'static str>), NoMemory> {
     let mut source = source_of(alloc, &ORDERED)?;
     let mut sink = sink_of(alloc, &ORDERED)?;
-    let done = run_arguments(alloc, arguments, &mut source, &mut sink);
+    let done = run_arguments(alloc, arguments, &mut source, &mut sink, Vec::new(alloc));
     Ok((done.status, done.failure()))
 }
 

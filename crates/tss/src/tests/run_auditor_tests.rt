@@ -1,10 +1,15 @@
 //! Audits of records.
 
+ghost use Rattle.run_recorder.specs.Data.{IsRecord};
+
 use arena_rules::Arena;
-use run_auditor::{Verdict, Why, audit};
-use run_recorder::read_record;
+use game_trait::{Event, Note, Reply, Stepped, Ticked};
+use match_file::{Match, read_match};
+use match_hall::Hall;
+use run_auditor::{LogWalk, Verdict, Walked, Why, audit};
+use run_recorder::{Block, MirrorLog, RaceRecord, print_record, read_record};
 use std::alloc::Global;
-use tss_io::TextFault;
+use tss_io::{NoMemory, Seq, TextFault};
 
 const FRONT: &str =
     "tss record 1\ntss match 1\nlength 1\ngrid 3 1\nmirrors 1\ndelays 0 1\npace 1\nplayer ann 0 0 e\nend\n";
@@ -97,5 +102,125 @@ fn the_sample_is_legal(rt: HostRuntime) {
     assert_eq!(rt;
         verdict_of(rt.alloc(), SAMPLE.as_bytes()),
         Ok(Verdict::Legal { events: 97 })
+    );
+}
+
+// README's match, and the record of it, played.
+const PLAYED: &str =
+    "tss match 1\nlength 6\ngrid 7 1\nmirrors 1\ndelays 2\npace 1\nplayer ann 0 0 e\ncmd 1 0 0 0 go\ncmd 3 0 1 0 go\ncmd 4 0 2 0 right\nscript\nturn 0\nturn 0\narrive 0 0 1\nturn 0\narrive 0 0 0\narrive 0 0 0\nturn 0\nturn 0\nturn 0\nturn 0\narrive 0 0 2\nend\n";
+
+const PLAYED_RECORD: &str =
+    "tss record 1\ntss match 1\nlength 6\ngrid 7 1\nmirrors 1\ndelays 2\npace 1\nplayer ann 0 0 e\ncmd 1 0 0 0 go\ncmd 3 0 1 0 go\ncmd 4 0 2 0 right\nscript\nturn 0\nturn 0\narrive 0 0 1\nturn 0\narrive 0 0 0\narrive 0 0 0\nturn 0\nturn 0\nturn 0\nturn 0\narrive 0 0 2\nend\nlog 0 17\ntick\ntick\narrive 0 1\ntick\nstep 0\narrive 0 0\ntick\nstep 0\ntick\nstep 0\ntick\nstep 0\ntick\nstep 0\narrive 0 2\ntick\nstep 0\nworld 0 0 6\nlive ann 2 0 e 3 5 0\ndone\n";
+
+const PLAYED_WORLD: &[u8] = b"world 0 0 6\nlive ann 2 0 e 3 5 0\n";
+
+// The logs of a match's mirrors, played along its script and drained.
+fn played_logs(alloc: Global, m: &Match) -> Result<Seq<MirrorLog>, NoMemory> {
+    let mut printed = Vec::new(alloc);
+    let mut hall = Hall::new(alloc, m, &Arena::start(&m.setup))?;
+    hall.play(m, &mut printed)?;
+    hall.drain(&mut printed)?;
+    hall.logs(alloc)
+}
+
+// One world of one mirror.
+fn one_world(alloc: Global, world: &[u8]) -> Result<Seq<Seq<Block>>, NoMemory> {
+    let mut blocks = Seq::new(alloc);
+    blocks.push(Block::of(Vec::from_slice(alloc, world)?))?;
+    let mut worlds = Seq::new(alloc);
+    worlds.push(blocks)?;
+    Ok(worlds)
+}
+
+// The record of a match of one mirror and one copy that was played, with this world stated.
+fn record_played(alloc: Global, text: &[u8], world: &[u8]) -> Result<RaceRecord, TextFault> {
+    let game = read_match(alloc, text)?;
+    let logs = played_logs(alloc, &game)?;
+    let worlds = one_world(alloc, world)?;
+    Ok(RaceRecord { game, logs, worlds })
+}
+
+// Whether a record is printed so.
+fn is_printed_so(alloc: Global, record: &RaceRecord, due: &[u8]) -> Result<bool, NoMemory> {
+    let text = print_record(alloc, record)?;
+    Ok(text.as_slice() == due)
+}
+
+fn is_recorded_so(alloc: Global, text: &[u8], world: &[u8], due: &[u8]) -> Result<bool, TextFault> {
+    let record = record_played(alloc, text, world)?;
+    Ok(is_printed_so(alloc, &record, due)?)
+}
+
+#[test]
+fn a_played_match_is_recorded(rt: HostRuntime) {
+    let recorded = is_recorded_so(
+        rt.alloc(),
+        PLAYED.as_bytes(),
+        PLAYED_WORLD,
+        PLAYED_RECORD.as_bytes(),
+    );
+    assert_eq!(rt; recorded, Ok(true));
+    assert_eq!(rt;
+        verdict_of(rt.alloc(), PLAYED_RECORD.as_bytes()),
+        Ok(Verdict::Legal { events: 17 })
+    );
+}
+
+// What a walk along the first log of a record tells, five times.
+fn walk_first(alloc: Global, r: &RaceRecord) -> Result<[Walked; 5], NoMemory>
+    requires { IsRecord r.now }
+{
+    let Some((log, _)) = r.logs.as_slice().split_first() else {
+        return Ok([Walked::End; 5]);
+    };
+    let opening = Arena::start(&r.game.setup);
+    let mut walk = LogWalk::new(alloc, &r.game, &opening, log)?;
+    Ok([
+        walk.next(),
+        walk.next(),
+        walk.next(),
+        walk.next(),
+        walk.next(),
+    ])
+}
+
+fn walked_behind_front(alloc: Global, ending: &str) -> Result<[Walked; 5], TextFault> {
+    let text = format!(in alloc; "{FRONT}{ending}{WORLDS}")?;
+    let record = read_record(alloc, text.as_bytes())?;
+    Ok(walk_first(alloc, &record)?)
+}
+
+const TICKED: Walked = Walked::Note(Note {
+    mirror: 0,
+    event: Event::Tick,
+    reply: Reply::Tick(Ticked::Moved),
+});
+
+// A copy's step that repairs none.
+fn stepped(copy: u8) -> Walked {
+    Walked::Note(Note {
+        mirror: 0,
+        event: Event::Step(copy),
+        reply: Reply::Step(Stepped::Ran { repaired: 0 }),
+    })
+}
+
+#[test]
+fn a_walk_tells_of_each_event(rt: HostRuntime) {
+    assert_eq!(rt;
+        walked_behind_front(rt.alloc(), "log 0 4\ntick\nstep 0\ntick\nstep 1\n"),
+        Ok([TICKED, stepped(0), TICKED, stepped(1), Walked::End])
+    );
+}
+
+#[test]
+fn a_walk_stays_where_nothing_changes(rt: HostRuntime) {
+    let stuck = Walked::Stuck {
+        place: 3,
+        why: Why::Over,
+    };
+    assert_eq!(rt;
+        walked_behind_front(rt.alloc(), "log 0 5\ntick\nstep 0\ntick\ntick\nstep 1\n"),
+        Ok([TICKED, stepped(0), TICKED, stuck, stuck])
     );
 }

@@ -27,8 +27,9 @@ fn prints_back(alloc: Global, text: &[u8]) -> Result<bool, TextFault> {
     Ok(print_record(alloc, &record)?.as_slice() == text)
 }
 
-// What follows the front, and what is read of the whole, or the line and the cause for which it is refused.
-const ENDINGS: [(&str, Result<(usize, usize), (u32, Cause)>); 22] = [
+// What follows the front, and what is read of the whole, or the line and the cause for which it is
+// refused.
+const ENDINGS: [(&str, Result<(usize, usize), (u32, Cause)>); 23] = [
     (
         "log 0 1\ntick\nworld 0 0 0\nworld 0 1 0\ndone\n",
         Ok((1, 1)),
@@ -52,6 +53,10 @@ const ENDINGS: [(&str, Result<(usize, usize), (u32, Cause)>); 22] = [
     ("log 0 0\nworld 0 0 4294967296\n", Err((11, Cause::Number))),
     ("log 0 0\nlive ann\n", Err((11, Cause::Shape))),
     ("log 0 0\nworld 0 0 0\nlive  ann\n", Err((12, Cause::Shape))),
+    (
+        "log 0 0\nworld 0 0 0\nlive aaaaaaaaaaaaaaaaaaaaaaaaaaaaaaaaaaaaaaaaaaaaaaaaaaaaaaaaaaaaaaaaaaaaaaaaaaaaaaaaaaaaaaaaaaaaaaaaaaaaaaaaaaaaaaaaaaaa\n",
+        Err((12, Cause::Long)),
+    ),
     ("log 0 0\nworld 0 0 0\ndone\n", Err((12, Cause::Shape))),
     (
         "log 0 0\nworld 0 0 0\nworld 0 1 0\nlog 0 0\n",
@@ -69,11 +74,16 @@ const ENDINGS: [(&str, Result<(usize, usize), (u32, Cause)>); 22] = [
 ];
 
 // Whole texts, and the line and the cause for which each is refused.
-const WHOLES: [(&str, u32, Cause); 5] = [
+const WHOLES: [(&str, u32, Cause); 6] = [
     ("", 1, Cause::End),
     ("tss record 2\n", 1, Cause::Head),
     ("tss record 1\ntss match 3\n", 2, Cause::Head),
     ("tss record 1\ntss match 1\nlength 0\n", 3, Cause::Number),
+    (
+        "tss record 1\ntss match 1\nlength 1\ngrid 3 1\nmirrors 1\ndelays 0\npace 0\nplayer ann 3 0 e\n",
+        8,
+        Cause::Place,
+    ),
     (
         "tss record 1\ntss match 1\nlength 1\ngrid 3 1\nmirrors 2\ndelays 0\npace 0\nplayer ann 0 0 e\nend\nlog 1 0\n",
         10,
@@ -86,11 +96,27 @@ fn counts_behind_front(alloc: Global, ending: &str) -> Result<(usize, usize), Te
     read_counts(alloc, text.as_bytes())
 }
 
-// Whether each front of the text is refused.
-fn fronts_are_refused(alloc: Global, text: &[u8]) -> bool {
+// Whether the text is refused since the line behind its last newline isn't closed, or isn't there.
+fn is_torn(alloc: Global, text: &[u8]) -> bool {
+    let closed = text.iter().filter(|b| **b == b'\n').count();
+    match read_counts(alloc, text) {
+        Err(
+            TextFault::Refused(
+                Refused {
+                    line,
+                    cause: Cause::End,
+                },
+            ),
+        ) => (line as usize).checked_sub(1) == Some(closed),
+        _ => false,
+    }
+}
+
+// Whether each front of the text is torn.
+fn fronts_are_torn(alloc: Global, text: &[u8]) -> bool {
     for length in 0..text.len() {
         let (front, _) = text.split_at(length);
-        if !matches!(read_counts(alloc, front), Err(TextFault::Refused(_))) {
+        if !is_torn(alloc, front) {
             return false;
         }
     }
@@ -122,5 +148,5 @@ fn records_are_printed_back(rt: HostRuntime) {
 
 #[test]
 fn torn_records_are_refused(rt: HostRuntime) {
-    assert_eq!(rt; fronts_are_refused(rt.alloc(), WHOLE.as_bytes()), true);
+    assert_eq!(rt; fronts_are_torn(rt.alloc(), WHOLE.as_bytes()), true);
 }

@@ -1,6 +1,8 @@
-//! One mirror with several copies: the worked runs by calls, and lists of drawn events beside a slow mirror, over two games.
+//! One mirror with several copies: the worked runs by calls, and lists of drawn events beside a
+//! slow mirror, over two games.
 
 ghost use Rattle.std.specs.Prelude.{◌≡◌, ◌<◌, ◌≤◌, IfOk, length};
+ghost use Rattle.sync_model.specs.Schedule.{IsSchedule};
 
 use super::arena::two_players;
 use super::counting_game::{LastCommand, OPENING, arrival, go};
@@ -27,7 +29,8 @@ const fn taken(repaired: u8) -> Reply {
     Reply::Arrive(Arrived::Taken { repaired })
 }
 
-// A mirror of eight ticks whose three copies are two ticks apart by plan 0, and by plan 1 one or four.
+// A mirror of eight ticks whose three copies are two ticks apart by plan 0, and by plan 1 one or
+// four.
 #[tactic(auto, unfolding(sync_model::specs::Schedule::DelaysRise))]
 fn three_copies(alloc: Global, is_closer: bool) -> Result<Mirror<LastCommand>, NoMemory>
     ensures { IfOk result (λ m. (m.length ≡ 8) × (length m.plans ≡ 2)) }
@@ -76,8 +79,8 @@ fn has_run<G: Game>(mirror: &Mirror<G>, copy: u8, run: &[Item]) -> bool
     mirror.run_len(copy) as usize == run.len()
 }
 
-// What is made of a mirror after some turns, what it answers, how many repairs it makes until it is drained, and the run that every
-// copy has then.
+// What is made of a mirror after some turns, what it answers, how many repairs it makes until it is
+// drained, and the run that every copy has then.
 #[derive(Clone, Copy)]
 struct Worked<'a> {
     turns: u32,
@@ -171,7 +174,8 @@ fn repaired_twice(rt: HostRuntime) -> Result<(), Fail> {
     Ok(())
 }
 
-// Copies 0 and 1 both stand at 3, then a command of tick 1 arrives. A step of copy 1 would have passed copy 0.
+// Copies 0 and 1 both stand at 3, then a command of tick 1 arrives. A step of copy 1 would have
+// passed copy 0.
 #[test]
 fn equal_clocks_and_no_passing(rt: HostRuntime) -> Result<(), Fail> {
     let worked = Worked {
@@ -322,83 +326,41 @@ const NARROW: [Tick; 8] = [0, 1, 2, 3, 5, 6, 8, 9];
 
 const WIDE: [Tick; 8] = [1, 2, 4, 6, 7, 9, 11, 12];
 
+// A mirror of eight ticks with these two plans of delays.
+fn opened_by<G: Game>(
+    alloc: Global,
+    opening: &G,
+    narrow: &[Tick],
+    wide: &[Tick],
+) -> Result<Mirror<G>, NoMemory>
+    requires narrow { IsSchedule (record { delays = narrow.now; length = 8 }) }
+    requires wide { IsSchedule (record { delays = wide.now; length = 8 }) }
+    requires equal { length wide.now ≡ length narrow.now }
+    ensures { IfOk result (λ m. (m.length ≡ 8) × (length m.plans ≡ 2)) }
+{
+    let plans = [Stagger::new(narrow, 8), Stagger::new(wide, 8)];
+    Mirror::new(alloc, opening, &plans, 400, 400)
+}
+
 // A mirror of eight ticks with the first so many copies of both plans.
 #[tactic(auto, unfolding(sync_model::specs::Schedule::DelaysRise))]
 fn opened<G: Game>(alloc: Global, opening: &G, copies: u8) -> Result<Mirror<G>, NoMemory>
     ensures { IfOk result (λ m. (m.length ≡ 8) × (length m.plans ≡ 2)) }
 {
     match copies {
-        1 => Mirror::new(
+        1 => opened_by(alloc, opening, &[0], &[1]),
+        2 => opened_by(alloc, opening, &[0, 1], &[1, 2]),
+        3 => opened_by(alloc, opening, &[0, 1, 2], &[1, 2, 4]),
+        4 => opened_by(alloc, opening, &[0, 1, 2, 3], &[1, 2, 4, 6]),
+        5 => opened_by(alloc, opening, &[0, 1, 2, 3, 5], &[1, 2, 4, 6, 7]),
+        6 => opened_by(alloc, opening, &[0, 1, 2, 3, 5, 6], &[1, 2, 4, 6, 7, 9]),
+        7 => opened_by(
             alloc,
             opening,
-            &[Stagger::new(&[0], 8), Stagger::new(&[1], 8)],
-            400,
-            400,
+            &[0, 1, 2, 3, 5, 6, 8],
+            &[1, 2, 4, 6, 7, 9, 11],
         ),
-        2 => Mirror::new(
-            alloc,
-            opening,
-            &[Stagger::new(&[0, 1], 8), Stagger::new(&[1, 2], 8)],
-            400,
-            400,
-        ),
-        3 => Mirror::new(
-            alloc,
-            opening,
-            &[Stagger::new(&[0, 1, 2], 8), Stagger::new(&[1, 2, 4], 8)],
-            400,
-            400,
-        ),
-        4 => Mirror::new(
-            alloc,
-            opening,
-            &[
-                Stagger::new(&[0, 1, 2, 3], 8),
-                Stagger::new(&[1, 2, 4, 6], 8),
-            ],
-            400,
-            400,
-        ),
-        5 => Mirror::new(
-            alloc,
-            opening,
-            &[
-                Stagger::new(&[0, 1, 2, 3, 5], 8),
-                Stagger::new(&[1, 2, 4, 6, 7], 8),
-            ],
-            400,
-            400,
-        ),
-        6 => Mirror::new(
-            alloc,
-            opening,
-            &[
-                Stagger::new(&[0, 1, 2, 3, 5, 6], 8),
-                Stagger::new(&[1, 2, 4, 6, 7, 9], 8),
-            ],
-            400,
-            400,
-        ),
-        7 => Mirror::new(
-            alloc,
-            opening,
-            &[
-                Stagger::new(&[0, 1, 2, 3, 5, 6, 8], 8),
-                Stagger::new(&[1, 2, 4, 6, 7, 9, 11], 8),
-            ],
-            400,
-            400,
-        ),
-        _ => Mirror::new(
-            alloc,
-            opening,
-            &[
-                Stagger::new(&[0, 1, 2, 3, 5, 6, 8, 9], 8),
-                Stagger::new(&[1, 2, 4, 6, 7, 9, 11, 12], 8),
-            ],
-            400,
-            400,
-        ),
+        _ => opened_by(alloc, opening, &NARROW, &WIDE),
     }
 }
 

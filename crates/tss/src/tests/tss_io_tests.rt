@@ -120,8 +120,8 @@ fn memory_is_put(rt: HostRuntime) {
     }
 }
 
-// Calls in a row that fail with one kind: the kind, the number of the first, how many there are, whether the text goes
-// through, and how many calls are made.
+// Calls in a row that fail with one kind: the kind, the number of the first, how many there are,
+// whether the text goes through, and how many calls are made.
 type Case = (ErrorKind, u32, u32, bool, u32);
 
 // Five bytes are read in four calls.

@@ -109,12 +109,16 @@ fn add_by_four<R: Threads + Wait + Sync>(
     let ((a, b, low), (c, d, high)) = join(
         rt,
         || -> (TurnSeat<Tally>, TurnSeat<Tally>, u64)
-            requires { IsSync R.row × (a.seat.table_id ≡ lock.table.shared.table_id) × (b.seat.table_id ≡ lock.table.shared.table_id) }
-            ensures { (result.0.seat.table_id ≡ lock.table.shared.table_id) × (result.1.seat.table_id ≡ lock.table.shared.table_id) }
+            requires { IsSync R.row × (a.seat.table_id ≡ lock.table.shared.table_id)
+                × (b.seat.table_id ≡ lock.table.shared.table_id) }
+            ensures { (result.0.seat.table_id ≡ lock.table.shared.table_id)
+                × (result.1.seat.table_id ≡ lock.table.shared.table_id) }
         { add_by_two(rt, &lock, a, b) },
         || -> (TurnSeat<Tally>, TurnSeat<Tally>, u64)
-            requires { IsSync R.row × (c.seat.table_id ≡ lock.table.shared.table_id) × (d.seat.table_id ≡ lock.table.shared.table_id) }
-            ensures { (result.0.seat.table_id ≡ lock.table.shared.table_id) × (result.1.seat.table_id ≡ lock.table.shared.table_id) }
+            requires { IsSync R.row × (c.seat.table_id ≡ lock.table.shared.table_id)
+                × (d.seat.table_id ≡ lock.table.shared.table_id) }
+            ensures { (result.0.seat.table_id ≡ lock.table.shared.table_id)
+                × (result.1.seat.table_id ≡ lock.table.shared.table_id) }
         { add_by_two(rt, &lock, c, d) },
     );
     seats.push_reserved(a);
@@ -162,7 +166,8 @@ fn add<R: Wait>(rt: &R, lock: &TurnLock<Tally>, seat: &mut TurnSeat<Tally>, n: u
     Some(lock.call(rt, seat, &n))
 }
 
-// Two seats call by turns in one thread. Answers the replies, what the seats have left, and the sum.
+// Two seats call by turns in one thread. Answers the replies, what the seats have left, and the
+// sum.
 fn call_by_turns<R: Threads + Wait + Sync>(
     rt: &R,
     lock: TurnLock<Tally>,

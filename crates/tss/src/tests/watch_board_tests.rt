@@ -33,7 +33,10 @@ const LATE: Note = Note {
 struct Guest;
 
 impl Watcher for Guest {
-    ghost behaviour = { λ guest. record { answer = λ earlier note. Leave; line = λ earlier. codes "good evening" } };
+    ghost behaviour = { λ guest. record {
+      answer = λ earlier note. Leave;
+      line = λ earlier. codes "good evening";
+    } };
 
     fn take(&mut self, _note: &Note) -> Stay {
         Stay::Leave
