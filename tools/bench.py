@@ -1,7 +1,10 @@
 #!/usr/bin/env python3
 """Times the built program on the largest plain match, and shows how time grows with the commands.
 
-    python3 tools/bench.py PROGRAM [--word order|play] [--text KIND] [--runs N]
+    python3 tools/bench.py PROGRAM [--word order|play|score] [--text KIND] [--runs N]
+    python3 tools/bench.py PROGRAM --word audit [--record FILE] [--runs N]
+    python3 tools/bench.py PROGRAM --word soak [--runs N]
+    python3 tools/bench.py PROGRAM --word race [--text four|eight|largest] [--runs N]
     python3 tools/bench.py LOCK_BENCH --word lock [--runs N]
 
 PROGRAM is the built program `tss`. The match has 8,192 ticks and 2,048 to 16,384 commands of one mirror, in a mixed
@@ -16,8 +19,16 @@ text has 300 walls, 16 script lines for each command, all arrivals at one mirror
 `eight` and `largest` have several mirrors, as many copies, eight players and one turn a tick of each mirror, and each command
 arrives at every mirror: 4 mirrors, 4,096 ticks and lags up to 100 ticks; 8 mirrors, 2,048 ticks and lags up to 400; 8 mirrors,
 8,192 ticks and lags up to 1,024. The other kinds are plain, script and late. Without --text it is plain
-for `order` and script for `play`. Each match is run N times (default 15); the least wall time, the start of the process
+for `order` and script for `play` and `score`. With the word `soak` the program is run with `soak 0`, `soak 1`, `soak 7` and
+`soak 4294967295`, and reads nothing. Each match is run N times (default 15); the least wall time, the start of the process
 included, and the greatest peak memory are printed, and by how much each doubling multiplies the time.
+
+With the word `audit` the texts are records of eight mirrors with eight copies each, and of 1,024 to 8,192 ticks, with 12,500 to
+100,000 events a log: each command turns a player, arrives at every mirror in time, and all worlds are stated as they are. With
+--record the record in FILE is audited alone.
+
+With the word `race` a match of such a kind (four, if none is given) with 8,192 commands, whose pace is the longest delay,
+is raced on 1, 2 and 4 cores; `play` of the same text stands beside it.
 
 LOCK_BENCH is the built program `lock_bench`. With the word `lock` it makes 3,600,000 calls of a counter, of 1, 2, 4 and 9
 threads together, each with a seat of a turn lock, and then behind a mutex of std; the calls a second are printed.
@@ -34,6 +45,9 @@ DELAYS = {"plain": "0", "copies": "0 10 40 100"}
 LAGS = {"copies": 100}
 ACTS = ("go", "left", "right")
 COUNTS = (2048, 4096, 8192, 16384)
+# The commands of records whose logs have 12,500 to 100,000 events.
+RECORD_COUNTS = (3156, 6312, 12624, 25248)
+NUMBERS = (0, 1, 7, 4294967295)
 CALLS = 3_600_000
 THREADS = (1, 2, 4, 9)
 
@@ -137,6 +151,46 @@ def hall_text(count, kind):
     return "".join(line + "\n" for line in lines).encode()
 
 
+def turned_log(length, delays, arrivals):
+    """The events of one mirror, along turns until every copy has run the match; arrivals by the clock at which they come."""
+    events, clock, clocks = [], 0, [0] * len(delays)
+    while clocks[-1] < length:
+        events += arrivals.get(clock, ())
+        events.append("tick")
+        clock += 1
+        for copy, delay in enumerate(delays):
+            if clocks[copy] < min(length, clock - delay):
+                clocks[copy] += 1
+                events.append(f"step {copy}")
+    return events
+
+
+def record_text(count):
+    """A record of 8 mirrors with 8 copies each, whose players only turn, so that their worlds can be told without a match."""
+    length, draws = count * 8192 // 25248, Draws(7)
+    delays = [copy * length // 8 // 7 for copy in range(7)] + [length // 8]
+    commands = [(draws.below(length), number % 8, number, draws.below(8), draws.below(2)) for number in range(count)]
+    lines = ["tss record 1", "tss match 2", f"length {length}", "grid 64 64", "mirrors 8", "delays " + " ".join(map(str, delays)), "pace 0"]
+    lines += [f"player p{i} {8 * i + 1} 2 {'nesw'[i % 4]}" for i in range(8)]
+    lines += [f"cmd {tick} {sender} {number} {player} {('left', 'right')[right]}" for tick, sender, number, player, right in commands]
+    lines.append("end")
+    faces = [i % 4 for i in range(8)]
+    for _, _, _, player, right in commands:
+        faces[player] += 1 if right else -1
+    world = [f"live p{i} {8 * i + 1} 2 {'nesw'[face % 4]} 3 5 0" for i, face in enumerate(faces)]
+    for mirror in range(8):
+        arrivals = {}
+        for tick, sender, number, _, _ in commands:
+            clock = tick if mirror == sender else tick + draws.below(delays[-1] + 1)
+            arrivals.setdefault(clock, []).append(f"arrive {sender} {number}")
+        events = turned_log(length, delays, arrivals)
+        lines += [f"log {mirror} {len(events)}", *events]
+        for copy in range(8):
+            lines += [f"world {mirror} {copy} {length}", *world]
+    lines.append("done")
+    return "".join(line + "\n" for line in lines).encode()
+
+
 def run_once(program, words, text):
     """The wall time in seconds and the peak memory in KiB of one run."""
     read_end, write_end = os.pipe()
@@ -177,29 +231,69 @@ def time_locks(program, runs):
         print(f"      a turn takes x{least['turn'] / least['mutex']:.2f} the time of the mutex")
 
 
+def time_soaks(program, runs):
+    for number in NUMBERS:
+        made = [run_once(program, ["soak", str(number)], b"") for _ in range(runs)]
+        least = min(seconds for seconds, _ in made)
+        peak = max(memory for _, memory in made)
+        print(f"soak {number:10}  {least * 1000:8.2f} ms  {peak / 1024:6.1f} MiB")
+
+
+def time_races(program, kind, runs):
+    delay = HALLS[kind][1][-1]
+    text = hall_text(8192, kind).replace(b"\npace 0\n", b"\npace %d\n" % delay, 1)
+    there = os.sched_getaffinity(0)
+    for word, cores in (("play", 1), ("race", 1), ("race", 2), ("race", 4)):
+        os.sched_setaffinity(0, set(sorted(there)[:cores]))
+        made = [run_once(program, [word], text) for _ in range(runs)]
+        least = min(seconds for seconds, _ in made)
+        peak = max(memory for _, memory in made)
+        print(f"{word} {kind} on {min(cores, len(there))} cores  {least * 1000:8.2f} ms  {peak / 1024:6.1f} MiB")
+    os.sched_setaffinity(0, there)
+
+
 def main():
     parser = argparse.ArgumentParser()
     parser.add_argument("program")
-    parser.add_argument("--word", choices=("order", "play", "lock"), default="order")
+    parser.add_argument("--word", choices=("order", "play", "score", "audit", "soak", "race", "lock"), default="order")
     parser.add_argument("--text", choices=("plain", "script", "late", "copies", "falling", "arena", "large", *HALLS))
+    parser.add_argument("--record", help="the file of a record that is audited alone")
     parser.add_argument("--runs", type=int, default=15)
     given = parser.parse_args()
-    kind = given.text or ("script" if given.word == "play" else "plain")
+    kind = given.text or {"play": "script", "score": "script", "audit": "record"}.get(given.word, "plain")
     program = os.path.abspath(given.program)
     print(f"processor: {processor()}, {os.cpu_count()} cores")
     if given.word == "lock":
         time_locks(program, given.runs)
         return
+    if given.word == "soak":
+        time_soaks(program, given.runs)
+        return
+    if given.word == "race":
+        time_races(program, given.text or "four", given.runs)
+        return
+    if given.record is not None:
+        with open(given.record, "rb") as stream:
+            time_text(program, "audit", given.record, stream.read(), given.runs, None)
+        return
+    own = {"arena": arena_text, "large": large_text, "falling": falling_text}
     before = None
-    for count in COUNTS:
-        own = {"arena": arena_text, "large": large_text, "falling": falling_text}
-        text = own.get(kind, lambda n: (hall_text if kind in HALLS else match_text)(n, kind))(count)
-        runs = [run_once(program, [given.word], text) for _ in range(given.runs)]
-        least = min(seconds for seconds, _ in runs)
-        peak = max(memory for _, memory in runs)
-        growth = "" if before is None else f"  x{least / before:.2f}"
-        print(f"{given.word} {kind} {count:6} commands  {len(text):8} bytes  {least * 1000:8.2f} ms  {peak / 1024:6.1f} MiB{growth}")
-        before = least
+    for count in RECORD_COUNTS if given.word == "audit" else COUNTS:
+        if given.word == "audit":
+            text = record_text(count)
+        else:
+            text = own.get(kind, lambda n: (hall_text if kind in HALLS else match_text)(n, kind))(count)
+        before = time_text(program, given.word, f"{kind} {count:6} commands", text, given.runs, before)
+
+
+def time_text(program, word, name, text, runs, before):
+    """Times a word on a text, prints what was measured, and gives the least time."""
+    measured = [run_once(program, [word], text) for _ in range(runs)]
+    least = min(seconds for seconds, _ in measured)
+    peak = max(memory for _, memory in measured)
+    growth = "" if before is None else f"  x{least / before:.2f}"
+    print(f"{word} {name}  {len(text):8} bytes  {least * 1000:8.2f} ms  {peak / 1024:6.1f} MiB{growth}")
+    return least
 
 
 if __name__ == "__main__":
