@@ -1,5 +1,5 @@
 -- The shots fly one after the other.
-use Rattle.std.proofs.Common.{◌≡◌, ℕ, ◌+◌, ◌<◌, ◌≤◌, Option, Some, None, List, ◌∷◌, ◌++◌, length, drop, get_or, refl, ap, ◌∙◌, append_assoc, append-nil}
+use Rattle.std.proofs.Common.{◌≡◌, ℕ, ◌+◌, ◌<◌, ◌≤◌, Option, Some, None, List, ◌∷◌, ◌++◌, length, drop, get_or, refl, sym, ap, ◌∙◌, append_assoc, append-nil}
 use Rattle.std.proofs.lemmas.List.{drop_more, drop_all}
 use Rattle.std.specs.List.{cons_option}
 use Rattle.std.specs.Option.{option_to_list}
@@ -7,6 +7,7 @@ use Rattle.arena_rules.specs.Ground.{Grid}
 use Rattle.arena_rules.specs.Beat.{Flight, Flights, flown, flights, with_first}
 use Rattle.arena_rules.specs.declared.player.Player.{Player}
 use Rattle.arena_rules.specs.declared.shot.Shot.{Shot}
+use Rattle.arena_rules.specs.declared.face.Face.TheVariants.{N}
 
 -- one shot more
 flights-cons : (grid : Grid) (players : List Player) (shot : Shot) (shots : List Shot) → flights grid players (shot ∷ shots) ≡ with_first (flown grid players shot).shot (flights grid (flown grid players shot).players shots)
@@ -40,3 +41,14 @@ pub flights-all : (grid : Grid) (first now : List Player) (shots kept : List Sho
     → flights grid first shots ≡ record { players = now; shots = kept }
 unfolding flights
 flights-all grid first now shots kept i past so_far = so_far ∙ rw drop_all (rw append-nil refl)
+
+-- what stands past a list's end, in the words of the goals
+abbrev pub no_shot : Shot
+no_shot = record { owner = 0; spot = record { x = 0; y = 0; face = N }; left = 0 }
+
+-- lists with one rest have the same element at its front
+pub drop-next : {X : Type 0} (xs ys : List X) (i : ℕ) (d : X) → i < length xs → i < length ys
+    → drop i xs ≡ drop i ys → (get_or xs i d ≡ get_or ys i d) × (drop (i + 1) xs ≡ drop (i + 1) ys)
+drop-next xs ys i d x_there y_there same =
+    let both : get_or xs i d ∷ drop (i + 1) xs ≡ get_or ys i d ∷ drop (i + 1) ys = sym (drop_more xs i d x_there) ∙ same ∙ drop_more ys i d y_there in
+    (ap (λ l. get_or l 0 d) both, ap (λ l. drop 1 l) both)

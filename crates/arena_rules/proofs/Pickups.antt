@@ -1,12 +1,12 @@
--- Pickups that nobody takes, and that don't wait.
-use Rattle.std.proofs.Common.{◌≡◌, ◌-◌, ℕ, true, false, Option, None, Some, List, [], ◌∷◌, map, refl, ap, ◌∙◌, arith}
-use Rattle.std.specs.List.{list_all}
-use Rattle.std.proofs.lemmas.Bool.{and_parts, eqb-true}
+-- Pickups that nobody takes.
+use Rattle.std.proofs.Common.{◌≡◌, ◌==◌, ◌&&◌, ◌+◌, ◌*◌, ◌<◌, ℕ, nat_eq, true, false, Option, None, Some, List, [], ◌∷◌, refl, ap, arith}
+use Rattle.std.specs.List.{list_any}
+use Rattle.std.proofs.lemmas.Bool.Decides.{nat_tests}
 use Rattle.std.specs.Option.{is_some}
 use Rattle.arena_rules.specs.declared.pickup.Kind.{Kind}
 use Rattle.arena_rules.specs.declared.pickup.Pickup.{Pickup}
 use Rattle.arena_rules.specs.Setup.{Cell}
-use Rattle.arena_rules.specs.Pickup.{lies_ready, ready_kind, taken, waited, is_ready}
+use Rattle.arena_rules.specs.Pickup.{lies_ready, ready_kind, taken}
 
 pub no_kind : (kind : Option Kind) → is_some kind ≡ false → kind ≡ None
 no_kind None is = refl
@@ -25,17 +25,23 @@ taken-none (p ∷ ps) cell none = split (lies_ready cell p) refl (taken-none ps 
     split true is rest = (let no : Some p.place.kind ≡ None = rw is at none in absurd cc)
     split false is rest = rw is (ap (λ (l : List Pickup). p ∷ l) (rest (rw is at none)))
 
-waited-ready : (p : Pickup) → is_ready p ≡ true → waited p ≡ p
-waited-ready p ready =
-    (let zero : p.wait ≡ 0 = eqb-true p.wait 0 ready in
-    let same : p.wait - 1 ≡ p.wait = omega arith in
-    ap (λ (n : ℕ). record p { wait = n }) same)
+-- where no pickup lies ready in a cell, there is no kind to take
+pub ready_kind-none :
+    (pickups : List Pickup) (cell : Cell) → list_any (lies_ready cell) pickups ≡ false
+    → ready_kind pickups cell ≡ None
+ready_kind-none [] cell none = refl
+ready_kind-none (p ∷ ps) cell none = split (lies_ready cell p) refl (ready_kind-none ps cell)
+  where
+    split :
+        (b : _) → lies_ready cell p ≡ b
+        → (list_any (lies_ready cell) ps ≡ false → ready_kind ps cell ≡ None)
+        → ready_kind (p ∷ ps) cell ≡ None
+    split true is rest = (let no : true ≡ false = rw is at none in absurd cc)
+    split false is rest = rw is (rest (rw is at none))
 
--- where no pickup waits, none changes in a beat
-pub waited-none :
-    (pickups : List Pickup) → list_all is_ready pickups ≡ true → map waited pickups ≡ pickups
-waited-none [] ready = refl
-waited-none (p ∷ ps) ready =
-    (let parts = and_parts (is_ready p) (list_all is_ready ps) ready in
-    ap (λ (q : Pickup). q ∷ map waited ps) (waited-ready p parts.0)
-    ∙ ap (λ (l : List Pickup). p ∷ l) (waited-none ps parts.1))
+-- a cell and a wait as one number: equal where the cells are the same and the wait is over
+pub same_number :
+    (x y wait a b : ℕ) → x < 256 → y < 256 → a < 256 → b < 256
+    → nat_eq (x + 256 * y + 16777216 * wait) (a + 256 * b + 16777216 * 0)
+    ≡ (((a == x) && (b == y)) && (wait == 0))
+same_number x y wait a b x_few y_few a_few b_few = grind (arith, nat_tests)

@@ -1,11 +1,11 @@
 //! What lies in the arena to be taken.
 
-ghost use Rattle.std.specs.Prelude.{◌≡◌, ◌≤◌, ◌++◌, map, length, OnOk, OnErr};
-ghost use Rattle.std.specs.List.{list_all};
+ghost use Rattle.std.specs.Prelude.{◌≡◌, ◌+◌, ◌*◌, ◌<◌, ◌≤◌, ◌++◌, map, length, OnOk, OnErr};
+ghost use Rattle.std.specs.List.{list_any};
 ghost use Rattle.game_trait.specs.declared.limits.TheConstants.{MOST_PICKUPS};
 ghost use Rattle.arena_rules.specs.Block.{kind_word, item_line};
 ghost use Rattle.arena_rules.specs.Setup.{spot_cell};
-ghost use Rattle.arena_rules.specs.Pickup.{opening_pickup, lies_ready, ready_kind, emptied, taken, waited, is_ready};
+ghost use Rattle.arena_rules.specs.Pickup.{opening_pickup, lies_ready, ready_kind, emptied, taken, waited};
 
 use crate::spot::Spot;
 use arrayvec::ArrayVec;
@@ -83,10 +83,10 @@ impl Pickup {
 
     /// Whether a pickup lies ready in the cell of this spot: it stands there, and its wait is 0
     /// beats.
-    pub fn lies_ready(&self, spot: Spot) -> bool
-        ensures { result ≡ lies_ready (spot_cell spot) self.now }
+    pub fn lies_ready(self, spot: Spot) -> bool
+        ensures { result ≡ lies_ready (spot_cell spot) self }
     {
-        spot.x == self.place.x && spot.y == self.place.y && self.wait == 0
+        number(self.place.x, self.place.y, self.wait) == number(spot.x, spot.y, 0)
     }
 
     /// The pickup after someone came to the cell of this spot.
@@ -111,10 +111,33 @@ impl Pickup {
     }
 }
 
+// A cell and a wait as one number, so that one comparison tells of both.
+fn number(x: u8, y: u8, wait: u8) -> u32
+    ensures number { result ≡ x + 256 * y + 16777216 * wait }
+    ensures cell { (x < 256) × (y < 256) }
+{
+    u32::from(x) + 256 * u32::from(y) + 16777216 * u32::from(wait)
+}
+
+// Whether a pickup lies ready in the cell of this spot. Each is asked, whatever those before it
+// answer, so that several are asked at once.
+fn is_any_ready(pickups: &[Pickup], spot: Spot) -> bool
+    ensures { result ≡ list_any (lies_ready (spot_cell spot)) pickups.now }
+{
+    let mut found = false;
+    for pickup in pickups {
+        found |= pickup.lies_ready(spot);
+    }
+    found
+}
+
 /// The kind of the pickup that lies ready in the cell of this spot.
 pub fn ready_kind(pickups: &[Pickup], spot: Spot) -> Option<Kind>
     ensures { result ≡ ready_kind pickups.now (spot_cell spot) }
 {
+    if !is_any_ready(pickups, spot) {
+        return None;
+    }
     pickups
         .iter()
         .find(|p| p.lies_ready(spot))
@@ -140,31 +163,15 @@ fn take_each(pickups: &mut [Pickup], spot: Spot)
     }
 }
 
-// Whether no pickup waits.
-fn are_ready(pickups: &[Pickup]) -> bool
-    ensures { result ≡ list_all is_ready pickups.now }
-{
-    pickups.iter().all(|p| p.wait == 0)
-}
-
-// Each pickup waits a beat less. It is kept apart from a beat's code, since in most beats none waits.
+/// The third part of a beat: each pickup waits a beat less. None is asked whether it waits, so that
+/// several are changed at once.
 #[inline(never)]
-fn wait_each(pickups: &mut [Pickup])
+pub fn wait(pickups: &mut [Pickup])
     ensures { pickups.new ≡ map waited pickups.old }
 {
     for pickup in pickups.iter_mut() {
         *pickup = pickup.waited();
     }
-}
-
-/// The third part of a beat. Where no pickup waits nothing changes.
-pub fn wait(pickups: &mut [Pickup])
-    ensures { pickups.new ≡ map waited pickups.old }
-{
-    if are_ready(pickups) {
-        return;
-    }
-    wait_each(pickups);
 }
 
 /// The pickups as the match begins.

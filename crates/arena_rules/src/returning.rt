@@ -26,11 +26,16 @@ fn returned(players: &[Player], player: Player) -> Player
     }
 }
 
-// Whether all players are live.
+// Whether all players are live. Each is asked, whatever those before it answer, so that several
+// are asked at once.
 fn are_live(players: &[Player]) -> bool
     ensures { result ≡ list_all is_live players.now }
 {
-    players.iter().all(|p| p.is_live())
+    let mut live = true;
+    for player in players {
+        live &= player.is_live();
+    }
+    live
 }
 
 // The dead wait and return, in player order. It is kept apart from a beat's code, since in most

@@ -108,32 +108,23 @@ fn fly(ground: &Ground, players: &mut [Player], shot: Shot) -> Option<Shot>
     }
 }
 
-// The shots fly in list order, and each sees what those before it did. The answer is those that fly
-// on.
-fn fly_all(ground: &Ground, players: &mut [Player], shots: &[Shot]) -> ArrayVec<Shot, MOST_SHOTS>
-    requires count { length shots.now ≤ MOST_SHOTS }
-    requires owners { All (λ s. s.owner < length players.old) shots.now }
-    ensures { flights ground.now players.old shots.now
-        ≡ record { players = players.new; shots = result.items } }
-{
-    let mut flying = ArrayVec::new();
-    for &shot in shots {
-        if let Some(shot) = fly(ground, players, shot) {
-            flying.push(shot);
-        }
-    }
-    flying
-}
-
-// The shots of a world fly, and become those that fly on. It is kept apart from a beat's code,
-// since most beats have no shots.
+// The shots of a world fly in list order, and each sees what those before it did. They become those
+// that fly on, which move up in the list. It is kept apart from a beat's code, since most beats
+// have no shots.
 #[inline(never)]
 fn fly_each(ground: &Ground, players: &mut [Player], shots: &mut ArrayVec<Shot, MOST_SHOTS>)
     requires { All (λ s. s.owner < length players.old) shots.old.items }
     ensures { flights ground.now players.old shots.old.items
         ≡ record { players = players.new; shots = shots.new.items } }
 {
-    *shots = fly_all(ground, players, shots);
+    let mut kept = 0;
+    for at in 0..shots.len() {
+        if let Some(shot) = fly(ground, players, shots[at]) {
+            shots[kept] = shot;
+            kept += 1;
+        }
+    }
+    shots.truncate(kept);
 }
 
 /// The first part of a beat: the shots of a world fly, and become those that fly on. Where there is
