@@ -304,6 +304,10 @@ fn copy_into<T: Copy + Default, const N: usize>(place: &mut ArrayVec<T, N>, item
     requires { length items.now ≤ N }
     ensures { place.new.items ≡ items.now }
 {
+    if place.len() == items.len() {
+        place.as_mut_slice().copy_from_slice(items);
+        return;
+    }
     place.clear();
     place.try_extend_from_slice(items).unwrap();
 }

@@ -45,7 +45,9 @@ fn return_each(players: &mut [Player])
     ensures { players.new ≡ returns [] players.old }
 {
     for number in 0..players.len() {
-        players[number] = returned(players, players[number]);
+        if !players[number].is_live() {
+            players[number] = returned(players, players[number]);
+        }
     }
 }
 
