@@ -163,15 +163,25 @@ fn take_each(pickups: &mut [Pickup], spot: Spot)
     }
 }
 
-/// The third part of a beat: each pickup waits a beat less. None is asked whether it waits, so that
-/// several are changed at once.
+// Each pickup waits a beat less. None is asked whether it waits, so that several are changed at
+// once.
 #[inline(never)]
-pub fn wait(pickups: &mut [Pickup])
+fn wait_each(pickups: &mut [Pickup])
     ensures { pickups.new ≡ map waited pickups.old }
 {
     for pickup in pickups.iter_mut() {
         *pickup = pickup.waited();
     }
+}
+
+/// The third part of a beat. Where there is no pickup nothing changes.
+pub fn wait(pickups: &mut [Pickup])
+    ensures { pickups.new ≡ map waited pickups.old }
+{
+    if pickups.is_empty() {
+        return;
+    }
+    wait_each(pickups);
 }
 
 /// The pickups as the match begins.
