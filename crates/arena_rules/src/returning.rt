@@ -26,16 +26,11 @@ fn returned(players: &[Player], player: Player) -> Player
     }
 }
 
-// Whether all players are live. Each is asked, whatever those before it answer, so that several
-// are asked at once.
+// Whether all players are live.
 fn are_live(players: &[Player]) -> bool
     ensures { result ≡ list_all is_live players.now }
 {
-    let mut live = true;
-    for player in players {
-        live &= player.is_live();
-    }
-    live
+    players.iter().all(|p| p.is_live())
 }
 
 // The dead wait and return, in player order. It is kept apart from a beat's code, since in most
