@@ -11,7 +11,7 @@ use Rattle.match_file.proofs.TextLaws.{whole_read, whole_found}
 use Rattle.match_hall.proofs.Headline.{played-AllPlayed}
 use Rattle.run_recorder.specs.declared.race_record.RaceRecord.{RaceRecord}
 use Rattle.run_recorder.specs.Data.{IsRecord}
-use Rattle.run_recorder.specs.Reading.{read_text as read_record_text}
+use Rattle.run_recorder.specs.Reading.{read_record as read_record_text}
 use Rattle.run_recorder.specs.Text.{record_text}
 use Rattle.run_recorder.proofs.WholeLaws.{whole_read as record_read, whole_found as record_found}
 use Rattle.run_auditor.specs.declared.verdict.Verdict.{Verdict}

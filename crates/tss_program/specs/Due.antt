@@ -16,7 +16,7 @@ use Rattle.match_hall.specs.Report.{play_text}
 use Rattle.run_recorder.specs.declared.log.MirrorLog.{MirrorLog}
 use Rattle.run_recorder.specs.declared.race_record.RaceRecord.{RaceRecord}
 use Rattle.run_recorder.specs.Data.{IsRecord}
-use Rattle.run_recorder.specs.Reading.{read_text as read_record_text, IsFirst as IsFirstOfRecord}
+use Rattle.run_recorder.specs.Reading.{read_record as read_record_text, IsFirstOfRecord}
 use Rattle.run_recorder.specs.Text.{record_text}
 use Rattle.run_auditor.specs.declared.verdict.Verdict.{Verdict}
 use Rattle.run_auditor.specs.declared.verdict.Verdict.TheVariants.{Legal, NotLegal}
