@@ -23,8 +23,8 @@ use Rattle.tss_program.specs.declared.subcommand.MatchTask.TheVariants.{Order, P
 use Rattle.tss_program.specs.declared.subcommand.Subcommand.{Subcommand}
 use Rattle.tss_program.specs.declared.subcommand.Subcommand.TheVariants.{OfMatch, Audit, Soak}
 use Rattle.watch_board.specs.Behaviour.{Behaviour}
-use Rattle.match_maker.specs.Generator.{made}
-use Rattle.match_maker.proofs.Sound.{IsMatch-made}
+use Rattle.match_maker.specs.Generator.{match_of_number}
+use Rattle.match_maker.proofs.Sound.{IsMatch-match_of_number}
 use Rattle.tss_program.specs.Subcommands.{subcommand_of}
 use Rattle.tss_program.specs.Due.{Due, IsAnswer, of_match, of_record, of_number, refusal, IsDue, usage, answer, due_of_match, due_of_number, usage_due, refusal_due, code, arena_shown, IsVerdictOf, status_of, due_of_verdict}
 use Rattle.run_recorder.specs.declared.log.MirrorLog.{MirrorLog}
@@ -222,7 +222,7 @@ plays-number : (subcommand : Subcommand) (n : ℕ) (input : List ℕ) (kept : Li
 plays-number (OfMatch k) n input kept asks is = absurd (no_number n k asks)
 plays-number Audit n input kept asks is = absurd (record_no_number n asks)
 plays-number (Soak k) n input kept asks is =
-    record { m = made n; playing = refl; is = ap made (sym (same_number k n asks)); keeps = subst (Keeps (made n)) (sym is) (keeps-played (made n) (IsMatch-made n)) }
+    record { m = match_of_number n; playing = refl; is = ap match_of_number (sym (same_number k n asks)); keeps = subst (Keeps (match_of_number n)) (sym is) (keeps-played (match_of_number n) (IsMatch-match_of_number n)) }
 
 -- nothing, or the logs of the match that is played
 pub answer-kept : {ws : List Behaviour} (subcommand : Subcommand) (input : List ℕ) (due : Due) → IsAnswer ws subcommand input due → (due.kept ≡ []) ⊎ KeepsPlayed subcommand input due.kept
@@ -258,8 +258,8 @@ same-number : (subcommand : Subcommand) (n : ℕ) (input : List ℕ) (m : MatchD
 same-number (OfMatch k) n input m kept asks played is = absurd (no_number n k asks)
 same-number Audit n input m kept asks played is = absurd (record_no_number n asks)
 same-number (Soak k) n input m kept asks played is =
-    (let same : m ≡ made n = played ∙ ap made (same_number k n asks) in
-    subst (λ (x : MatchData). Keeps x kept) (sym same) (subst (Keeps (made n)) (sym is) (keeps-played (made n) (IsMatch-made n))))
+    (let same : m ≡ match_of_number n = played ∙ ap match_of_number (same_number k n asks) in
+    subst (λ (x : MatchData). Keeps x kept) (sym same) (subst (Keeps (match_of_number n)) (sym is) (keeps-played (match_of_number n) (IsMatch-match_of_number n))))
 
 -- those of the match that is played for the input
 pub answer-played : {ws : List Behaviour} (subcommand : Subcommand) (input : List ℕ) (due : Due) (m : MatchData) → IsAnswer ws subcommand input due → keeps_logs subcommand ≡ true → IsPlayed subcommand input m → Keeps m due.kept

@@ -14,7 +14,7 @@ use Rattle.std.specs.List.{AllByRecursion}
 use Rattle.watch_board.specs.Behaviour.{Behaviour}
 use Rattle.report_text.specs.Ends.{done_line}
 use Rattle.report_text.specs.Soak.{soak_line, same_line}
-use Rattle.match_maker.specs.Generator.{made}
+use Rattle.match_maker.specs.Generator.{match_of_number}
 use Rattle.soak.specs.Soak.{IsSoaked}
 use Rattle.soak.specs.Answer.{soak_opening, soaked, whole_lines}
 use Rattle.match_hall.specs.Script.{played, logs_from}
@@ -118,7 +118,7 @@ keeps_logs (Soak number) = true
 abbrev pub IsPlayed : Subcommand → List ℕ → MatchData → Type 0
 IsPlayed (OfMatch task) input m = IsMatch m × (input ≡ match_text m)
 IsPlayed Audit input m = ⊥
-IsPlayed (Soak number) input m = m ≡ made number
+IsPlayed (Soak number) input m = m ≡ match_of_number number
 
 -- the logs are those of the mirrors of this match, which was played
 abbrev pub Keeps : MatchData → List MirrorLog → Type 0
