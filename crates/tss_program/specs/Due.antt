@@ -182,9 +182,9 @@ pub data IsDue (watchers : List Behaviour) (words : List (List ℕ)) (input : Li
 
 -- a run may end so: it ran out of memory, a read failed, a write failed, or what is due was written
 -- whole
-abbrev pub Ends : Due → ℕ → List MirrorLog → Type 0 → Type 0 → Option (List ℕ) → Option (List ℕ)
+abbrev pub MayEnd : Due → ℕ → List MirrorLog → Type 0 → Type 0 → Option (List ℕ) → Option (List ℕ)
     → Type 0
-Ends due status kept read_fault write_fault old new =
+MayEnd due status kept read_fault write_fault old new =
     ((status ≡ code NoMemory) × (kept ≡ []) × Gains old [] new)
     ⊎ ((status ≡ code ReadFault) × read_fault × (kept ≡ []) × Gains old [] new)
     ⊎ ((status ≡ code WriteFault) × write_fault × (kept ≡ due.kept)
