@@ -38,6 +38,17 @@ pub record Streams : Type 0 where
   pub taken : Option (List ℕ)
   pub write_faults : ℕ
 
+-- the streams at a source and a sink, by what a source and a sink show
+abbrev pub seen_of : {S K : Type 0} → (S → Option (List ℕ)) → (S → ℕ) → (S → ℕ)
+    → (K → Option (List ℕ)) → (K → ℕ) → S → K → Streams
+seen_of left read_faults reads taken write_faults source sink = record {
+  left = left source;
+  read_faults = read_faults source;
+  reads = reads source;
+  taken = taken sink;
+  write_faults = write_faults sink;
+}
+
 -- an input is the one that a source tells, where it tells one
 abbrev pub IsInput : Option (List ℕ) → List ℕ → Type 0
 IsInput left input = IfSome left (λ bytes. bytes ≡ input)
