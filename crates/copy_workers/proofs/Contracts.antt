@@ -16,7 +16,7 @@ use Rattle.copy_workers.specs.Feed.{Hearing, least_mark, total}
 use Rattle.copy_workers.specs.Feeding.{Hears, IsFair, InTime, IsBound, joined}
 use Rattle.copy_workers.specs.Sending.{IsSent}
 use Rattle.copy_workers.specs.Refining.{AllHeard}
-use Rattle.copy_workers.specs.Standing.{EndsAs, task_of}
+use Rattle.copy_workers.specs.Standing.{EndsByMachine, task_of}
 use Rattle.copy_workers.specs.Fed.{ArriveInTime, AllReceive, misses_between, least_last, FeederEnds}
 
 -- what was received on a link
@@ -108,7 +108,7 @@ bound-got job clock_s clock_e h same hears (inl e) = inl (let a = hears.kept in 
 bound-got job clock_s clock_e h same hears (inr e) = inr (let a = hears.kept in omega arith)
 
 -- from the machine's facts to the contract
-pub feeder-ends : (job : FeederJob) (end : FeederEnd) (before after : List Asked) → EndsAs job end before after → FeederEnds job end before after
+pub feeder-ends : (job : FeederJob) (end : FeederEnd) (before after : List Asked) → EndsByMachine job end before after → FeederEnds job end before after
 feeder-ends job end before after e =
     let s = e.state in
     let f = e.fed.feeds in

@@ -10,7 +10,7 @@ use Rattle.link_ring.specs.declared.message.Message.{Message}
 use Rattle.copy_workers.specs.declared.post.Asked.{Asked}
 use Rattle.copy_workers.specs.Messages.{messages, commands_in, last_mark, mark_after, IsOrderly}
 use Rattle.copy_workers.specs.Asking.{IsFeeding, is_moved, is_tick, is_arrival_of, ticking, moves, ticks_in, arrivals_of, ArrivesAt}
-use Rattle.copy_workers.specs.Feed.{Task, Hearing, Feed, last_clock, least_mark, IsHeld, total, ticked, rested, at_start}
+use Rattle.copy_workers.specs.Feed.{Task, Hearing, Feed, ending_clock, least_mark, IsHeldByMarks, total, ticked, rested, at_start}
 use Rattle.copy_workers.specs.Feeding.{Hears, InTime, IsBound, IsFed, IsBetween, GoesOn, joined}
 use Rattle.copy_workers.proofs.Lists.{joined-end, joined-rest, push-last}
 use Rattle.copy_workers.proofs.MessageLists.{orderly-most}
@@ -58,7 +58,7 @@ kept-most job h hears orderly = (let a = hears.kept in let b = orderly-most job.
 
 -- a turn ends with a tick
 pub fed-ticked :
-    (job : Task) (s : Feed) (reply : Reply) → s.clock < last_clock job
+    (job : Task) (s : Feed) (reply : Reply) → s.clock < ending_clock job
     → (s.clock + 1 ≤ least_mark job.length s.hearings + job.pace) ⊎ (job.length ≤ least_mark job.length s.hearings)
     → s.marked ≡ min job.length (s.clock + 1)
     → IsFed job s → IsFed job (ticked reply s)
@@ -89,7 +89,7 @@ fed-ticked job s reply below free marked f =
           unmoved = times-nothing (λ p. is_moved p.reply);
           moved = omega (arith, ticks-append s.asked more, turns.moved);
           within = omega (arith, turns.within);
-          going = goes_on-push (last_clock job) 0 s.turns (s.here ++ more) turns.going (let a = ap (λ (l : List Asked). moves l) turns.pieces in let b = moves-append (joined s.turns) s.here in let c = turns.unmoved in let d = turns.clock in omega arith);
+          going = goes_on-push (ending_clock job) 0 s.turns (s.here ++ more) turns.going (let a = ap (λ (l : List Asked). moves l) turns.pieces in let b = moves-append (joined s.turns) s.here in let c = turns.unmoved in let d = turns.clock in omega arith);
           alone = λ e. (let a = ticks-append s.asked more in let b = turns.alone e in let c = length-append s.turns ((s.here ++ more) ∷ []) in omega arith);
         };
         hears = f.feeds.hears;
@@ -112,7 +112,7 @@ fed-ticked job s reply below free marked f =
 
 -- a turn ends without one
 pub fed-rested :
-    (job : Task) (s : Feed) → s.clock < last_clock job → IsHeld job s → AllByRecursion (λ h. h.tries ≡ length s.turns + 1) s.hearings
+    (job : Task) (s : Feed) → s.clock < ending_clock job → IsHeldByMarks job s → AllByRecursion (λ h. h.tries ≡ length s.turns + 1) s.hearings
     → IsFed job s → IsFed job (rested s)
 fed-rested job s below held tries f =
     let turns = f.feeds.turns in
@@ -129,7 +129,7 @@ fed-rested job s below held tries f =
           unmoved = times-nothing (λ p. is_moved p.reply);
           moved = turns.moved;
           within = turns.within;
-          going = goes_on-push (last_clock job) 0 s.turns s.here turns.going (let a = ap (λ (l : List Asked). moves l) turns.pieces in let b = moves-append (joined s.turns) s.here in let c = turns.unmoved in let d = turns.clock in omega arith);
+          going = goes_on-push (ending_clock job) 0 s.turns s.here turns.going (let a = ap (λ (l : List Asked). moves l) turns.pieces in let b = moves-append (joined s.turns) s.here in let c = turns.unmoved in let d = turns.clock in omega arith);
           alone = λ e. absurd (let a = ap (least_mark job.length) e in let b = held.1 in let c = least-none job.length in omega arith);
         };
         hears = f.feeds.hears;
@@ -162,7 +162,7 @@ between-ticked job s reply tries none =
     }
 
 -- between two turns, where the marks held
-pub between-rested : (job : Task) (s : Feed) → AllByRecursion (λ h. h.tries ≡ length s.turns + 1) s.hearings → IsHeld job s → IsBetween job (rested s)
+pub between-rested : (job : Task) (s : Feed) → AllByRecursion (λ h. h.tries ≡ length s.turns + 1) s.hearings → IsHeldByMarks job s → IsBetween job (rested s)
 between-rested job s tries held =
     record {
       here = refl;

@@ -45,8 +45,8 @@ pub record Feed : Type 0 where
   pub taken : ℕ
 
 -- the clock at which a feeder ends
-abbrev pub last_clock : Task → ℕ
-last_clock job = job.length + job.delay
+abbrev pub ending_clock : Task → ℕ
+ending_clock job = job.length + job.delay
 
 -- the least mark received; with no links the length
 unfoldable pub least_mark : ℕ → List Hearing → ℕ
@@ -54,8 +54,8 @@ least_mark length [] = length
 least_mark length (h ∷ rest) = min h.kept (least_mark length rest)
 
 -- the marks hold the clock where it is
-abbrev pub IsHeld : Task → Feed → Type 0
-IsHeld job s =
+abbrev pub IsHeldByMarks : Task → Feed → Type 0
+IsHeldByMarks job s =
     (least_mark job.length s.hearings + job.pace < s.clock + 1)
     × (least_mark job.length s.hearings < job.length)
 
