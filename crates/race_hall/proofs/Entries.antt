@@ -18,7 +18,7 @@ use Rattle.sync_model.proofs.Along.{fitted-next}
 use Rattle.sync_model.proofs.Drain.{delays-next}
 use Rattle.sync_model.proofs.History.{answers_in_kind, clock-next}
 use Rattle.copy_workers.specs.declared.post.Asked.{Asked}
-use Rattle.copy_workers.specs.Asking.{pair_of, arrival, IsFeeding, moves, arrivals_of}
+use Rattle.copy_workers.specs.Asking.{pair_of, arrival, IsFeeding, moves_in, arrivals_of}
 use Rattle.race_hall.specs.Entries.{Entry, pairs_of, own, events_of, IsSound, IsStepping, is_feeding, feeding_of, commands_asked, IsInTime, AllInTime}
 use Rattle.sync_model.specs.Schedule.{longest_delay}
 use Rattle.game_trait.specs.Events.{is_restagger, is_moved, IsOfKind}
@@ -88,14 +88,14 @@ plan-still (ToArrive a) p h = absurd h
 plan-still (ToStep s) p h = absurd h
 plan-still Restaggered p h = refl
 
-moves-one : (e : Event) (r : Reply) (H : List Asked) → IsOfKind e r → moves (feeding_of H) ≡ moves H → moves (feeding_of (pair_of e r ∷ H)) ≡ moves (pair_of e r ∷ H)
+moves-one : (e : Event) (r : Reply) (H : List Asked) → IsOfKind e r → moves_in (feeding_of H) ≡ moves_in H → moves_in (feeding_of (pair_of e r ∷ H)) ≡ moves_in (pair_of e r ∷ H)
 unfolding times
 moves-one Tick r H kind later = omega (arith, later)
 moves-one (Arrive x) r H kind later = omega (arith, later)
 moves-one (Step c) r H kind later = (let e = step-still r c kind in rw e (omega (arith, later)))
 moves-one (Restagger p) r H kind later = (let e = plan-still r p kind in rw e (omega (arith, later)))
 
-pub moves-feeding : (H : List Asked) → AllByRecursion (λ p. IsOfKind p.event p.reply) H → moves (feeding_of H) ≡ moves H
+pub moves-feeding : (H : List Asked) → AllByRecursion (λ p. IsOfKind p.event p.reply) H → moves_in (feeding_of H) ≡ moves_in H
 moves-feeding [] kinds = refl
 moves-feeding (p ∷ H) kinds = moves-one p.event p.reply H kinds.0 (moves-feeding H kinds.1)
 
@@ -162,8 +162,8 @@ in_time-event s (Step c) h same = tt
 in_time-event s (Restagger p) h same = absurd cc
 
 pub in_time-places :
-    {W : Type 0} (delay : ℕ) (back front : List Asked) (s : MirrorState W) → longest_delay (delays_of s) ≡ delay → s.clock ≡ moves front → IsSound s back
-    → ((f b : List Asked) (x : Command) (r : Reply) → front ++ back ≡ f ++ arrival x r ∷ b → moves f ≤ x.time + delay)
+    {W : Type 0} (delay : ℕ) (back front : List Asked) (s : MirrorState W) → longest_delay (delays_of s) ≡ delay → s.clock ≡ moves_in front → IsSound s back
+    → ((f b : List Asked) (x : Command) (r : Reply) → front ++ back ≡ f ++ arrival x r ∷ b → moves_in f ≤ x.time + delay)
     → AllByRecursion (λ p. is_restagger p.event ≡ false) back → AllInTime s (events_of back)
 unfolding IsSound AllInTime times
 in_time-places delay [] front s longest clock sound all kept = tt

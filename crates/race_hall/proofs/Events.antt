@@ -22,7 +22,7 @@ use Rattle.sync_model.proofs.Room.{opening_of-next}
 use Rattle.sync_model.proofs.Legal.{all-changing}
 use Rattle.sync_model.proofs.Drain.{delays-next}
 use Rattle.copy_workers.specs.declared.post.Asked.{Asked}
-use Rattle.copy_workers.specs.Asking.{moves}
+use Rattle.copy_workers.specs.Asking.{moves_in}
 use Rattle.copy_workers.proofs.Lists.{all-append}
 use Rattle.race_hall.specs.Entries.{events_of, IsSound, commands_asked, IsInTime, AllInTime}
 use Rattle.race_hall.proofs.Lists.{all-first}
@@ -74,7 +74,7 @@ in_time-delays [] s h = refl
 in_time-delays (e ∷ es) s h = in_time-delays es (next s e) h.1 ∙ delays-next s e (in_time-keeps s e h.0)
 
 -- the clock counts the moves
-pub clock-sound : {W : Type 0} (H : List Asked) (s : MirrorState W) → IsSound s H → (after s (events_of H)).clock ≡ s.clock + moves H
+pub clock-sound : {W : Type 0} (H : List Asked) (s : MirrorState W) → IsSound s H → (after s (events_of H)).clock ≡ s.clock + moves_in H
 unfolding IsSound after times
 clock-sound [] s h = omega arith
 clock-sound (p ∷ H) s h =

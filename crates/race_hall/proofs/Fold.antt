@@ -26,7 +26,7 @@ use Rattle.sync_model.proofs.Cases.{after-fixed}
 use Rattle.sync_model.proofs.Drain.{draining_ends, draining_is_turns, drained_worlds}
 use Rattle.sync_model.proofs.History.{after-append, history_grows}
 use Rattle.copy_workers.specs.declared.post.Asked.{Asked}
-use Rattle.copy_workers.specs.Asking.{moves}
+use Rattle.copy_workers.specs.Asking.{moves_in}
 use Rattle.copy_workers.proofs.Lists.{all-append}
 use Rattle.race_hall.specs.Entries.{Entry, pairs_of, own, events_of, commands_asked, AllInTime, AllTaken}
 use Rattle.race_hall.specs.Race.{Course, IsCourse, Raced, race_opening, first_plan}
@@ -64,10 +64,10 @@ pub delivers :
 delivers {W} c opening spare m marked got left seat H s course there r =
     let fixed = after-fixed (events_of (pairs_of H)) (race_opening c opening spare) in
     let kinds = sound-kinds (pairs_of H) (race_opening c opening spare) r.sound in
-    let clock : (after (race_opening c opening spare) (events_of (pairs_of H))).clock ≡ moves (own seat H) =
+    let clock : (after (race_opening c opening spare) (events_of (pairs_of H))).clock ≡ moves_in (own seat H) =
     (let a = clock-sound (pairs_of H) (race_opening c opening spare) r.sound in
     let b = moves-feeding (pairs_of H) kinds in
-    let d = ap (λ (l : List Asked). moves l) (seat-feeds seat H r.fed.feeding r.workers) in
+    let d = ap (λ (l : List Asked). moves_in l) (seat-feeds seat H r.fed.feeding r.workers) in
     omega arith) in
     let longest : longest_delay (delays_of (after (race_opening c opening spare) (events_of (pairs_of H)))) ≡ longest_delay (first_plan c) = ap (λ (ds : List ℕ). longest_delay ds) (in_time-delays (events_of (pairs_of H)) (race_opening c opening spare) (history-in_time c opening spare m marked got left seat H s course there r)) in
     let most = course.pace in
@@ -94,7 +94,7 @@ delivers {W} c opening spare m marked got left seat H s course there r =
       in_time = in_time-append (events_of (pairs_of H)) (map Arrive (to_deliver c m marked left)) (race_opening c opening spare)
           (history-in_time c opening spare m marked got left seat H s course there r)
           (in_time-arrivals (to_deliver c m marked left) (after (race_opening c opening spare) (events_of (pairs_of H)))
-          (all-weaker (λ x. moves (own seat H) ≤ x.time + c.pace)
+          (all-weaker (λ x. moves_in (own seat H) ≤ x.time + c.pace)
           (λ x. (after (race_opening c opening spare) (events_of (pairs_of H))).clock ≤ x.time + longest_delay (delays_of (after (race_opening c opening spare) (events_of (pairs_of H)))))
           (to_deliver c m marked left) (λ x low. omega arith) late));
       counts = counts;

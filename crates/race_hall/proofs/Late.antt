@@ -12,7 +12,7 @@ use Rattle.link_ring.specs.declared.message.Message.{Message}
 use Rattle.sync_model.specs.State.{MirrorState}
 use Rattle.copy_workers.specs.declared.post.Asked.{Asked}
 use Rattle.copy_workers.specs.Messages.{messages, commands_in}
-use Rattle.copy_workers.specs.Asking.{is_arrival_of, arrival, moves, arrivals_of}
+use Rattle.copy_workers.specs.Asking.{is_arrival_of, arrival, moves_in, arrivals_of}
 use Rattle.copy_workers.specs.Feed.{total}
 use Rattle.copy_workers.specs.Feeding.{joined}
 use Rattle.copy_workers.proofs.Races.{times-messages, times-received}
@@ -53,7 +53,7 @@ unfolding times
 some-arrival x [] b reply here = rw here (omega arith)
 some-arrival x (p ∷ f) b reply here = omega (arith, some-arrival x f b reply here)
 
-no-moves : moves [] ≡ 0
+no-moves : moves_in [] ≡ 0
 unfolding times
 no-moves = refl
 
@@ -61,10 +61,10 @@ no-moves = refl
 pub places-in_time :
     {W : Type 0} (c : Course) (opening : W) (spare m : ℕ) (marked : ℕ → ℕ) (got left : ℕ → List Message) (seat : ℕ) (H : List Entry) (s : MirrorState W)
     → IsCourse c → m < c.mirrors → Raced c opening spare m marked got left seat H s
-    → (f b : List Asked) (x : Command) (reply : Reply) → pairs_of H ≡ f ++ arrival x reply ∷ b → moves f ≤ x.time + c.pace
+    → (f b : List Asked) (x : Command) (reply : Reply) → pairs_of H ≡ f ++ arrival x reply ∷ b → moves_in f ≤ x.time + c.pace
 places-in_time c opening spare m marked got left seat H s course there r f b x reply e =
     let kinds = sound-kinds (pairs_of H) (race_opening c opening spare) r.sound in
-    let front : moves (feeding_of f) ≡ moves f = moves-feeding f (all-first (λ p. IsOfKind p.event p.reply) f (arrival x reply ∷ b) (subst (AllByRecursion (λ p. IsOfKind p.event p.reply)) e kinds)) in
+    let front : moves_in (feeding_of f) ≡ moves_in f = moves-feeding f (all-first (λ p. IsOfKind p.event p.reply) f (arrival x reply ∷ b) (subst (AllByRecursion (λ p. IsOfKind p.event p.reply)) e kinds)) in
     let whole : own seat H ≡ feeding_of f ++ arrival x reply ∷ feeding_of b =
     sym (seat-feeds seat H r.fed.feeding r.workers) ∙ ap feeding_of e ∙ filter-append (λ p. is_feeding p.event) f (arrival x reply ∷ b) in
     let test : Asked → Bool = λ p. is_arrival_of x p.event in
@@ -74,7 +74,7 @@ places-in_time c opening spare m marked got left seat H s course there r f b x r
     let some : 0 < arrivals_of x (own seat H) = subst (λ (l : List Asked). 0 < arrivals_of x l) (sym whole) (some-arrival x (feeding_of f) (feeding_of b) reply here) in
     let at = arrives-by c opening spare m marked got left seat H s course there r x some in
     let same : feeding_of f ≡ at.front = one-place test (feeding_of f) at.front (arrival x reply) (arrival x at.reply) (feeding_of b) at.back (sym whole ∙ at.whole) here here one in
-    (let low = at.here in let k = ap (λ (l : List Asked). moves l) same in omega arith)
+    (let low = at.here in let k = ap (λ (l : List Asked). moves_in l) same in omega arith)
 
 -- so along the history each arrival is in time
 pub history-in_time :

@@ -10,7 +10,7 @@ use Rattle.sync_model.specs.State.{MirrorState, opening_state}
 use Rattle.sync_model.specs.Change.{after}
 use Rattle.copy_workers.specs.declared.post.Asked.{Asked}
 use Rattle.copy_workers.specs.Messages.{messages, commands_in, last_mark, IsOrderly}
-use Rattle.copy_workers.specs.Asking.{IsFeeding, moves, arrivals_of, ArrivesAt}
+use Rattle.copy_workers.specs.Asking.{IsFeeding, moves_in, arrivals_of, ArrivesAt}
 use Rattle.copy_workers.specs.Feed.{total}
 use Rattle.copy_workers.specs.Fed.{ArriveInTime}
 use Rattle.race_hall.specs.Entries.{Entry, pairs_of, own, events_of, IsSound, IsStepping}
@@ -69,13 +69,13 @@ pub record IsFairlyFed (pace length : ℕ) (issued : List Command) (gots : List 
       → arrivals_of x asked
       ≡ times (same_command x) issued + total (λ got. times (same_command x) (commands_in got)) gots
   pub bounds : AllByRecursion
-      (λ got. (moves asked ≤ last_mark got + pace) ⊎ (last_mark got ≡ length)) gots
+      (λ got. (moves_in asked ≤ last_mark got + pace) ⊎ (last_mark got ≡ length)) gots
 
 -- what a feeder did: its plan, how many received commands it may ask, how many ticks it issued,
 -- what it received, what it asked
 pub record IsFedBy (c : Course) (plan : List Command) (foreign marked : ℕ)
     (gots : List (List Message)) (asked : List Asked) : Type 0 where
-  pub least : min c.length (moves asked) ≤ marked
+  pub least : min c.length (moves_in asked) ≤ marked
   pub most : marked ≤ c.length
   pub arrive : AllByRecursion (λ x. ArrivesAt asked x x.time) (commands_in (messages plan marked))
   pub feeding : AllByRecursion (λ p. IsFeeding p.event) asked
