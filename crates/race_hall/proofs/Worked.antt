@@ -21,7 +21,7 @@ none-total [] f h = refl
 none-total (k ∷ ks) f h = omega (arith, h, none-total ks f h)
 
 pub raced-nothing : {W : Type 0} (c : Course) (opening : W) (spare m : ℕ) → Raced c opening spare m (λ k. 0) (λ k. []) (λ k. []) 0 [] (race_opening c opening spare)
-unfolding messages commands_in times total Rattle.race_hall.specs.Entries.own Rattle.race_hall.specs.Entries.IsSound Rattle.sync_model.specs.Change.after Rattle.copy_workers.specs.Messages.mark_after
+unfolding messages commands_in times total Rattle.race_hall.specs.Entries.own Rattle.race_hall.specs.Entries.AreAnswersOf Rattle.sync_model.specs.Change.after Rattle.copy_workers.specs.Messages.mark_after
 raced-nothing c opening spare m = record {
   sound = tt;
   state = refl;

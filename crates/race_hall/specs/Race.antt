@@ -13,7 +13,7 @@ use Rattle.copy_workers.specs.Messages.{messages, commands_in, last_mark, IsOrde
 use Rattle.copy_workers.specs.Asking.{IsFeeding, moves_in, arrivals_of, ArrivesAt}
 use Rattle.copy_workers.specs.Feed.{total}
 use Rattle.copy_workers.specs.Fed.{ArriveInTime}
-use Rattle.race_hall.specs.Entries.{Entry, pairs_of, own, events_of, IsSound, IsStepping}
+use Rattle.race_hall.specs.Entries.{Entry, pairs_of, own, events_asked, AreAnswersOf, IsStepping}
 use Rattle.sync_model.specs.Schedule.{DelaysRise, longest_delay}
 
 -- what of a match matters to a race: its commands, how many mirrors there are, its length, its
@@ -89,8 +89,8 @@ pub record IsFedBy (c : Course) (plan : List Command) (foreign marked : ℕ)
 pub record Raced {W : Type 0} (c : Course) (opening : W) (spare m : ℕ) (marked : ℕ → ℕ)
     (got left : ℕ → List Message)
     (seat : ℕ) (history : List Entry) (s : MirrorState W) : Type 0 where
-  pub sound : IsSound (race_opening c opening spare) (pairs_of history)
-  pub state : s ≡ after (race_opening c opening spare) (events_of (pairs_of history))
+  pub sound : AreAnswersOf (race_opening c opening spare) (pairs_of history)
+  pub state : s ≡ after (race_opening c opening spare) (events_asked (pairs_of history))
   pub workers : (i : ℕ) → i ≢ seat → AllByRecursion (λ p. IsStepping p.event) (own i history)
   pub fed : IsFedBy c (plan_of c m) (foreign_of c m) (marked m) (map got (others c.mirrors m))
       (own seat history)
