@@ -1,5 +1,5 @@
 -- What is written behind a match is read.
-use Rattle.std.proofs.Common.{◌≡◌, ℕ, ◌+◌, ◌-◌, ◌<◌, ◌≤◌, Bool, true, false, cond, ◌||◌, eqb, ltb, List, [], ◌∷◌, ◌++◌, length, map, Option, Some, None, Ok, Err, refl, sym, ap, subst, ◌∙◌, append_assoc, append-nil, length-append, arith, lit<}
+use Rattle.std.proofs.Common.{◌≡◌, ℕ, ◌+◌, ◌-◌, ◌<◌, ◌≤◌, Bool, true, false, cond, ◌||◌, eqb, ltb, List, [], ◌∷◌, ◌++◌, length, map, Some, Ok, Err, refl, sym, ap, subst, ◌∙◌, append_assoc, append-nil, length-append, arith, lit<}
 use Rattle.std.specs.Prelude.{bytes_eq, codes, decimal}
 use Rattle.std.specs.List.{AllByRecursion, list_all}
 use Rattle.std.proofs.lemmas.Bool.{and_parts, eq-eqb, lt-ltb}
@@ -11,12 +11,12 @@ use Rattle.game_trait.specs.Keys.{is_named}
 use Rattle.game_trait.specs.CommandList.{command_named}
 use Rattle.tss_io.specs.declared.cause.Cause.TheVariants.{Shape}
 use Rattle.tss_io.specs.Lines.{torn, as_line, words_of, lines_of, lines_text}
-use Rattle.tss_io.specs.Forms.{is_word, front_at, last_at, InRange, at_least, number_in, is_canonical, is_missing, is_over}
-use Rattle.tss_io.specs.Decimals.{number_of}
+use Rattle.tss_io.specs.Forms.{is_word, front_at, last_at, InRange}
 use Rattle.tss_io.specs.Kinds.{Kind, Sound, step, is_long}
 use Rattle.tss_io.specs.Runs.{Follows, ahead, run}
+use Rattle.tss_io.proofs.AboveLaws.{not_above}
 use Rattle.tss_io.proofs.EachLaws.{of_list_all}
-use Rattle.tss_io.proofs.FormLaws.{same_words, number_again, number_exact}
+use Rattle.tss_io.proofs.FormLaws.{same_words, number_exact}
 use Rattle.tss_io.proofs.KindLaws.{ExactKind, step_again, line_text, line_short, line_front, line_fits, not_alone}
 use Rattle.tss_io.proofs.Printing.{lines_text-append, text_of-ahead}
 use Rattle.tss_io.proofs.RunLaws.{follows_more, all_append, run_again}
@@ -30,7 +30,6 @@ use Rattle.run_recorder.specs.Kinds.{is_under_way, is_between, begun, blocks_of,
 use Rattle.run_recorder.specs.Reading.{record_by_word, take_record_line, is_record_last, no_tail}
 use Rattle.run_recorder.specs.Text.{last_line, event_line, log_line, world_line, is_shown, first_word, is_block_line, log_text, blocks_text, record_mirrors_text}
 use Rattle.run_recorder.proofs.ExactKinds.{IsSmall, mirror_exact, LogFits, ArriveFits, WorldFits, log_exact, arrive_exact, step_exact, restagger_exact, world_exact}
-use Rattle.std.proofs.Math.Bool.{and-false}
 use Rattle.run_recorder.proofs.TailLaws.{under_not_ended, under_begun}
 
 -- this text is lines that lead from one place to another
@@ -228,23 +227,13 @@ record Ready (m : MatchData) (t : Tail) (logs : List MirrorLog) (worlds : List (
   pub begun_is : begun t ≡ length logs
   pub going : is_record_last t ≡ false
 
-number_there : (o : Option ℕ) (n : ℕ) → at_least 0 o ≡ Ok n → is_missing o ≡ false
-number_there None n e = absurd cc
-number_there (Some k) n e = refl
-
-not_over : (count : ℕ) → count ≤ MOST_LOGGED_EVENTS → is_over MOST_LOGGED_EVENTS (decimal count) ≡ false
-unfolding is_over number_in
-not_over count few =
-    let there : is_missing (number_of (decimal count) MOST_LOGGED_EVENTS) ≡ false = number_there _ count (number_again 0 MOST_LOGGED_EVENTS count (lit< tt) (omega arith, few)) in
-    rw there (and-false (is_canonical (decimal count)))
-
--- the count of a log isn't over
+-- the count of a log isn't above the most
 few_events : (m : MatchData) → IsSmall m → (mirror count : ℕ) → InRange 0 (m.mirrors - 1) mirror → count ≤ MOST_LOGGED_EVENTS → is_few (second_of (decimal mirror ∷ decimal count ∷ [])) ≡ true
 unfolding front_at last_at
 few_events m small mirror count fits few =
     let first : is_word (decimal mirror) ≡ true = (mirror_exact m small).fit mirror fits in
     let second : is_word (decimal count) ≡ true = (number_exact 0 131072 6 (lit< tt) (lit< tt) (lit< tt)).fit count (omega arith, few) in
-    rw (first, second, not_over count few) refl
+    rw (first, second, not_above MOST_LOGGED_EVENTS count few (lit< tt)) refl
 
 log_written : (m : MatchData) → IsSmall m → (t : Tail) (logs : List MirrorLog) (worlds : List (List (List ℕ))) (count : ℕ) → Ready m t logs worlds → length logs < m.mirrors → count ≤ MOST_LOGGED_EVENTS
     → Written m t (as_line (log_line (length logs) count)) (record no_tail { stage = InLog; logs = logs; worlds = worlds; left = count })

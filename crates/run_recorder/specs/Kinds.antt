@@ -8,7 +8,7 @@ use Rattle.game_trait.specs.declared.limits.TheConstants.{GREATEST_NUMBER, MOST_
 use Rattle.game_trait.specs.CommandList.{command_named}
 use Rattle.tss_io.specs.declared.cause.Cause.{Cause}
 use Rattle.tss_io.specs.declared.cause.Cause.TheVariants.{Name, Order}
-use Rattle.tss_io.specs.Forms.{front_at, last_at, number, only, ◌&◌, is_over}
+use Rattle.tss_io.specs.Forms.{front_at, last_at, number, only, ◌&◌, is_above}
 use Rattle.tss_io.specs.Results.{◌>>=◌}
 use Rattle.tss_io.specs.Kinds.{Kind}
 use Rattle.tss_io.specs.Lines.{as_line}
@@ -118,7 +118,7 @@ second_of words = front_at words >>= λ front. last_at front.1
 
 -- no count of events above the most
 abbrev pub is_few : Result (List ℕ) Cause → Bool
-is_few (Ok word) = not (is_over MOST_LOGGED_EVENTS word)
+is_few (Ok word) = not (is_above MOST_LOGGED_EVENTS word)
 is_few (Err cause) = true
 
 -- ---- the kinds

@@ -21,7 +21,7 @@ use match_file::{Match, find_command};
 use std::alloc::Global;
 use std::mem;
 use tss_io::words::{are_words, front, last, next_line, number};
-use tss_io::{Cause, LineFault, NoMemory, Seq, Word, is_over, push_line};
+use tss_io::{Cause, LineFault, NoMemory, Seq, Word, is_above, push_line};
 
 /// How far a record was read behind its match.
 #[derive(Clone, Copy, Debug, PartialEq, Eq)]
@@ -294,7 +294,7 @@ impl Tail {
         }
         let (mirror, words) = front(words)?;
         let count = last(words)?;
-        if is_over(MOST_LOGGED_EVENTS as u32, count) {
+        if is_above(MOST_LOGGED_EVENTS as u32, count) {
             return Err(LineFault::Refused(Cause::Many));
         }
         let mirror = mirror_of(game, mirror)?;
