@@ -12,7 +12,8 @@ use Rattle.copy_workers.specs.declared.feeder_job.FeederEnd.{FeederEnd}
 use Rattle.copy_workers.specs.declared.feeder_job.FeederJob.{FeederJob}
 use Rattle.copy_workers.specs.Messages.{messages, commands_in, last_mark, mark_after, IsOrderly}
 use Rattle.copy_workers.specs.Asking.{ArrivesAt, ArrivesBy}
-use Rattle.copy_workers.specs.Feed.{Hearing, least_mark, total}
+use Rattle.tss_io.specs.Totals.{total}
+use Rattle.copy_workers.specs.Feed.{Hearing, least_mark}
 use Rattle.copy_workers.specs.Feeding.{Hears, IsFair, InTime, IsBound, joined}
 use Rattle.copy_workers.specs.Sending.{IsSent}
 use Rattle.copy_workers.specs.Refining.{AllHeard}
@@ -51,7 +52,6 @@ all-with P R Q (h ∷ hs) step all more = (step h all.0 more.0, all-with P R Q h
 
 -- sums of what was received
 total-got : (f : List Message → ℕ) (hs : List Hearing) → total f (map got_of hs) ≡ total (λ h. f h.got) hs
-unfolding total
 total-got f [] = refl
 total-got f (h ∷ hs) = omega (arith, total-got f hs)
 
@@ -83,7 +83,7 @@ all-receive turns (x ∷ xs) (y ∷ ys) (h ∷ hs) heard hears tries =
 
 -- how often nothing came, in all
 total-misses : (first now : List LinkReceive) (hs : List Hearing) → AllHeard first now hs → total (λ h. length (commands_in h.got) + h.risen) hs ≡ total (λ h. length (commands_in h.got)) hs + misses_between first now
-unfolding AllHeard total misses_between
+unfolding AllHeard misses_between
 total-misses [] [] [] heard = omega arith
 total-misses [] [] (h ∷ hs) heard = absurd heard
 total-misses [] (y ∷ ys) [] heard = absurd heard

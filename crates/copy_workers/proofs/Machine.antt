@@ -13,7 +13,8 @@ use Rattle.link_ring.specs.declared.message.Message.TheVariants.{Cmd, Mark}
 use Rattle.copy_workers.specs.declared.post.Asked.{Asked}
 use Rattle.copy_workers.specs.Messages.{tick_messages, messages, commands_in, last_mark, mark_after, IsOrderly}
 use Rattle.copy_workers.specs.Asking.{IsFeeding, is_moved, is_tick, is_arrival_of, arrival, moves_in, ticks_in, arrivals_of, ArrivesAt, ArrivesBy, AreArrivals}
-use Rattle.copy_workers.specs.Feed.{Task, Hearing, Feed, total, issued, missed, with_mark, with_command, heard, fed}
+use Rattle.tss_io.specs.Totals.{total}
+use Rattle.copy_workers.specs.Feed.{Task, Hearing, Feed, issued, missed, with_mark, with_command, heard, fed}
 use Rattle.copy_workers.specs.Feeding.{Turns, Hears, IsFair, InTime, IsBound, Keeps, IsFed}
 use Rattle.copy_workers.proofs.Lists.{all-at, all-changed, total-at, joined-more}
 use Rattle.copy_workers.proofs.MessageLists.{messages-more, commands_in-tick, commands_in-mark, commands_in-command, orderly-mark, orderly-command}

@@ -10,7 +10,8 @@ use Rattle.link_ring.specs.declared.message.Message.{Message}
 use Rattle.copy_workers.specs.declared.post.Asked.{Asked}
 use Rattle.copy_workers.specs.Messages.{messages, commands_in, last_mark, mark_after, IsOrderly}
 use Rattle.copy_workers.specs.Asking.{IsFeeding, is_moved, is_tick, is_arrival_of, ticking, moves_in, ticks_in, arrivals_of, ArrivesAt}
-use Rattle.copy_workers.specs.Feed.{Task, Hearing, Feed, ending_clock, least_mark, IsHeldByMarks, total, ticked, rested, at_start}
+use Rattle.tss_io.specs.Totals.{total}
+use Rattle.copy_workers.specs.Feed.{Task, Hearing, Feed, ending_clock, least_mark, IsHeldByMarks, ticked, rested, at_start}
 use Rattle.copy_workers.specs.Feeding.{Hears, InTime, IsBound, IsFed, IsBetween, GoesOn, joined}
 use Rattle.copy_workers.proofs.Lists.{joined-end, joined-rest, push-last}
 use Rattle.copy_workers.proofs.MessageLists.{orderly-most}
@@ -191,13 +192,13 @@ fresh-in_time h pace fresh = subst (InTime [] pace 0) (sym fresh.1) (nothing_in_
 
 -- no command came
 fresh-count : (x : Command) (hs : List Hearing) → AllByRecursion IsFresh hs → total (λ h. times (same_command x) (commands_in h.got)) hs ≡ 0
-unfolding total times commands_in
+unfolding times commands_in
 fresh-count x [] fresh = refl
 fresh-count x (h ∷ hs) fresh = rw (fresh.0.1) (omega (arith, fresh-count x hs fresh.1))
 
 -- a feeder at its start
 pub fed-start : (job : Task) (hearings : List Hearing) → AllByRecursion IsFresh hearings → IsFed job (at_start hearings)
-unfolding messages commands_in times joined GoesOn total
+unfolding messages commands_in times joined GoesOn
 fed-start job hearings fresh =
     record {
       feeds = record {

@@ -59,11 +59,6 @@ IsHeldByMarks job s =
     (least_mark job.length s.hearings + job.pace < s.clock + 1)
     × (least_mark job.length s.hearings < job.length)
 
--- the sum over links
-unfoldable pub total : {X : Type 0} → (X → ℕ) → List X → ℕ
-total f [] = 0
-total f (x ∷ xs) = f x + total f xs
-
 -- a tick is issued
 abbrev pub issued : Task → List Asked → Feed → Feed
 issued job pairs s =

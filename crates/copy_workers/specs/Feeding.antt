@@ -9,7 +9,8 @@ use Rattle.link_ring.specs.declared.message.Message.TheVariants.{Cmd, Mark}
 use Rattle.copy_workers.specs.declared.post.Asked.{Asked}
 use Rattle.copy_workers.specs.Messages.{messages, commands_in, last_mark, IsOrderly}
 use Rattle.copy_workers.specs.Asking.{IsFeeding, moves_in, ticks_in, arrivals_of, ArrivesAt, ArrivesBy}
-use Rattle.copy_workers.specs.Feed.{Task, Hearing, Feed, ending_clock, IsHeldByMarks, total}
+use Rattle.tss_io.specs.Totals.{total}
+use Rattle.copy_workers.specs.Feed.{Task, Hearing, Feed, ending_clock, IsHeldByMarks}
 
 -- what was sent, and how far
 pub record Sends (job : Task) (s : Feed) : Type 0 where
