@@ -43,14 +43,14 @@ state_words name score (Live b) =
 state_words name score (Dead wait) = codes "dead" ∷ name ∷ decimal wait ∷ score ∷ []
 
 -- the same words as a line
-unfoldable pub player_line : List ℕ → Player → List ℕ
-player_line name p = line_of (state_words name (signed_decimal p.score) p.state)
+unfoldable pub state_line : List ℕ → Player → List ℕ
+state_line name p = line_of (state_words name (signed_decimal p.score) p.state)
 
 -- the lines of players in order, of whom the first has this number
-unfoldable pub player_lines : List (List ℕ) → ℕ → List Player → List ℕ
-player_lines names number [] = []
-player_lines names number (p ∷ ps) =
-    player_line (name_of names number) p ++ player_lines names (number + 1) ps
+unfoldable pub state_lines : List (List ℕ) → ℕ → List Player → List ℕ
+state_lines names number [] = []
+state_lines names number (p ∷ ps) =
+    state_line (name_of names number) p ++ state_lines names (number + 1) ps
 
 -- the line of a shot: its owner's name, its cell, its facing and the cells left
 unfoldable pub shot_line : List (List ℕ) → Shot → List ℕ
@@ -67,5 +67,5 @@ item_line p =
 -- the lines of a world: players, shots, pickups
 unfoldable pub block_of : World → List (List ℕ) → List ℕ
 block_of world names =
-    player_lines names 0 world.players
+    state_lines names 0 world.players
     ++ (flat_map (shot_line names) world.shots ++ flat_map item_line world.pickups)

@@ -2,7 +2,7 @@
 
 ghost use Rattle.std.specs.Prelude.{◌≡◌, ◌++◌, ◌≤◌, flat_map, length, take, OnOk};
 ghost use Rattle.game_trait.specs.declared.limits.TheConstants.{MOST_PLAYERS};
-ghost use Rattle.arena_rules.specs.Block.{player_lines, shot_line, item_line};
+ghost use Rattle.arena_rules.specs.Block.{state_lines, shot_line, item_line};
 
 use crate::pickup::Pickup;
 use crate::player::Player;
@@ -14,7 +14,7 @@ use tss_io::NoMemory;
 pub fn push_players(players: &[Player], roster: &Roster, out: &mut Vec<u8>) -> Result<(), NoMemory>
     requires { length players.now ≤ MOST_PLAYERS }
     ensures ok { OnOk result
-        (out.new.items ≡ out.old.items ++ player_lines roster.now 0 players.now) }
+        (out.new.items ≡ out.old.items ++ state_lines roster.now 0 players.now) }
     ensures front { take (length out.old.items) out.new.items ≡ out.old.items }
 {
     for (number, player) in players.iter().enumerate() {

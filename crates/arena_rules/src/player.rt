@@ -2,7 +2,7 @@
 
 ghost use Rattle.std.specs.Prelude.{◌≡◌, ◌≤◌, ◌++◌, map, length, OnOk, OnErr};
 ghost use Rattle.game_trait.specs.declared.limits.TheConstants.{MOST_PLAYERS};
-ghost use Rattle.arena_rules.specs.Block.{player_line};
+ghost use Rattle.arena_rules.specs.Block.{state_line};
 ghost use Rattle.arena_rules.specs.Setup.{spot_cell};
 ghost use Rattle.arena_rules.specs.Player.{opening_player, body_at_home, turned_to, alive, stands_in, is_held, holder, is_live, struck, with_gain, with_loss};
 ghost use Rattle.arena_rules.specs.Pickup.{given};
@@ -124,9 +124,9 @@ impl Player {
 
     /// Appends the player's line: a live one's name, cell, facing, health, ammunition and score, a
     /// dead one's name, wait and score. On `NoMemory` `out` is unchanged.
-    #[tactic(auto, unfolding(crate::specs::Block::player_line))]
+    #[tactic(auto, unfolding(crate::specs::Block::state_line))]
     pub fn push_line(&self, name: &[u8], out: &mut Vec<u8>) -> Result<(), NoMemory>
-        ensures ok { OnOk result (out.new.items ≡ out.old.items ++ player_line name.now self.now) }
+        ensures ok { OnOk result (out.new.items ≡ out.old.items ++ state_line name.now self.now) }
         ensures err { OnErr result (out.new.items ≡ out.old.items) }
     {
         let score = Word::Number(i64::from(self.score));

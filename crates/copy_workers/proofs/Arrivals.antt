@@ -9,11 +9,11 @@ use Rattle.link_ring.specs.declared.message.Message.{Message}
 use Rattle.link_ring.specs.declared.message.Message.TheVariants.{Cmd, Mark}
 use Rattle.copy_workers.specs.declared.post.Asked.{Asked}
 use Rattle.copy_workers.specs.Messages.{mark_after}
-use Rattle.copy_workers.specs.Asking.{IsFeeding, is_moved, arrival, moves, ticks_in, arrivals_of, ArrivesAt, ArrivesBy, AreArrivals}
+use Rattle.copy_workers.specs.Asking.{IsFeeding, is_moved, arrival, moves_in, ticks_in, arrivals_of, ArrivesAt, ArrivesBy, AreArrivals}
 use Rattle.copy_workers.specs.Feeding.{InTime}
 
 -- what is counted of two lists, one after the other
-pub moves-append : (a b : List Asked) → moves (a ++ b) ≡ moves a + moves b
+pub moves-append : (a b : List Asked) → moves_in (a ++ b) ≡ moves_in a + moves_in b
 moves-append a b = times-append _ a b
 
 -- the same of ticks
@@ -75,7 +75,7 @@ in_time-command asked pace m (Cmd y ∷ got) x h here = (h.0, in_time-command as
 in_time-command asked pace m (Mark k ∷ got) x h here = in_time-command asked pace k got x h here
 
 -- the commands of a tick that are asked, one by one
-pub arrivals-moves : (xs : List Command) (pairs : List Asked) → AreArrivals xs pairs → moves pairs ≡ 0
+pub arrivals-moves : (xs : List Command) (pairs : List Asked) → AreArrivals xs pairs → moves_in pairs ≡ 0
 unfolding AreArrivals times
 arrivals-moves [] [] h = refl
 arrivals-moves [] (p ∷ ps) h = absurd h
@@ -108,7 +108,7 @@ arrivals-feeding (x ∷ xs) (p ∷ ps) h = (rw (h.0) tt, arrivals-feeding xs ps 
 
 -- each of the commands arrives at the clock before them
 pub arrivals-each :
-    (asked : List Asked) (clock : ℕ) (xs : List Command) (pairs : List Asked) → moves asked ≡ clock → AllByRecursion (λ x. x.time ≡ clock) xs
+    (asked : List Asked) (clock : ℕ) (xs : List Command) (pairs : List Asked) → moves_in asked ≡ clock → AllByRecursion (λ x. x.time ≡ clock) xs
     → AreArrivals xs pairs → AllByRecursion (λ x. ArrivesAt (asked ++ pairs) x x.time) xs
 unfolding AreArrivals
 arrivals-each asked clock [] pairs here due h = tt
@@ -116,6 +116,6 @@ arrivals-each asked clock (x ∷ xs) [] here due h = absurd h
 arrivals-each asked clock (x ∷ xs) (p ∷ ps) here due h =
     let first : ArrivesAt (asked ++ p ∷ ps) x x.time =
     record { front = asked; reply = p.reply; back = ps; whole = ap (λ (q : Asked). asked ++ q ∷ ps) h.0; here = here ∙ sym due.0 } in
-    let still : moves (asked ++ p ∷ []) ≡ clock = moves-append asked (p ∷ []) ∙ (let e : moves (p ∷ []) ≡ 0 = one (λ q. is_moved q.reply) p ∙ rw (h.1) refl in omega arith) in
+    let still : moves_in (asked ++ p ∷ []) ≡ clock = moves-append asked (p ∷ []) ∙ (let e : moves_in (p ∷ []) ≡ 0 = one (λ q. is_moved q.reply) p ∙ rw (h.1) refl in omega arith) in
     let rest = arrivals-each (asked ++ p ∷ []) clock xs ps still due.1 h.2 in
     (first, subst (λ (a : List Asked). AllByRecursion (λ y. ArrivesAt a y y.time) xs) (append_assoc asked (p ∷ []) ps) rest)

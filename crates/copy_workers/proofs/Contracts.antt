@@ -12,11 +12,12 @@ use Rattle.copy_workers.specs.declared.feeder_job.FeederEnd.{FeederEnd}
 use Rattle.copy_workers.specs.declared.feeder_job.FeederJob.{FeederJob}
 use Rattle.copy_workers.specs.Messages.{messages, commands_in, last_mark, mark_after, IsOrderly}
 use Rattle.copy_workers.specs.Asking.{ArrivesAt, ArrivesBy}
-use Rattle.copy_workers.specs.Feed.{Hearing, least_mark, total}
+use Rattle.tss_io.specs.Totals.{total}
+use Rattle.copy_workers.specs.Feed.{Hearing, least_mark}
 use Rattle.copy_workers.specs.Feeding.{Hears, IsFair, InTime, IsBound, joined}
 use Rattle.copy_workers.specs.Sending.{IsSent}
 use Rattle.copy_workers.specs.Refining.{AllHeard}
-use Rattle.copy_workers.specs.Standing.{EndsAs, task_of}
+use Rattle.copy_workers.specs.Standing.{EndsByMachine, task_of}
 use Rattle.copy_workers.specs.Fed.{ArriveInTime, AllReceive, misses_between, least_last, FeederEnds}
 
 -- what was received on a link
@@ -51,7 +52,6 @@ all-with P R Q (h ∷ hs) step all more = (step h all.0 more.0, all-with P R Q h
 
 -- sums of what was received
 total-got : (f : List Message → ℕ) (hs : List Hearing) → total f (map got_of hs) ≡ total (λ h. f h.got) hs
-unfolding total
 total-got f [] = refl
 total-got f (h ∷ hs) = omega (arith, total-got f hs)
 
@@ -83,7 +83,7 @@ all-receive turns (x ∷ xs) (y ∷ ys) (h ∷ hs) heard hears tries =
 
 -- how often nothing came, in all
 total-misses : (first now : List LinkReceive) (hs : List Hearing) → AllHeard first now hs → total (λ h. length (commands_in h.got) + h.risen) hs ≡ total (λ h. length (commands_in h.got)) hs + misses_between first now
-unfolding AllHeard total misses_between
+unfolding AllHeard misses_between
 total-misses [] [] [] heard = omega arith
 total-misses [] [] (h ∷ hs) heard = absurd heard
 total-misses [] (y ∷ ys) [] heard = absurd heard
@@ -108,7 +108,7 @@ bound-got job clock_s clock_e h same hears (inl e) = inl (let a = hears.kept in 
 bound-got job clock_s clock_e h same hears (inr e) = inr (let a = hears.kept in omega arith)
 
 -- from the machine's facts to the contract
-pub feeder-ends : (job : FeederJob) (end : FeederEnd) (before after : List Asked) → EndsAs job end before after → FeederEnds job end before after
+pub feeder-ends : (job : FeederJob) (end : FeederEnd) (before after : List Asked) → EndsByMachine job end before after → FeederEnds job end before after
 feeder-ends job end before after e =
     let s = e.state in
     let f = e.fed.feeds in

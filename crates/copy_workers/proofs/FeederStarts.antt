@@ -15,7 +15,7 @@ use Rattle.copy_workers.specs.Feed.{Task, Hearing, at_start}
 use Rattle.copy_workers.specs.Feeding.{IsFed, IsBetween}
 use Rattle.copy_workers.specs.Sending.{IsSent, IsFrom}
 use Rattle.copy_workers.specs.Refining.{AllHeard, AllKept}
-use Rattle.copy_workers.specs.Standing.{Start, Rests, BeginsWith, EndsAs}
+use Rattle.copy_workers.specs.Standing.{Start, Rests, BeginsWith, EndsByMachine}
 use Rattle.copy_workers.proofs.Issued.{sent-none}
 use Rattle.copy_workers.proofs.TurnEnds.{IsFresh, fed-start, between-start}
 
@@ -99,7 +99,7 @@ issued-within c f asked calls grows h = (let a = h.stands.from.within in let b =
 pub ends-as :
     (c : Start) (job : FeederJob) (f : Feeder) (end : FeederEnd) (before asked : List Asked) (calls grows : ℕ) → BeginsWith c job before → Rests c f asked calls grows
     → end.plan ≡ f.plan → end.sends ≡ f.sends → end.receives ≡ f.receives → end.clock ≡ f.clock → end.issued ≡ f.issued → end.marked ≡ f.marked → end.turns ≡ f.turns
-    → f.turns ≤ job.budget → (f.clock < clock_end job.stagger → f.turns < job.budget → ⊥) → EndsAs job end before asked
+    → f.turns ≤ job.budget → (f.clock < clock_end job.stagger → f.turns < job.budget → ⊥) → EndsByMachine job end before asked
 ends-as c job f end before asked calls grows b h plan sends receives clock issued marked turns within stops =
     let s = h.stands.state in
     record {

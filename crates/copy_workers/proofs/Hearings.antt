@@ -10,7 +10,7 @@ use Rattle.copy_workers.specs.declared.post.Asked.{Asked}
 use Rattle.copy_workers.specs.Asking.{arrival}
 use Rattle.copy_workers.specs.Feed.{Task, Hearing, Feed, missed, with_mark, with_command, heard, fed}
 use Rattle.copy_workers.specs.Feeding.{Hears, IsFed}
-use Rattle.copy_workers.specs.Refining.{Came, Outcome, HearsOnce, IsHeardAs, AllHeard, AllKept, HeardTo}
+use Rattle.copy_workers.specs.Refining.{Came, IsHandled, HearsOnce, IsHeardAs, AllHeard, AllKept, HeardTo}
 use Rattle.copy_workers.proofs.Lists.{all-at}
 use Rattle.copy_workers.proofs.Along.{all-get}
 use Rattle.copy_workers.proofs.Machine.{fed-missed, fed-mark, fed-command, fed-dropped}
@@ -133,7 +133,7 @@ hear-step job first asked_first s0 receives marks taken asked i new old mark tak
     go once.message once.came once.outcome split.0 split.1 split.2
   where
     go :
-        (message : Option Message) → Came message old new → Outcome message job.length job.foreign taken taken_now (get_or marks i 0) mark asked asked_now
+        (message : Option Message) → Came message old new → IsHandled message job.length job.foreign taken taken_now (get_or marks i 0) mark asked asked_now
         → (h : Hearing) (back : List Hearing) → f.rest ≡ h ∷ back
         → HeardTo job first asked_first s0 (set receives i new) (set marks i mark) taken_now asked_now (i + 1)
     go None came outcome h back rest =

@@ -16,7 +16,7 @@ use Rattle.link_ring.specs.declared.message.Message.TheVariants.{Cmd}
 use Rattle.link_ring.specs.Ends.{sent_of}
 use Rattle.copy_workers.specs.declared.post.Asked.{Asked}
 use Rattle.copy_workers.specs.Asking.{is_moved, arrival, AreArrivals, HasArrival, HasArrivals}
-use Rattle.copy_workers.specs.Sending.{HasRoom, IsSent, IsFrom, Issuing}
+use Rattle.copy_workers.specs.Sending.{MaySend, IsSent, IsFrom, Issuing}
 use Rattle.game_trait.proofs.Lists.{all-append, all-second}
 use Rattle.std.proofs.lemmas.List.{take-append-drop}
 use Rattle.std.proofs.lemmas.List.Elements.{filter-append}
@@ -45,7 +45,7 @@ sent-both more rest (x ∷ xs) (y ∷ ys) (z ∷ zs) h k = (
 )
 
 -- the room that is left
-pub room-left : (n m : ℕ) (more : List Message) (xs ys : List LinkSend) → m + length more ≤ n → AllByRecursion (HasRoom n) xs → AllZip (IsSent more) xs ys → AllByRecursion (HasRoom m) ys
+pub room-left : (n m : ℕ) (more : List Message) (xs ys : List LinkSend) → m + length more ≤ n → AllByRecursion (MaySend n) xs → AllZip (IsSent more) xs ys → AllByRecursion (MaySend m) ys
 room-left n m more [] [] e h k = tt
 room-left n m more [] (y ∷ ys) e h k = absurd k
 room-left n m more (x ∷ xs) [] e h k = absurd k
@@ -55,8 +55,8 @@ room-left n m more (x ∷ xs) (y ∷ ys) e h k = (
 )
 
 -- room for more is room for less
-pub room-less : (n m : ℕ) (xs : List LinkSend) → m ≤ n → AllByRecursion (HasRoom n) xs → AllByRecursion (HasRoom m) xs
-room-less n m xs e h = all-weaker (HasRoom n) (HasRoom m) xs (λ s r. record { room = (let a = r.room in omega arith) }) h
+pub room-less : (n m : ℕ) (xs : List LinkSend) → m ≤ n → AllByRecursion (MaySend n) xs → AllByRecursion (MaySend m) xs
+room-less n m xs e h = all-weaker (MaySend n) (MaySend m) xs (λ s r. record { room = (let a = r.room in omega arith) }) h
 
 -- one command more
 pub arrivals-push : (xs : List Command) (pairs : List Asked) (x : Command) (reply : Reply) → AreArrivals xs pairs → is_moved reply ≡ false → AreArrivals (xs ++ x ∷ []) (pairs ++ arrival x reply ∷ [])

@@ -6,7 +6,8 @@ use Rattle.game_trait.proofs.KeyOrder.{all-weaker}
 use Rattle.link_ring.specs.declared.message.Message.{Message}
 use Rattle.link_ring.specs.declared.message.Message.TheVariants.{Cmd, Mark}
 use Rattle.copy_workers.specs.Messages.{commands_in, IsOrderly}
-use Rattle.copy_workers.specs.Feed.{Task, Hearing, least_mark, total, missed, with_mark, with_command}
+use Rattle.tss_io.specs.Totals.{total}
+use Rattle.copy_workers.specs.Feed.{Task, Hearing, least_mark, missed, with_mark, with_command}
 use Rattle.copy_workers.specs.Feeding.{Hears, IsFair}
 use Rattle.copy_workers.proofs.Lists.{total-at, all-at, all-changed}
 use Rattle.copy_workers.proofs.MessageLists.{mark_after-mark, mark_after-command, commands_in-mark, commands_in-command, orderly-front, orderly-marks, length-parts}
@@ -96,7 +97,7 @@ least-all length (h ∷ hs) =
 pub least-tries :
     (length n : ℕ) (hs : List Hearing) → AllByRecursion Hears hs → AllByRecursion (λ h. IsOrderly length h.got) hs → AllByRecursion (λ h. h.tries ≡ n) hs
     → least_mark length hs < length → n ≤ least_mark length hs + total (λ h. heard_commands h + h.risen) hs
-unfolding least_mark total
+unfolding least_mark
 least-tries length n [] hears orderly tries below = absurd (omega arith)
 least-tries length n (h ∷ hs) hears orderly tries below =
     let parts = length-parts h.got in

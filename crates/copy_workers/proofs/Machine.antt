@@ -12,8 +12,9 @@ use Rattle.link_ring.specs.declared.message.Message.{Message}
 use Rattle.link_ring.specs.declared.message.Message.TheVariants.{Cmd, Mark}
 use Rattle.copy_workers.specs.declared.post.Asked.{Asked}
 use Rattle.copy_workers.specs.Messages.{tick_messages, messages, commands_in, last_mark, mark_after, IsOrderly}
-use Rattle.copy_workers.specs.Asking.{IsFeeding, is_moved, is_tick, is_arrival_of, arrival, moves, ticks_in, arrivals_of, ArrivesAt, ArrivesBy, AreArrivals}
-use Rattle.copy_workers.specs.Feed.{Task, Hearing, Feed, total, issued, missed, with_mark, with_command, heard, fed}
+use Rattle.copy_workers.specs.Asking.{IsFeeding, is_moved, is_tick, is_arrival_of, arrival, moves_in, ticks_in, arrivals_of, ArrivesAt, ArrivesBy, AreArrivals}
+use Rattle.tss_io.specs.Totals.{total}
+use Rattle.copy_workers.specs.Feed.{Task, Hearing, Feed, issued, missed, with_mark, with_command, heard, fed}
 use Rattle.copy_workers.specs.Feeding.{Turns, Hears, IsFair, InTime, IsBound, Keeps, IsFed}
 use Rattle.copy_workers.proofs.Lists.{all-at, all-changed, total-at, joined-more}
 use Rattle.copy_workers.proofs.MessageLists.{messages-more, commands_in-tick, commands_in-mark, commands_in-command, orderly-mark, orderly-command}
@@ -29,7 +30,7 @@ fed-issued job s pairs below unissued arrivals due f =
     let sends = f.feeds.sends in
     let turns = f.feeds.turns in
     let marked : s.marked ≡ s.clock = omega (arith, sends.least) in
-    let still : moves pairs ≡ 0 = arrivals-moves (due_at job.plan s.clock) pairs arrivals in
+    let still : moves_in pairs ≡ 0 = arrivals-moves (due_at job.plan s.clock) pairs arrivals in
     let none : ticks_in pairs ≡ 0 = arrivals-ticks (due_at job.plan s.clock) pairs arrivals in
     let commands : commands_in (s.sent ++ tick_messages job.plan s.clock) ≡ commands_in s.sent ++ due_at job.plan s.clock = commands_in-tick s.sent job.plan s.clock in
     record {
@@ -190,7 +191,7 @@ fed-command job s front h back x known reply place fewer still f =
     let before = subst (λ (l : List Hearing). IsFair job l → Keeps job (heard s l)) place f.keeps in
     let taken = subst (λ (l : List Hearing). s.taken ≤ total heard_commands l) place f.feeds.taken in
     let turns = turns-heard job s front h k back place f.feeds.turns in
-    let unmoved : moves more ≡ 0 = one (λ q. is_moved q.reply) pair ∙ rw still refl in
+    let unmoved : moves_in more ≡ 0 = one (λ q. is_moved q.reply) pair ∙ rw still refl in
     let no_tick : ticks_in more ≡ 0 = one (λ q. is_tick q.event) pair in
     record {
       feeds = record {
@@ -222,7 +223,7 @@ fed-command job s front h back x known reply place fewer still f =
             reply = reply;
             back = [];
             whole = refl;
-            here = bound-command job s.clock h (moves s.asked) (all-at Hears front h back hears).kept f.feeds.turns.clock low.0 (all-at (IsBound job s.clock) front h back keeps.bounds);
+            here = bound-command job s.clock h (moves_in s.asked) (all-at Hears front h back hears).kept f.feeds.turns.clock low.0 (all-at (IsBound job s.clock) front h back keeps.bounds);
           } in
           record {
             in_time =

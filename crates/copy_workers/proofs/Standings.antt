@@ -14,7 +14,7 @@ use Rattle.copy_workers.specs.declared.feeder.Feeder.{Feeder}
 use Rattle.copy_workers.specs.Asking.{HasArrivals}
 use Rattle.copy_workers.specs.Messages.{tick_messages, messages, commands_in, marks_in}
 use Rattle.copy_workers.specs.Feed.{issued}
-use Rattle.copy_workers.specs.Sending.{HasRoom, IsSent, IsFrom}
+use Rattle.copy_workers.specs.Sending.{MaySend, IsSent, IsFrom}
 use Rattle.copy_workers.specs.Refining.{AllHeard, AllKept}
 use Rattle.copy_workers.specs.Standing.{Start, Stands, InTurn}
 use Rattle.copy_workers.proofs.MessageLists.{length-parts, commands_in-tick}
@@ -58,7 +58,7 @@ due-times plan t = all-in_key_order (λ x. x.time ≡ t) (filter (λ x. x.time =
 -- there is room on each link for a whole tick
 pub issue-room :
     (c : Start) (f : Feeder) (asked : List Asked) (calls grows : ℕ) → Stands c f asked calls grows 0 → f.clock < f.bounds.length → f.marked ≤ f.clock
-    → AllByRecursion (HasRoom ((length f.plan.items - f.issued) + 1)) f.sends.items
+    → AllByRecursion (MaySend ((length f.plan.items - f.issued) + 1)) f.sends.items
 issue-room c f asked calls grows h below unissued =
     let sent = h.fed.feeds.sends.sent in
     let parts = length-parts h.state.sent in

@@ -9,8 +9,9 @@ use Rattle.game_trait.proofs.KeyOrder.{all-weaker}
 use Rattle.link_ring.specs.declared.message.Message.{Message}
 use Rattle.copy_workers.specs.declared.post.Asked.{Asked}
 use Rattle.copy_workers.specs.Messages.{messages, commands_in, last_mark, mark_after, IsOrderly}
-use Rattle.copy_workers.specs.Asking.{IsFeeding, is_moved, is_tick, is_arrival_of, ticking, moves, ticks_in, arrivals_of, ArrivesAt}
-use Rattle.copy_workers.specs.Feed.{Task, Hearing, Feed, last_clock, least_mark, IsHeld, total, ticked, rested, at_start}
+use Rattle.copy_workers.specs.Asking.{IsFeeding, is_moved, is_tick, is_arrival_of, ticking, moves_in, ticks_in, arrivals_of, ArrivesAt}
+use Rattle.tss_io.specs.Totals.{total}
+use Rattle.copy_workers.specs.Feed.{Task, Hearing, Feed, ending_clock, least_mark, IsHeldByMarks, ticked, rested, at_start}
 use Rattle.copy_workers.specs.Feeding.{Hears, InTime, IsBound, IsFed, IsBetween, GoesOn, joined}
 use Rattle.copy_workers.proofs.Lists.{joined-end, joined-rest, push-last}
 use Rattle.copy_workers.proofs.MessageLists.{orderly-most}
@@ -35,15 +36,15 @@ unfolding InTime
 nothing_in_time pace = tt
 
 -- one more turn that began below the last clock
-goes_on-push : (last clock : ℕ) (turns : List (List Asked)) (turn : List Asked) → GoesOn last clock turns → clock + moves (joined turns) < last → GoesOn last clock (turns ++ turn ∷ [])
+goes_on-push : (last clock : ℕ) (turns : List (List Asked)) (turn : List Asked) → GoesOn last clock turns → clock + moves_in (joined turns) < last → GoesOn last clock (turns ++ turn ∷ [])
 unfolding GoesOn joined
-goes_on-push last clock [] turn h below = ((let e : moves [] ≡ 0 = times-nothing (λ p. is_moved p.reply) in omega arith), tt)
+goes_on-push last clock [] turn h below = ((let e : moves_in [] ≡ 0 = times-nothing (λ p. is_moved p.reply) in omega arith), tt)
 goes_on-push last clock (t ∷ turns) turn h below =
-    (h.0, goes_on-push last (clock + moves t) turns turn h.1 (omega (arith, moves-append t (joined turns))))
+    (h.0, goes_on-push last (clock + moves_in t) turns turn h.1 (omega (arith, moves-append t (joined turns))))
 
 -- a tick is never more than one move
-move-most : (reply : Reply) → moves (ticking reply ∷ []) ≤ 1
-move-most reply = (let e = one (λ q. is_moved q.reply) (ticking reply) in elim (is_moved reply) as (λ v. moves (ticking reply ∷ []) ≡ cond v 1 0 → moves (ticking reply ∷ []) ≤ 1) [ true ↦ λ h. omega arith | false ↦ λ h. omega arith ] e)
+move-most : (reply : Reply) → moves_in (ticking reply ∷ []) ≤ 1
+move-most reply = (let e = one (λ q. is_moved q.reply) (ticking reply) in elim (is_moved reply) as (λ v. moves_in (ticking reply ∷ []) ≡ cond v 1 0 → moves_in (ticking reply ∷ []) ≤ 1) [ true ↦ λ h. omega arith | false ↦ λ h. omega arith ] e)
 
 -- where the clock isn't held, every mark holds it also after a tick
 bound-tick :
@@ -58,7 +59,7 @@ kept-most job h hears orderly = (let a = hears.kept in let b = orderly-most job.
 
 -- a turn ends with a tick
 pub fed-ticked :
-    (job : Task) (s : Feed) (reply : Reply) → s.clock < last_clock job
+    (job : Task) (s : Feed) (reply : Reply) → s.clock < ending_clock job
     → (s.clock + 1 ≤ least_mark job.length s.hearings + job.pace) ⊎ (job.length ≤ least_mark job.length s.hearings)
     → s.marked ≡ min job.length (s.clock + 1)
     → IsFed job s → IsFed job (ticked reply s)
@@ -68,7 +69,7 @@ fed-ticked job s reply below free marked f =
     let pair = ticking reply in
     let more = pair ∷ [] in
     let tick : ticks_in more ≡ 1 = one (λ q. is_tick q.event) pair in
-    let move : moves more ≡ cond (is_moved reply) 1 0 = one (λ q. is_moved q.reply) pair in
+    let move : moves_in more ≡ cond (is_moved reply) 1 0 = one (λ q. is_moved q.reply) pair in
     let most = move-most reply in
     record {
       feeds = record {
@@ -89,7 +90,7 @@ fed-ticked job s reply below free marked f =
           unmoved = times-nothing (λ p. is_moved p.reply);
           moved = omega (arith, ticks-append s.asked more, turns.moved);
           within = omega (arith, turns.within);
-          going = goes_on-push (last_clock job) 0 s.turns (s.here ++ more) turns.going (let a = ap (λ (l : List Asked). moves l) turns.pieces in let b = moves-append (joined s.turns) s.here in let c = turns.unmoved in let d = turns.clock in omega arith);
+          going = goes_on-push (ending_clock job) 0 s.turns (s.here ++ more) turns.going (let a = ap (λ (l : List Asked). moves_in l) turns.pieces in let b = moves-append (joined s.turns) s.here in let c = turns.unmoved in let d = turns.clock in omega arith);
           alone = λ e. (let a = ticks-append s.asked more in let b = turns.alone e in let c = length-append s.turns ((s.here ++ more) ∷ []) in omega arith);
         };
         hears = f.feeds.hears;
@@ -112,7 +113,7 @@ fed-ticked job s reply below free marked f =
 
 -- a turn ends without one
 pub fed-rested :
-    (job : Task) (s : Feed) → s.clock < last_clock job → IsHeld job s → AllByRecursion (λ h. h.tries ≡ length s.turns + 1) s.hearings
+    (job : Task) (s : Feed) → s.clock < ending_clock job → IsHeldByMarks job s → AllByRecursion (λ h. h.tries ≡ length s.turns + 1) s.hearings
     → IsFed job s → IsFed job (rested s)
 fed-rested job s below held tries f =
     let turns = f.feeds.turns in
@@ -129,7 +130,7 @@ fed-rested job s below held tries f =
           unmoved = times-nothing (λ p. is_moved p.reply);
           moved = turns.moved;
           within = turns.within;
-          going = goes_on-push (last_clock job) 0 s.turns s.here turns.going (let a = ap (λ (l : List Asked). moves l) turns.pieces in let b = moves-append (joined s.turns) s.here in let c = turns.unmoved in let d = turns.clock in omega arith);
+          going = goes_on-push (ending_clock job) 0 s.turns s.here turns.going (let a = ap (λ (l : List Asked). moves_in l) turns.pieces in let b = moves-append (joined s.turns) s.here in let c = turns.unmoved in let d = turns.clock in omega arith);
           alone = λ e. absurd (let a = ap (least_mark job.length) e in let b = held.1 in let c = least-none job.length in omega arith);
         };
         hears = f.feeds.hears;
@@ -162,7 +163,7 @@ between-ticked job s reply tries none =
     }
 
 -- between two turns, where the marks held
-pub between-rested : (job : Task) (s : Feed) → AllByRecursion (λ h. h.tries ≡ length s.turns + 1) s.hearings → IsHeld job s → IsBetween job (rested s)
+pub between-rested : (job : Task) (s : Feed) → AllByRecursion (λ h. h.tries ≡ length s.turns + 1) s.hearings → IsHeldByMarks job s → IsBetween job (rested s)
 between-rested job s tries held =
     record {
       here = refl;
@@ -191,13 +192,13 @@ fresh-in_time h pace fresh = subst (InTime [] pace 0) (sym fresh.1) (nothing_in_
 
 -- no command came
 fresh-count : (x : Command) (hs : List Hearing) → AllByRecursion IsFresh hs → total (λ h. times (same_command x) (commands_in h.got)) hs ≡ 0
-unfolding total times commands_in
+unfolding times commands_in
 fresh-count x [] fresh = refl
 fresh-count x (h ∷ hs) fresh = rw (fresh.0.1) (omega (arith, fresh-count x hs fresh.1))
 
 -- a feeder at its start
 pub fed-start : (job : Task) (hearings : List Hearing) → AllByRecursion IsFresh hearings → IsFed job (at_start hearings)
-unfolding messages commands_in times joined GoesOn total
+unfolding messages commands_in times joined GoesOn
 fed-start job hearings fresh =
     record {
       feeds = record {

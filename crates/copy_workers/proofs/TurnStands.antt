@@ -8,7 +8,7 @@ use Rattle.link_ring.specs.declared.receive.LinkReceive.{LinkReceive}
 use Rattle.copy_workers.specs.declared.post.Asked.{Asked}
 use Rattle.copy_workers.specs.declared.feeder.Feeder.{Feeder}
 use Rattle.copy_workers.specs.Asking.{is_moved, ticking}
-use Rattle.copy_workers.specs.Feed.{Hearing, least_mark, IsHeld, ticked, rested}
+use Rattle.copy_workers.specs.Feed.{Hearing, least_mark, IsHeldByMarks, ticked, rested}
 use Rattle.copy_workers.specs.Sending.{IsSent, IsFrom}
 use Rattle.copy_workers.specs.Refining.{AllHeard, AllKept}
 use Rattle.copy_workers.specs.Standing.{Start, InTurn, IsIssued, Rests, Goes}
@@ -100,7 +100,7 @@ rest-stands c f then asked calls grows n held count clock turns bounds plan send
     let tries = tries-there c f asked calls grows h in
     let least : least_mark f.bounds.length s.hearings ≡ least_mark c.job.length s.hearings = ap (λ (l : ℕ). least_mark l s.hearings) h.stands.limit in
     let long = heard-length c.receives f.receives.items s.hearings h.stands.heard in
-    let held_now : IsHeld c.job s = held-as f.clock s.clock (least_mark f.bounds.length s.hearings) (least_mark c.job.length s.hearings) f.bounds.length c.job.length f.bounds.pace c.job.pace
+    let held_now : IsHeldByMarks c.job s = held-as f.clock s.clock (least_mark f.bounds.length s.hearings) (least_mark c.job.length s.hearings) f.bounds.length c.job.length f.bounds.pace c.job.pace
     h.stands.clock least h.stands.limit h.stands.pace (held s.hearings (omega arith) h.stands.kept) in
     let more = length-append s.turns (s.here ∷ []) in
     record {

@@ -43,8 +43,8 @@ abbrev pub ticking : Reply → Asked
 ticking reply = pair_of Tick reply
 
 -- the clock after these pairs, counted from 0
-abbrev pub moves : List Asked → ℕ
-moves asked = times (λ p. is_moved p.reply) asked
+abbrev pub moves_in : List Asked → ℕ
+moves_in asked = times (λ p. is_moved p.reply) asked
 
 -- how many ticks were asked
 abbrev pub ticks_in : List Asked → ℕ
@@ -60,7 +60,7 @@ pub record ArrivesAt (asked : List Asked) (x : Command) (clock : ℕ) : Type 0 w
   pub reply : Reply
   pub back : List Asked
   pub whole : asked ≡ front ++ arrival x reply ∷ back
-  pub here : moves front ≡ clock
+  pub here : moves_in front ≡ clock
 
 -- an arrival of the command is asked at this clock at the latest
 pub record ArrivesBy (asked : List Asked) (x : Command) (latest : ℕ) : Type 0 where
@@ -68,7 +68,7 @@ pub record ArrivesBy (asked : List Asked) (x : Command) (latest : ℕ) : Type 0 
   pub reply : Reply
   pub back : List Asked
   pub whole : asked ≡ front ++ arrival x reply ∷ back
-  pub here : moves front ≤ latest
+  pub here : moves_in front ≤ latest
 
 -- the pairs are arrivals of these commands, one by one
 unfoldable pub AreArrivals : List Command → List Asked → Type 0

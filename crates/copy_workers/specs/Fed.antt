@@ -13,8 +13,8 @@ use Rattle.copy_workers.specs.declared.post.Asked.{Asked}
 use Rattle.copy_workers.specs.declared.feeder_job.FeederEnd.{FeederEnd}
 use Rattle.copy_workers.specs.declared.feeder_job.FeederJob.{FeederJob}
 use Rattle.copy_workers.specs.Messages.{messages, commands_in, last_mark, IsOrderly}
-use Rattle.copy_workers.specs.Asking.{IsFeeding, moves, ticks_in, arrivals_of, ArrivesAt, ArrivesBy}
-use Rattle.copy_workers.specs.Feed.{total}
+use Rattle.copy_workers.specs.Asking.{IsFeeding, moves_in, ticks_in, arrivals_of, ArrivesAt, ArrivesBy}
+use Rattle.tss_io.specs.Totals.{total}
 use Rattle.copy_workers.specs.Feeding.{joined, GoesOn}
 use Rattle.copy_workers.specs.Sending.{IsSent}
 
@@ -94,7 +94,7 @@ pub record FeederEnds (job : FeederJob) (end : FeederEnd) (before after : List A
   pub count : end.turns ≡ length turns
   pub feeding : AllByRecursion (λ p. IsFeeding p.event) asked
   pub single : AllByRecursion (λ turn. ticks_in turn ≤ 1) turns
-  pub clock : end.clock ≡ moves asked
+  pub clock : end.clock ≡ moves_in asked
   -- with no link every turn has a tick
   pub alone : job.receives.items ≡ [] → ticks_in asked ≡ end.turns
   -- where the last turn had none, and the clock isn't at its end, the marks hold the clock

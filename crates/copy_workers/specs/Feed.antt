@@ -45,8 +45,8 @@ pub record Feed : Type 0 where
   pub taken : ℕ
 
 -- the clock at which a feeder ends
-abbrev pub last_clock : Task → ℕ
-last_clock job = job.length + job.delay
+abbrev pub ending_clock : Task → ℕ
+ending_clock job = job.length + job.delay
 
 -- the least mark received; with no links the length
 unfoldable pub least_mark : ℕ → List Hearing → ℕ
@@ -54,15 +54,10 @@ least_mark length [] = length
 least_mark length (h ∷ rest) = min h.kept (least_mark length rest)
 
 -- the marks hold the clock where it is
-abbrev pub IsHeld : Task → Feed → Type 0
-IsHeld job s =
+abbrev pub IsHeldByMarks : Task → Feed → Type 0
+IsHeldByMarks job s =
     (least_mark job.length s.hearings + job.pace < s.clock + 1)
     × (least_mark job.length s.hearings < job.length)
-
--- the sum over links
-unfoldable pub total : {X : Type 0} → (X → ℕ) → List X → ℕ
-total f [] = 0
-total f (x ∷ xs) = f x + total f xs
 
 -- a tick is issued
 abbrev pub issued : Task → List Asked → Feed → Feed

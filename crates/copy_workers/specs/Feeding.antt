@@ -8,8 +8,9 @@ use Rattle.link_ring.specs.declared.message.Message.{Message}
 use Rattle.link_ring.specs.declared.message.Message.TheVariants.{Cmd, Mark}
 use Rattle.copy_workers.specs.declared.post.Asked.{Asked}
 use Rattle.copy_workers.specs.Messages.{messages, commands_in, last_mark, IsOrderly}
-use Rattle.copy_workers.specs.Asking.{IsFeeding, moves, ticks_in, arrivals_of, ArrivesAt, ArrivesBy}
-use Rattle.copy_workers.specs.Feed.{Task, Hearing, Feed, last_clock, IsHeld, total}
+use Rattle.copy_workers.specs.Asking.{IsFeeding, moves_in, ticks_in, arrivals_of, ArrivesAt, ArrivesBy}
+use Rattle.tss_io.specs.Totals.{total}
+use Rattle.copy_workers.specs.Feed.{Task, Hearing, Feed, ending_clock, IsHeldByMarks}
 
 -- what was sent, and how far
 pub record Sends (job : Task) (s : Feed) : Type 0 where
@@ -29,7 +30,7 @@ joined (x ∷ xs) = x ++ joined xs
 -- before each turn the clock was below the last
 unfoldable pub GoesOn : ℕ → ℕ → List (List Asked) → Type 0
 GoesOn last clock [] = Unit {0}
-GoesOn last clock (turn ∷ rest) = (clock < last) × GoesOn last (clock + moves turn) rest
+GoesOn last clock (turn ∷ rest) = (clock < last) × GoesOn last (clock + moves_in turn) rest
 
 -- of any links: ticks and arrivals alone, a tick a turn, the clock, and that no turn began too late
 pub record Turns (job : Task) (s : Feed) : Type 0 where
@@ -37,11 +38,11 @@ pub record Turns (job : Task) (s : Feed) : Type 0 where
   pub feeding : AllByRecursion (λ p. IsFeeding p.event) s.asked
   pub single : AllByRecursion (λ turn. ticks_in turn ≤ 1) s.turns
   pub none_here : ticks_in s.here ≡ 0
-  pub clock : s.clock ≡ moves s.asked
-  pub unmoved : moves s.here ≡ 0
+  pub clock : s.clock ≡ moves_in s.asked
+  pub unmoved : moves_in s.here ≡ 0
   pub moved : s.clock ≤ ticks_in s.asked
-  pub within : s.clock ≤ last_clock job
-  pub going : GoesOn (last_clock job) 0 s.turns
+  pub within : s.clock ≤ ending_clock job
+  pub going : GoesOn (ending_clock job) 0 s.turns
   -- with no link every turn asks a tick
   pub alone : s.hearings ≡ [] → ticks_in s.asked ≡ length s.turns
 
@@ -100,4 +101,4 @@ pub record IsBetween (job : Task) (s : Feed) : Type 0 where
   pub here : s.here ≡ []
   pub tries : AllByRecursion (λ h. h.tries ≡ length s.turns) s.hearings
   pub held : (front : List (List Asked)) (turn : List Asked) → s.turns ≡ front ++ turn ∷ []
-      → ticks_in turn ≡ 0 → s.clock < last_clock job → IsHeld job s
+      → ticks_in turn ≡ 0 → s.clock < ending_clock job → IsHeldByMarks job s

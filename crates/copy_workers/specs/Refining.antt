@@ -22,12 +22,12 @@ Came (Some x) old new =
 
 -- what is done with it: the limit of times, how many commands may be asked, how many were, the mark
 -- kept, what was asked
-abbrev pub Outcome : Option Message → ℕ → ℕ → ℕ → ℕ → ℕ → ℕ → List Asked → List Asked → Type 0
-Outcome None limit foreign taken taken_now mark mark_now asked asked_now =
+abbrev pub IsHandled : Option Message → ℕ → ℕ → ℕ → ℕ → ℕ → ℕ → List Asked → List Asked → Type 0
+IsHandled None limit foreign taken taken_now mark mark_now asked asked_now =
     (taken_now ≡ taken) × (mark_now ≡ mark) × (asked_now ≡ asked)
-Outcome (Some (Mark n)) limit foreign taken taken_now mark mark_now asked asked_now =
+IsHandled (Some (Mark n)) limit foreign taken taken_now mark mark_now asked asked_now =
     (taken_now ≡ taken) × (mark_now ≡ n) × (asked_now ≡ asked)
-Outcome (Some (Cmd x)) limit foreign taken taken_now mark mark_now asked asked_now =
+IsHandled (Some (Cmd x)) limit foreign taken taken_now mark mark_now asked asked_now =
     (mark_now ≡ mark)
     × (((taken_now ≡ taken + 1) × HasArrival x asked asked_now)
     ⊎ ((x.time < limit → taken < foreign → ⊥) × (taken_now ≡ taken) × (asked_now ≡ asked)))
@@ -38,7 +38,7 @@ pub record HearsOnce (limit foreign : ℕ) (old new : LinkReceive) (mark mark_no
   pub message : Option Message
   pub came : Came message old new
   pub same : SameReceive old new
-  pub outcome : Outcome message limit foreign taken taken_now mark mark_now before after
+  pub outcome : IsHandled message limit foreign taken taken_now mark mark_now before after
 
 -- a link's end as it was handed in, the same end now, and what the machine knows of it
 pub record IsHeardAs (first now : LinkReceive) (h : Hearing) : Type 0 where

@@ -10,7 +10,7 @@ use Rattle.link_ring.specs.declared.send.LinkSend.{LinkSend}
 use Rattle.link_ring.specs.Ends.{sent_of, room_of, SameSend}
 
 -- so many more messages may be sent
-pub record HasRoom (n : ℕ) (s : LinkSend) : Type 0 where
+pub record MaySend (n : ℕ) (s : LinkSend) : Type 0 where
   pub room : length (sent_of s) + n ≤ room_of s
 
 -- the same end, with these messages sent

@@ -11,9 +11,9 @@ use Rattle.copy_workers.specs.declared.feeder.Feeder.{Feeder}
 use Rattle.copy_workers.specs.declared.feeder_job.FeederEnd.{FeederEnd}
 use Rattle.copy_workers.specs.declared.feeder_job.FeederJob.{FeederJob}
 use Rattle.copy_workers.specs.Messages.{commands_in}
-use Rattle.copy_workers.specs.Feed.{Task, Feed, last_clock}
+use Rattle.copy_workers.specs.Feed.{Task, Feed, ending_clock}
 use Rattle.copy_workers.specs.Feeding.{IsFed, IsBetween}
-use Rattle.copy_workers.specs.Sending.{HasRoom, IsSent, IsFrom}
+use Rattle.copy_workers.specs.Sending.{MaySend, IsSent, IsFrom}
 use Rattle.copy_workers.specs.Refining.{AllHeard, AllKept}
 
 -- what a feeder began with
@@ -24,7 +24,7 @@ pub record Start : Type 0 where
   pub asked : List Asked
   pub budget : ℕ
   pub rises : KeysRise job.plan
-  pub room : AllByRecursion (HasRoom (length job.plan + job.length)) sends
+  pub room : AllByRecursion (MaySend (length job.plan + job.length)) sends
   pub misses : AllByRecursion (λ r. misses_of r < 2 ^ 63) receives
   pub seven : length receives ≤ 7
   pub short : budget < 2 ^ 63
@@ -59,7 +59,7 @@ pub record InTurn (c : Start) (f : Feeder) (asked : List Asked)
     (calls grows spent tried : ℕ) : Type 0 where
   pub stands : Stands c f asked calls grows spent
   pub tries : AllByRecursion (λ h. h.tries ≡ f.turns + tried) stands.state.hearings
-  pub below : f.clock < last_clock c.job
+  pub below : f.clock < ending_clock c.job
   pub going : f.turns < c.budget
 
 -- the tick of the clock is issued
@@ -91,7 +91,8 @@ pub record BeginsWith (c : Start) (job : FeederJob) (asked : List Asked) : Type 
   pub budget : c.budget ≡ job.budget
 
 -- where a feeder ends, by the machine
-pub record EndsAs (job : FeederJob) (end : FeederEnd) (before after : List Asked) : Type 0 where
+pub record EndsByMachine (job : FeederJob) (end : FeederEnd)
+    (before after : List Asked) : Type 0 where
   pub state : Feed
   pub fed : IsFed (task_of job) state
   pub between : IsBetween (task_of job) state
@@ -109,5 +110,5 @@ pub record EndsAs (job : FeederJob) (end : FeederEnd) (before after : List Asked
 -- between two turns, and a turn begins
 pub record Goes (c : Start) (f : Feeder) (asked : List Asked) (calls grows : ℕ) : Type 0 where
   pub rests : Rests c f asked calls grows
-  pub below : f.clock < last_clock c.job
+  pub below : f.clock < ending_clock c.job
   pub going : f.turns < c.budget

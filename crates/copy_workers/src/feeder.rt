@@ -7,7 +7,7 @@ ghost use Rattle.game_trait.specs.Keys.{KeysRise};
 ghost use Rattle.link_ring.specs.Ends.{misses_of};
 ghost use Rattle.game_trait.specs.Events.{is_moved};
 ghost use Rattle.copy_workers.specs.Asking.{IsFeedingBelow};
-ghost use Rattle.copy_workers.specs.Sending.{HasRoom};
+ghost use Rattle.copy_workers.specs.Sending.{MaySend};
 ghost use Rattle.copy_workers.specs.Fed.{FeederEnds};
 
 use crate::feeder_job::{FeederEnd, FeederJob};
@@ -172,7 +172,7 @@ impl Feeder {
     ghost use Rattle.std.specs.Prelude.{vec_len};
     ghost use Rattle.game_trait.specs.declared.event.Event.{Event};
     ghost use Rattle.copy_workers.specs.Asking.{IsFeedingBelow};
-    ghost use Rattle.copy_workers.specs.Feed.{last_clock};
+    ghost use Rattle.copy_workers.specs.Feed.{ending_clock};
     ghost use Rattle.copy_workers.specs.Standing.{Start, Rests, Goes};
 
     // One turn.
@@ -236,7 +236,7 @@ impl Feeder {
 pub fn run_feeder<P: Post, Q: Gate>(post: &mut P, gate: &Q, job: FeederJob) -> FeederEnd
     requires rises { KeysRise job.plan.items }
     requires room { AllByRecursion
-        (HasRoom (length job.plan.items + job.stagger.length)) job.sends.items }
+        (MaySend (length job.plan.items + job.stagger.length)) job.sends.items }
     requires misses { AllByRecursion (λ r. misses_of r < 2 ^ 63) job.receives.items }
     requires seven { length job.receives.items ≤ 7 }
     requires budget { job.budget < 2 ^ 63 }

@@ -8,7 +8,7 @@ ghost use Rattle.game_trait.specs.Ordered.{due_at};
 ghost use Rattle.link_ring.specs.declared.message.Message.TheVariants.{Cmd};
 ghost use Rattle.copy_workers.specs.Asking.{IsFeedingBelow, HasArrival, HasArrivals};
 ghost use Rattle.copy_workers.specs.Messages.{tick_messages};
-ghost use Rattle.copy_workers.specs.Sending.{HasRoom, IsSent, IsFrom};
+ghost use Rattle.copy_workers.specs.Sending.{MaySend, IsSent, IsFrom};
 
 use crate::post::Post;
 use crate::sends::send_all;
@@ -21,7 +21,7 @@ pub fn issue_one<P: Post>(post: &mut P, sends: &mut [LinkSend], x: &Command, len
     requires due { x.now.time < length }
     requires calls { 0 < P.calls post.old }
     requires grows { 0 < P.grows post.old }
-    requires room { AllByRecursion (HasRoom 1) sends.old }
+    requires room { AllByRecursion (MaySend 1) sends.old }
     ensures asked { HasArrival x.now (P.asked post.old) (P.asked post.new) }
     ensures calls { P.calls post.new + 1 ≡ P.calls post.old }
     ensures grows { P.grows post.new + 1 ≡ P.grows post.old }
@@ -49,7 +49,7 @@ pub fn issue_tick<P: Post>(
     requires takes { (e : Event) → IsFeedingBelow limit e → P.takes post.old e }
     requires calls { length plan.now ≤ P.calls post.old + issued }
     requires grows { length plan.now ≤ P.grows post.old + issued }
-    requires room { AllByRecursion (HasRoom ((length plan.now - issued) + 1)) sends.old }
+    requires room { AllByRecursion (MaySend ((length plan.now - issued) + 1)) sends.old }
     ensures asked { HasArrivals (due_at plan.now t) (P.asked post.old) (P.asked post.new) }
     ensures sent { AllZip (IsSent (tick_messages plan.now t)) sends.old sends.new }
     ensures from { IsFrom plan.now result (t + 1) }

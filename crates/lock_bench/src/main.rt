@@ -5,7 +5,7 @@
 
 ghost use Rattle.std.specs.Prelude.{◌≡◌, ◌<◌, ◌≤◌, ◌^◌, length};
 ghost use Rattle.std.specs.List.{All};
-ghost use Rattle.turn_lock.specs.Totals.{total};
+ghost use Rattle.tss_io.specs.Totals.{total};
 
 use std::alloc::Global;
 use std::sync::{Mutex, Wait};

@@ -6,6 +6,7 @@ use Rattle.std.proofs.lemmas.Bool.{ltb-false}
 use Rattle.std.proofs.lemmas.List.{length-map}
 use Rattle.game_trait.specs.declared.limits.TheConstants.{LONGEST_MATCH_TEXT}
 use Rattle.command_lines.specs.CommandLine.{command_line}
+use Rattle.tss_io.specs.declared.limits.TheConstants.{LONGEST_LINE}
 use Rattle.tss_io.specs.Lines.{as_line, lines_text}
 use Rattle.tss_io.proofs.KindLaws.{line_length, line_short}
 use Rattle.tss_io.proofs.Printing.{lines_text-append}
@@ -76,7 +77,7 @@ closing_length Ended (x ∷ script) n le =
 
 head_length : (o : Opening) → IsOpening o → length (lines_text (front_lines o)) ≤ 726
 head_length o is =
-    lines_length 120 (front_lines o)
+    lines_length LONGEST_LINE (front_lines o)
     (ltb-false _ _ (head_short o.version is.version), (ltb-false _ _ (line_short length_exact tt o.length is.length), (ltb-false _ _ (line_short grid_exact tt (o.width, o.height) is.grid), (ltb-false _ _ (line_short mirrors_exact tt o.mirrors is.mirrors), (ltb-false _ _ (line_short delays_exact tt o.delays is.delays), (ltb-false _ _ (line_short (pace_exact o.delays) tt o.pace is.pace), tt))))))
 
 pub read_length : (o : Opening) (b : Body) → IsRead o b → length (lines_text (front_lines o ++ body_lines b)) ≤ LONGEST_MATCH_TEXT
@@ -87,7 +88,7 @@ read_length o b read =
     let small = opening_small o is in
     let c = counts_of o b is h in
     let front = head_length o is in
-    let plans = section_length plan_line b.plans 120 7 (each_all (PlanRight o) plan_line (λ l. length l ≤ 120) (λ before a r. ltb-false _ _ (line_short (plan_exact o small) _ a r)) [] b.plans h.plans) c.plans in
+    let plans = section_length plan_line b.plans LONGEST_LINE 7 (each_all (PlanRight o) plan_line (λ l. length l ≤ LONGEST_LINE) (λ before a r. ltb-false _ _ (line_short (plan_exact o small) _ a r)) [] b.plans h.plans) c.plans in
     let walls = section_length wall_line b.walls 26 4096 (each_all (WallRight o) wall_line (λ l. length l ≤ 26) (λ before a r. line_length (wall_exact o) _ a r) [] b.walls h.walls) c.walls in
     let pickups = section_length pickup_line b.pickups 33 32 (each_all (PickupRight o b.walls) pickup_line (λ l. length l ≤ 33) (λ before a r. line_length (pickup_exact o) _ a r) [] b.pickups h.pickups) c.pickups in
     let players = section_length home_line b.players 60 32 (each_all (PlayerRight o b.walls b.pickups) home_line (λ l. length l ≤ 60) (player_short o b.walls b.pickups) [] b.players h.players) c.players in

@@ -26,7 +26,7 @@ use Rattle.match_file.specs.Data.{IsMatch, IsCommand, IsScriptLine, shows, sched
 use Rattle.match_file.specs.declared.script_line.ScriptLine.{ScriptLine}
 use Rattle.match_file.specs.declared.script_line.ScriptLine.TheVariants.{Arrive, Turn}
 use Rattle.match_maker.specs.Draws.{drawn}
-use Rattle.match_maker.specs.Generator.{name_at, act_of, command_at, lag, arrival, arrivals, mirror_lines, tick_lines, made}
+use Rattle.match_maker.specs.Generator.{name_at, act_of, command_at, lag, arrival_lines, arrivals, mirror_lines, tick_lines, match_of_number}
 use Rattle.match_maker.proofs.Lists.{length_each, all_joined, all_each}
 use Rattle.match_maker.proofs.Bounds.{drawn-below}
 use Rattle.match_maker.proofs.Drawing.{command_at-new}
@@ -67,7 +67,7 @@ names-apart : IsDistinct bytes_eq (each_below name_at 16)
 unfolding joined_below digits
 names-apart = IsDistinct-from_test bytes_eq (each_below name_at 16) refl
 
-delays-made : (seed : ℕ) → IsSchedule (schedule_of (made seed) (0 ∷ 4 ∷ 8 ∷ 16 ∷ 32 ∷ []))
+delays-made : (seed : ℕ) → IsSchedule (schedule_of (match_of_number seed) (0 ∷ 4 ∷ 8 ∷ 16 ∷ 32 ∷ []))
 unfolding DelaysRise
 delays-made seed = record {
   some_copy = lit< tt;
@@ -92,7 +92,7 @@ act_of-plain a =
       ]
     ]
 
-IsCommand-made : (seed j : ℕ) → j < 4096 → IsCommand (made seed) (command_at seed j)
+IsCommand-made : (seed j : ℕ) → j < 4096 → IsCommand (match_of_number seed) (command_at seed j)
 IsCommand-made seed j h = record {
   time = omega (arith, h);
   from = omega arith;
@@ -131,11 +131,11 @@ command_at-found seed (suc n) j h =
 
 -- a line that the script may have
 record IsMadeLine (seed : ℕ) (l : ScriptLine) : Type 0 where
-  there : IsScriptLine (made seed) l
+  there : IsScriptLine (match_of_number seed) l
   silent : shows l ≡ false
 
-arrival-made : (seed tick mirror j : ℕ) → mirror < 8 → j < 4096 → AllByRecursion (IsMadeLine seed) (arrival seed tick mirror j)
-unfolding arrival
+arrival-made : (seed tick mirror j : ℕ) → mirror < 8 → j < 4096 → AllByRecursion (IsMadeLine seed) (arrival_lines seed tick mirror j)
+unfolding arrival_lines
 arrival-made seed tick mirror j m h =
     elim (j / 8 + lag seed j mirror == tick) as (λ v. AllByRecursion (IsMadeLine seed) (cond v (Arrive mirror (j % 8) (j / 8) ∷ []) [])) [
       | true ↦ (record { there = (m, omega arith, omega (arith, h), command_at-found seed 4096 j h); silent = refl }, tt)
@@ -146,7 +146,7 @@ script-made : (seed : ℕ) → AllByRecursion (IsMadeLine seed) (joined_below (t
 script-made seed =
     all_joined (IsMadeLine seed) (tick_lines seed) 544 (λ tick t. all_joined (IsMadeLine seed) (mirror_lines seed tick) 8
     (λ mirror m. all_append (IsMadeLine seed) (arrivals seed tick mirror) (Turn mirror ∷ [])
-    (all_joined (IsMadeLine seed) (arrival seed tick mirror) 4096 (λ j h. arrival-made seed tick mirror j m h))
+    (all_joined (IsMadeLine seed) (arrival_lines seed tick mirror) 4096 (λ j h. arrival-made seed tick mirror j m h))
     (record { there = m; silent = refl }, tt)))
 
 -- lines that show nothing
@@ -154,15 +154,15 @@ filter-silent : (seed : ℕ) (ls : List ScriptLine) → AllByRecursion (IsMadeLi
 filter-silent seed [] h = refl
 filter-silent seed (l ∷ ls) h = rw (h.0).silent (filter-silent seed ls h.1)
 
-there-made : (seed : ℕ) (ls : List ScriptLine) → AllByRecursion (IsMadeLine seed) ls → AllByRecursion (IsScriptLine (made seed)) ls
+there-made : (seed : ℕ) (ls : List ScriptLine) → AllByRecursion (IsMadeLine seed) ls → AllByRecursion (IsScriptLine (match_of_number seed)) ls
 there-made seed [] h = tt
 there-made seed (l ∷ ls) h = ((h.0).there, there-made seed ls h.1)
 
 -- ---- the match
 
-pub IsMatch-made : (seed : ℕ) → IsMatch (made seed)
+pub IsMatch-match_of_number : (seed : ℕ) → IsMatch (match_of_number seed)
 unfolding last_of
-IsMatch-made seed = record {
+IsMatch-match_of_number seed = record {
   version = inl refl;
   ticks = (lit≤ tt, lit≤ tt);
   mirrors = (lit≤ tt, lit≤ tt);
@@ -176,7 +176,7 @@ IsMatch-made seed = record {
   names = are_names;
   named_apart = names-apart;
   command_count = omega (arith, length_each (command_at seed) 4096);
-  commands = all_each (IsCommand (made seed)) (command_at seed) 4096 (IsCommand-made seed);
+  commands = all_each (IsCommand (match_of_number seed)) (command_at seed) 4096 (IsCommand-made seed);
   commands_differ = NamesDiffer-made seed 4096;
   script_count = omega (arith, length_script seed);
   script = there-made seed _ (script-made seed);
@@ -186,7 +186,7 @@ IsMatch-made seed = record {
 -- the same of parts that are equal
 pub IsMatch-of : (seed lags : ℕ) (delays : List ℕ) (plans : List (List ℕ)) (layout : Layout) (names : List (List ℕ))
     (commands : List Command) (script : List ScriptLine)
-    → delays ≡ (made seed).delays → plans ≡ [] → layout ≡ the_layout → names ≡ each_below name_at 16
+    → delays ≡ (match_of_number seed).delays → plans ≡ [] → layout ≡ the_layout → names ≡ each_below name_at 16
     → commands ≡ each_below (command_at seed) 4096 → lags ≡ seed → script ≡ joined_below (tick_lines lags) 544
     → IsMatch (record {
       version = 1;
@@ -202,7 +202,7 @@ pub IsMatch-of : (seed lags : ℕ) (delays : List ℕ) (plans : List (List ℕ))
     })
 IsMatch-of seed lags delays plans layout names commands script d p l n c g s =
     let t = s ∙ ap (λ k. joined_below (tick_lines k) 544) g in
-    let same : made seed ≡ record {
+    let same : match_of_number seed ≡ record {
       version = 1;
       length = 512;
       mirrors = 8;
@@ -225,4 +225,4 @@ IsMatch-of seed lags delays plans layout names commands script d p l n c g s =
       commands = sym c i;
       script = sym t i;
     } in
-    subst IsMatch same (IsMatch-made seed)
+    subst IsMatch same (IsMatch-match_of_number seed)

@@ -6,13 +6,13 @@ abbrev pub next_state : ℕ → ℕ
 next_state s = (1664525 * s + 1013904223) % (2 ^ 32)
 
 -- the state that a seed leads to by so many draws
-unfoldable pub state_after : ℕ → ℕ → ℕ
-state_after seed zero = seed
-state_after seed (suc n) = next_state (state_after seed n)
+unfoldable pub state_by_draws : ℕ → ℕ → ℕ
+state_by_draws seed zero = seed
+state_by_draws seed (suc n) = next_state (state_by_draws seed n)
 
 -- what is drawn below k, behind so many draws
 unfoldable pub drawn : ℕ → ℕ → ℕ → ℕ
-drawn seed n k = (state_after seed (n + 1) / 2 ^ 16) % k
+drawn seed n k = (state_by_draws seed (n + 1) / 2 ^ 16) % k
 
 -- draws from a seed: how many there were
 pub record DrawsSoFar : Type 0 where

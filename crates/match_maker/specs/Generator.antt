@@ -79,13 +79,13 @@ lag seed j mirror = if mirror == j % 8 then 0 else drawn seed (draws_before_lag 
 -- ---- the script
 
 -- command j arrives at this mirror in this tick of the script, or not
-unfoldable pub arrival : ℕ → ℕ → ℕ → ℕ → List ScriptLine
-arrival seed tick mirror j =
+unfoldable pub arrival_lines : ℕ → ℕ → ℕ → ℕ → List ScriptLine
+arrival_lines seed tick mirror j =
     if j / 8 + lag seed j mirror == tick then Arrive mirror (j % 8) (j / 8) ∷ [] else []
 
 -- what arrives at a mirror in a tick
 abbrev pub arrivals : ℕ → ℕ → ℕ → List ScriptLine
-arrivals seed tick mirror = joined_below (arrival seed tick mirror) 4096
+arrivals seed tick mirror = joined_below (arrival_lines seed tick mirror) 4096
 
 -- a tick of the script at a mirror: the arrivals, and then a turn
 abbrev pub mirror_lines : ℕ → ℕ → ℕ → List ScriptLine
@@ -98,8 +98,8 @@ tick_lines seed tick = joined_below (mirror_lines seed tick) 8
 -- ---- the match
 
 -- the match that a number makes
-abbrev pub made : ℕ → MatchData
-made seed = record {
+abbrev pub match_of_number : ℕ → MatchData
+match_of_number seed = record {
   version = 1;
   length = 512;
   mirrors = 8;

@@ -18,18 +18,18 @@ pub struct Draws {
 
 impl Model for Draws {
     ghost use Rattle.std.specs.Prelude.{◌≡◌};
-    ghost use Rattle.match_maker.specs.Draws.{state_after, DrawsSoFar};
+    ghost use Rattle.match_maker.specs.Draws.{state_by_draws, DrawsSoFar};
 
     ghost Value = { DrawsSoFar };
 
     ghost view = { λ d. record { seed = d.seed; count = d.drawn } };
 
-    ghost invariant = { λ d. d.state ≡ state_after d.seed d.drawn };
+    ghost invariant = { λ d. d.state ≡ state_by_draws d.seed d.drawn };
 }
 
 impl Draws {
     /// No number is drawn yet.
-    #[tactic(auto, unfolding(crate::specs::Draws::state_after))]
+    #[tactic(auto, unfolding(crate::specs::Draws::state_by_draws))]
     pub fn new(seed: u32) -> Draws
         ensures { result ≡ record { seed = seed; count = 0 } }
     {
@@ -41,7 +41,7 @@ impl Draws {
     }
 
     /// The next number, below the given one.
-    #[tactic(auto, unfolding(crate::specs::Draws::state_after, crate::specs::Draws::drawn))]
+    #[tactic(auto, unfolding(crate::specs::Draws::state_by_draws, crate::specs::Draws::drawn))]
     pub fn draw(&mut self, below: u32) -> u32
         requires below { 0 < below }
         requires count { self.old.count < 2 ^ 32 - 1 }

@@ -1,7 +1,7 @@
 //! The match of a number.
 
 ghost use Rattle.std.specs.Prelude.{◌≡◌, ◌∷◌, [], IfOk};
-ghost use Rattle.match_maker.specs.Generator.{made};
+ghost use Rattle.match_maker.specs.Generator.{match_of_number};
 
 use crate::arena::{roster, setup};
 use crate::commands::commands_of;
@@ -20,7 +20,7 @@ fn delays(alloc: Global) -> Result<Seq<u32>, NoMemory>
 /// each of which arrives at each mirror at most 31 ticks behind its time. The generator is this
 /// project's own.
 pub fn make_match(alloc: Global, seed: u32) -> Result<Match, NoMemory>
-    ensures { IfOk result (λ m. m ≡ made seed) }
+    ensures { IfOk result (λ m. m ≡ match_of_number seed) }
 {
     let delays = delays(alloc)?;
     let roster = roster(alloc)?;

@@ -2,7 +2,7 @@
 
 ghost use Rattle.std.specs.Prelude.{◌≡◌, ◌<◌, ◌++◌, IfOk, OnOk};
 ghost use Rattle.match_maker.specs.Below.{joined_below};
-ghost use Rattle.match_maker.specs.Generator.{arrival, arrivals, mirror_lines, tick_lines};
+ghost use Rattle.match_maker.specs.Generator.{arrival_lines, arrivals, mirror_lines, tick_lines};
 
 use crate::lags::Lags;
 use game_trait::{MirrorId, Tick};
@@ -11,7 +11,7 @@ use std::alloc::Global;
 use tss_io::{NoMemory, Seq};
 
 // The line of a command's arrival, if it arrives at the mirror in this tick.
-#[tactic(auto, unfolding(crate::specs::Generator::arrival))]
+#[tactic(auto, unfolding(crate::specs::Generator::arrival_lines))]
 fn push_arrival(
     script: &mut Seq<ScriptLine>,
     lags: &Lags,
@@ -21,7 +21,7 @@ fn push_arrival(
 ) -> Result<(), NoMemory>
     requires place { place < 4096 }
     requires mirror { mirror < 8 }
-    ensures { OnOk result (script.new ≡ script.old ++ arrival lags.now tick mirror place) }
+    ensures { OnOk result (script.new ≡ script.old ++ arrival_lines lags.now tick mirror place) }
 {
     if place / 8 + lags.at(place, mirror) != tick {
         return Ok(());

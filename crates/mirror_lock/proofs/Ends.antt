@@ -21,26 +21,26 @@ use Rattle.turn_lock.specs.declared.view.Member.{Member}
 use Rattle.turn_lock.specs.Histories.{value, IsSound}
 use Rattle.turn_lock.specs.Closing.{IsHistoryOf}
 use Rattle.mirror_lock.specs.Locked.{next_locked, said_locked, FitsLocked, mirror_rules}
-use Rattle.mirror_lock.specs.Ending.{events_in, events_of, EndsAs}
+use Rattle.mirror_lock.specs.Ending.{events_of_call, events_of_log, EndsAs}
 
 module _ {W : Type 0} (game : GameRules W) where
   -- a call leads to the state after the event for which it stands, if it stands for one
   after_call :
       (s : MirrorState W) (q : LockCall W) (r : LockReply W) (es : List AnEvent) → r ≡ said_locked game s q
-      → after s (events_in q r ++ es) ≡ after (next_locked s q) es
+      → after s (events_of_call q r ++ es) ≡ after (next_locked s q) es
   unfolding after
   after_call s (Event e) r es told = refl
   after_call s (Draft c) r es told = refl
   after_call s (Commit t) r es told =
-      subst (λ (reply : LockReply W). after s (events_in (Commit t) reply ++ es) ≡ after (committed_to s t) es) (sym told)
-      (elim (is_current s t) as (λ v. after s (events_in (Commit t) (ToCommit (cond v (Ran (repaired s.accepted (proposed_by_step s.accepted s.runs t.copy))) (Stale t.epoch (epoch s t.copy)))) ++ es) ≡ after (cond v (next s (Step t.copy)) s) es)
+      subst (λ (reply : LockReply W). after s (events_of_call (Commit t) reply ++ es) ≡ after (committed_to s t) es) (sym told)
+      (elim (is_current s t) as (λ v. after s (events_of_call (Commit t) (ToCommit (cond v (Ran (repaired s.accepted (proposed_by_step s.accepted s.runs t.copy))) (Stale t.epoch (epoch s t.copy)))) ++ es) ≡ after (cond v (next s (Step t.copy)) s) es)
       [ true ↦ refl | false ↦ refl ])
 
   -- the value after a history is the state after its events
-  value_is_after : (s : MirrorState W) (log : List (Entry (LockCall W) (LockReply W))) → IsSound (mirror_rules game) s log → value (mirror_rules game) s log ≡ after s (events_of log)
+  value_is_after : (s : MirrorState W) (log : List (Entry (LockCall W) (LockReply W))) → IsSound (mirror_rules game) s log → value (mirror_rules game) s log ≡ after s (events_of_log log)
   unfolding after
   value_is_after s [] sound = refl
-  value_is_after s (e ∷ log) sound = value_is_after (next_locked s e.call) log sound.2 ∙ sym (after_call s e.call e.reply (events_of log) sound.1)
+  value_is_after s (e ∷ log) sound = value_is_after (next_locked s e.call) log sound.2 ∙ sym (after_call s e.call e.reply (events_of_log log) sound.1)
 
   -- no call of a sound history puts another plan in force
   plan_stays : (s : MirrorState W) (q : LockCall W) → FitsLocked game s q → (next_locked s q).plan ≡ s.plan
@@ -59,11 +59,11 @@ module _ {W : Type 0} (game : GameRules W) where
       → IsConsistent mirror
       → EndsAs game opening seats mirror
   ends_as opening seats mirror whole consistent =
-      let is : mirror ≡ after opening (events_of whole.log) = whole.object_is ∙ value_is_after opening whole.log whole.sound in
+      let is : mirror ≡ after opening (events_of_log whole.log) = whole.object_is ∙ value_is_after opening whole.log whole.sound in
       record {
         whole = whole;
-        history = ap (λ (s : MirrorState W). s.history) is ∙ history_grows opening (events_of whole.log);
-        state = is ∙ sym (changing_events_suffice (events_of whole.log) opening);
+        history = ap (λ (s : MirrorState W). s.history) is ∙ history_grows opening (events_of_log whole.log);
+        state = is ∙ sym (changing_events_suffice (events_of_log whole.log) opening);
         same_plan = ap (λ (s : MirrorState W). s.plan) whole.object_is ∙ same_plan opening whole.log whole.sound;
         consistent = consistent;
       }

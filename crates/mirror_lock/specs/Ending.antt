@@ -19,18 +19,18 @@ use Rattle.turn_lock.specs.Closing.{IsHistoryOf}
 
 -- the event that a call with its reply stands for, if it stands for one: a commit that ran stands
 -- for a step of its copy
-abbrev pub events_in : {W : Type 0} → LockCall W → LockReply W → List AnEvent
-events_in (Event e) reply = e ∷ []
-events_in (Draft c) reply = []
-events_in (Commit r) (ToCommit (Ran n)) = Step r.copy ∷ []
-events_in (Commit r) (ToCommit (Stale held now)) = []
-events_in (Commit r) (ToEvent reply) = []
-events_in (Commit r) (ToDraft drafted) = []
+abbrev pub events_of_call : {W : Type 0} → LockCall W → LockReply W → List AnEvent
+events_of_call (Event e) reply = e ∷ []
+events_of_call (Draft c) reply = []
+events_of_call (Commit r) (ToCommit (Ran n)) = Step r.copy ∷ []
+events_of_call (Commit r) (ToCommit (Stale held now)) = []
+events_of_call (Commit r) (ToEvent reply) = []
+events_of_call (Commit r) (ToDraft drafted) = []
 
 -- the events of a history
-abbrev pub events_of : {W : Type 0} → List (Entry (LockCall W) (LockReply W)) → List AnEvent
-events_of [] = []
-events_of (e ∷ log) = events_in e.call e.reply ++ events_of log
+abbrev pub events_of_log : {W : Type 0} → List (Entry (LockCall W) (LockReply W)) → List AnEvent
+events_of_log [] = []
+events_of_log (e ∷ log) = events_of_call e.call e.reply ++ events_of_log log
 
 -- the mirror is at the end of one history of these seats
 pub record EndsAs {W : Type 0} (game : GameRules W) (opening : MirrorState W)
@@ -38,8 +38,8 @@ pub record EndsAs {W : Type 0} (game : GameRules W) (opening : MirrorState W)
   pub whole : IsHistoryOf (mirror_rules game) opening seats mirror
   -- those of its events that changed the mirror are what the mirror's history gained, and lead to
   -- its state
-  pub history : mirror.history ≡ opening.history ++ changing opening (events_of whole.log)
-  pub state : mirror ≡ after opening (changing opening (events_of whole.log))
+  pub history : mirror.history ≡ opening.history ++ changing opening (events_of_log whole.log)
+  pub state : mirror ≡ after opening (changing opening (events_of_log whole.log))
   -- the plan is the one that was in force
   pub same_plan : mirror.plan ≡ opening.plan
   -- it is staggered, and its state is the one that its own history leads to

@@ -6,7 +6,7 @@ ghost use Rattle.game_trait.specs.Events.{is_arrival};
 ghost use Rattle.sync_model.specs.Drafts.{ready_of};
 ghost use Rattle.mirror_core.specs.Drafts.{IfDraft};
 ghost use Rattle.turn_lock.specs.Rules.{one_if};
-ghost use Rattle.turn_lock.specs.Totals.{total};
+ghost use Rattle.tss_io.specs.Totals.{total};
 ghost use Rattle.turn_lock.specs.Views.{view, fresh_views, member_of, FitsSeat, StillFits};
 ghost use Rattle.turn_lock.specs.Calls.{IsCall};
 ghost use Rattle.mirror_lock.specs.declared.calls.LockCall.TheVariants.{Event as AskEvent, Draft as AskDraft, Commit as AskCommit};

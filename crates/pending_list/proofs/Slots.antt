@@ -9,7 +9,7 @@ use Rattle.game_trait.specs.Count.{times}
 use Rattle.game_trait.proofs.KeyOrder.{before-time}
 use Rattle.game_trait.proofs.Lists.{all-at}
 use Rattle.game_trait.proofs.Places.{rising-parted}
-use Rattle.pending_list.specs.Buckets.{commands_of}
+use Rattle.pending_list.specs.Buckets.{placed_commands}
 use Rattle.pending_list.specs.declared.order.Placed.{Placed}
 
 -- where a test parts a list, so many pass it
@@ -27,13 +27,13 @@ partition-times p (x ∷ xs) (suc at) within parted =
     let rest = partition-times p xs at (omega arith) (λ k d low h. parted.0 (suc k) d (omega arith) (omega arith), λ k d low h. parted.1 (suc k) d (omega arith) (omega arith)) in
     rw here (omega arith)
 
-pub commands-times : (q : Command → Bool) (ys : List Placed) → times (λ y. q y.command) ys ≡ times q (commands_of ys)
+pub commands-times : (q : Command → Bool) (ys : List Placed) → times (λ y. q y.command) ys ≡ times q (placed_commands ys)
 unfolding times
 commands-times q [] = refl
 commands-times q (y ∷ ys) = rw (commands-times q ys) refl
 
 -- what parts the commands parts them with their slots
-commands-parted : (q : Command → Bool) (ys : List Placed) → IsPartitionedBy q (commands_of ys) → IsPartitionedBy (λ y. q y.command) ys
+commands-parted : (q : Command → Bool) (ys : List Placed) → IsPartitionedBy q (placed_commands ys) → IsPartitionedBy (λ y. q y.command) ys
 commands-parted q ys parted i j d upto within h =
     let at_i = get_or-map (λ (y : Placed). y.command) ys i d d.command (omega arith) in
     let at_j = get_or-map (λ (y : Placed). y.command) ys j d d.command within in
@@ -44,7 +44,7 @@ commands-parted q ys parted i j d upto within h =
 pub point-commands :
     (q : Command → Bool) (ys : List Placed) (at : ℕ)
     → IsPartitionPoint (λ y. q y.command ≡ true) (λ y. q y.command ≡ false) ys at → at ≤ length ys
-    → IsPartitionPoint (λ x. q x ≡ true) (λ x. q x ≡ false) (commands_of ys) at
+    → IsPartitionPoint (λ x. q x ≡ true) (λ x. q x ≡ false) (placed_commands ys) at
 point-commands q ys at parted within =
     let many = length-map ys (λ (y : Placed). y.command) in (
       λ k d low h.
@@ -70,8 +70,8 @@ time-parted t xs rises i j d upto within below =
     let k = ltb-true (get_or xs j d).time t below in
     lt-ltb (get_or xs i d).time t (omega arith)
 
-pub before-parted : (x : Command) (ys : List Placed) → KeysRise (commands_of ys) → IsPartitionedBy (λ y. before y.command x) ys
-before-parted x ys rises = commands-parted (λ y. before y x) ys (rising-parted x (commands_of ys) rises)
+pub before-parted : (x : Command) (ys : List Placed) → KeysRise (placed_commands ys) → IsPartitionedBy (λ y. before y.command x) ys
+before-parted x ys rises = commands-parted (λ y. before y x) ys (rising-parted x (placed_commands ys) rises)
 
-pub due-parted : (t : ℕ) (ys : List Placed) → KeysRise (commands_of ys) → IsPartitionedBy (λ y. ltb y.command.time t) ys
-due-parted t ys rises = commands-parted (λ y. ltb y.time t) ys (time-parted t (commands_of ys) rises)
+pub due-parted : (t : ℕ) (ys : List Placed) → KeysRise (placed_commands ys) → IsPartitionedBy (λ y. ltb y.command.time t) ys
+due-parted t ys rises = commands-parted (λ y. ltb y.time t) ys (time-parted t (placed_commands ys) rises)

@@ -5,7 +5,7 @@ ghost use Rattle.std.specs.List.Sorted.{IsPartitionPoint};
 ghost use Rattle.std.specs.VecDeque.{deque_len};
 ghost use Rattle.game_trait.specs.Count.{times};
 ghost use Rattle.game_trait.specs.Keys.{before, KeysRise};
-ghost use Rattle.pending_list.specs.Buckets.{commands_of};
+ghost use Rattle.pending_list.specs.Buckets.{placed_commands};
 
 use game_trait::{Command, Tick};
 use std::collections::VecDeque;
@@ -33,7 +33,7 @@ fn is_due_before(y: &Command, t: Tick) -> bool
 
 /// The place at which a command stands among those in key order, behind those before it.
 pub fn place_of(in_order: &VecDeque<Placed>, x: &Command) -> usize
-    requires { KeysRise (commands_of in_order.now.items) }
+    requires { KeysRise (placed_commands in_order.now.items) }
     ensures within { result ≤ deque_len in_order.now }
     ensures point { IsPartitionPoint (λ y. before y.command x.now ≡ true)
         (λ y. before y.command x.now ≡ false) in_order.now.items result }
@@ -43,7 +43,7 @@ pub fn place_of(in_order: &VecDeque<Placed>, x: &Command) -> usize
 
 /// How many of the commands in key order are due before a tick.
 pub fn due_before(in_order: &VecDeque<Placed>, t: Tick) -> usize
-    requires { KeysRise (commands_of in_order.now.items) }
+    requires { KeysRise (placed_commands in_order.now.items) }
     ensures { result ≡ times (λ y. nat_lt y.command.time t) in_order.now.items }
 {
     in_order.partition_point(|y| is_due_before(&y.command, t))

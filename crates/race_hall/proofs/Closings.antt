@@ -26,7 +26,7 @@ use Rattle.mirror_lock.specs.Locked.{next_locked, said_locked, FitsLocked, mirro
 use Rattle.mirror_lock.specs.Ending.{EndsAs}
 use Rattle.copy_workers.specs.declared.post.Asked.{Asked}
 use Rattle.copy_workers.specs.Trail.{commit_asked}
-use Rattle.race_hall.specs.Entries.{Entry, pairs_of, own, events_of, IsSound, IsStepping}
+use Rattle.race_hall.specs.Entries.{Entry, pairs_of, own, events_asked, AreAnswersOf, IsStepping}
 use Rattle.race_hall.specs.Race.{Course, race_opening}
 use Rattle.race_hall.specs.Posting.{event_told, commit_told, asked_in, pairs_in, asked_by}
 use Rattle.race_hall.specs.Closing.{entries_in, DidAs, AllDid, ClosedWith}
@@ -36,13 +36,13 @@ module _ {W : Type 0} (game : GameRules W) where
   -- what a commit stands for is sound, and leads to the same state; its answer is the mirror's
   ran-sound :
       (s : MirrorState W) (r : ReadyTick W) (more : List Asked) (c : Committed) → FitsReady game s r → c ≡ committed s r
-      → IsSound (committed_to s r) more → IsSound s (commit_asked r.copy c ++ more)
-  unfolding IsSound said
+      → AreAnswersOf (committed_to s r) more → AreAnswersOf s (commit_asked r.copy c ++ more)
+  unfolding AreAnswersOf said
   ran-sound s r more c fits told h =
       let n : ℕ = repaired s.accepted (proposed_by_step s.accepted s.runs r.copy) in
-      subst (λ (a : Committed). IsSound s (commit_asked r.copy a ++ more)) (sym told)
-      (elim (is_current s r) as (λ v. is_current s r ≡ v → IsSound (cond v (next s (Step r.copy)) s) more
-      → IsSound s (commit_asked r.copy (cond v (Ran (repaired s.accepted (proposed_by_step s.accepted s.runs r.copy))) (Stale r.epoch (epoch s r.copy))) ++ more)) [
+      subst (λ (a : Committed). AreAnswersOf s (commit_asked r.copy a ++ more)) (sym told)
+      (elim (is_current s r) as (λ v. is_current s r ≡ v → AreAnswersOf (cond v (next s (Step r.copy)) s) more
+      → AreAnswersOf s (commit_asked r.copy (cond v (Ran (repaired s.accepted (proposed_by_step s.accepted s.runs r.copy))) (Stale r.epoch (epoch s r.copy))) ++ more)) [
         | true ↦ λ e k.
             (let due = fits.due (grind (arith, nat_tests)) in
             let low = due.below_limit in
@@ -54,39 +54,39 @@ module _ {W : Type 0} (game : GameRules W) where
 
   ran-state :
       (s : MirrorState W) (r : ReadyTick W) (more : List Asked) (c : Committed) → c ≡ committed s r
-      → after s (events_of (commit_asked r.copy c ++ more)) ≡ after (committed_to s r) (events_of more)
+      → after s (events_asked (commit_asked r.copy c ++ more)) ≡ after (committed_to s r) (events_asked more)
   unfolding after
   ran-state s r more c told =
-      subst (λ (a : Committed). after s (events_of (commit_asked r.copy a ++ more)) ≡ after (committed_to s r) (events_of more)) (sym told)
-      (elim (is_current s r) as (λ v. after s (events_of (commit_asked r.copy (cond v (Ran (repaired s.accepted (proposed_by_step s.accepted s.runs r.copy))) (Stale r.epoch (epoch s r.copy))) ++ more)) ≡ after (cond v (next s (Step r.copy)) s) (events_of more))
+      subst (λ (a : Committed). after s (events_asked (commit_asked r.copy a ++ more)) ≡ after (committed_to s r) (events_asked more)) (sym told)
+      (elim (is_current s r) as (λ v. after s (events_asked (commit_asked r.copy (cond v (Ran (repaired s.accepted (proposed_by_step s.accepted s.runs r.copy))) (Stale r.epoch (epoch s r.copy))) ++ more)) ≡ after (cond v (next s (Step r.copy)) s) (events_asked more))
       [ true ↦ refl | false ↦ refl ])
 
   -- and so of every call
   call-sound :
       (s : MirrorState W) (q : LockCall W) (r : LockReply W) (more : List Asked) → FitsLocked game s q → r ≡ said_locked game s q
-      → IsSound (next_locked s q) more → IsSound s (asked_in q r ++ more)
-  unfolding IsSound
+      → AreAnswersOf (next_locked s q) more → AreAnswersOf s (asked_in q r ++ more)
+  unfolding AreAnswersOf
   call-sound s (Event e) r more fits told h = (fits.1.1, ap (λ (x : LockReply W). event_told x) told, h)
   call-sound s (Draft c) r more fits told h = h
   call-sound s (Commit t) r more fits told h = ran-sound s t more (commit_told r) fits.1 (ap (λ (x : LockReply W). commit_told x) told) h
 
   call-state :
       (s : MirrorState W) (q : LockCall W) (r : LockReply W) (more : List Asked) → r ≡ said_locked game s q
-      → after s (events_of (asked_in q r ++ more)) ≡ after (next_locked s q) (events_of more)
+      → after s (events_asked (asked_in q r ++ more)) ≡ after (next_locked s q) (events_asked more)
   unfolding after
   call-state s (Event e) r more told = refl
   call-state s (Draft c) r more told = refl
   call-state s (Commit t) r more told = ran-state s t more (commit_told r) (ap (λ (x : LockReply W). commit_told x) told)
 
   -- a lock's history is sound as a list of pairs, and leads to the same state
-  sound-pairs : (log : List (LockEntry (LockCall W) (LockReply W))) (s : MirrorState W) → IsSoundIn (mirror_rules game) s log → IsSound s (pairs_in log)
-  unfolding IsSound
+  sound-pairs : (log : List (LockEntry (LockCall W) (LockReply W))) (s : MirrorState W) → IsSoundIn (mirror_rules game) s log → AreAnswersOf s (pairs_in log)
+  unfolding AreAnswersOf
   sound-pairs [] s h = tt
   sound-pairs (e ∷ log) s h = call-sound s e.call e.reply (pairs_in log) h.0 h.1 (sound-pairs log (next_locked s e.call) h.2)
 
   state-pairs :
       (log : List (LockEntry (LockCall W) (LockReply W))) (s : MirrorState W) → IsSoundIn (mirror_rules game) s log
-      → value (mirror_rules game) s log ≡ after s (events_of (pairs_in log))
+      → value (mirror_rules game) s log ≡ after s (events_asked (pairs_in log))
   unfolding after
   state-pairs [] s h = refl
   state-pairs (e ∷ log) s h = state-pairs log (next_locked s e.call) h.2 ∙ sym (call-state s e.call e.reply (pairs_in log) h.1)
@@ -178,10 +178,10 @@ module _ {W : Type 0} where
       record {
         history = entries_in ends.whole.log;
         closed = record {
-          sound = subst (λ (ps : List Asked). IsSound (race_opening c opening spare) ps) (sym (pairs-entries ends.whole.log))
-              (subst (λ (t : MirrorState W). IsSound t (pairs_in ends.whole.log)) begins (sound-pairs game ends.whole.log o ends.whole.sound));
-          state = ends.whole.object_is ∙ state-pairs game ends.whole.log o ends.whole.sound ∙ ap (λ (t : MirrorState W). after t (events_of (pairs_in ends.whole.log))) begins
-              ∙ ap (λ (ps : List Asked). after (race_opening c opening spare) (events_of ps)) (sym (pairs-entries ends.whole.log));
+          sound = subst (λ (ps : List Asked). AreAnswersOf (race_opening c opening spare) ps) (sym (pairs-entries ends.whole.log))
+              (subst (λ (t : MirrorState W). AreAnswersOf t (pairs_in ends.whole.log)) begins (sound-pairs game ends.whole.log o ends.whole.sound));
+          state = ends.whole.object_is ∙ state-pairs game ends.whole.log o ends.whole.sound ∙ ap (λ (t : MirrorState W). after t (events_asked (pairs_in ends.whole.log))) begins
+              ∙ ap (λ (ps : List Asked). after (race_opening c opening spare) (events_asked ps)) (sym (pairs-entries ends.whole.log));
           workers =
               workers-of feeder (map (λ m. m.number) (map (λ v. member_of v) views)) (entries_in ends.whole.log)
               (all-in (map (λ m. m.number) (map (λ v. member_of v) views)) ends.whole.log ends.whole.theirs)

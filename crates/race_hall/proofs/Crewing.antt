@@ -20,7 +20,7 @@ use Rattle.mirror_core.specs.Kept.{delays_of_each, ticks_of_first, copies_of_fir
 use Rattle.turn_lock.specs.declared.share.Share.{Share}
 use Rattle.turn_lock.specs.declared.view.View.{View}
 use Rattle.turn_lock.specs.declared.view.Stage.TheVariants.{Idle}
-use Rattle.turn_lock.specs.Totals.{total}
+use Rattle.tss_io.specs.Totals.{total}
 use Rattle.turn_lock.specs.Views.{view, number_of, seat_view, fresh_views}
 use Rattle.mirror_lock.specs.declared.calls.LockCall.{LockCall}
 use Rattle.mirror_lock.specs.declared.calls.LockCall.TheVariants.{Event}

@@ -18,21 +18,21 @@ use Rattle.sync_model.proofs.Along.{fitted-next}
 use Rattle.sync_model.proofs.Drain.{delays-next}
 use Rattle.sync_model.proofs.History.{answers_in_kind, clock-next}
 use Rattle.copy_workers.specs.declared.post.Asked.{Asked}
-use Rattle.copy_workers.specs.Asking.{pair_of, arrival, IsFeeding, moves, arrivals_of}
-use Rattle.race_hall.specs.Entries.{Entry, pairs_of, own, events_of, IsSound, IsStepping, is_feeding, feeding_of, commands_asked, IsInTime, AllInTime}
+use Rattle.copy_workers.specs.Asking.{pair_of, arrival, IsFeeding, moves_in, arrivals_of}
+use Rattle.race_hall.specs.Entries.{Entry, pairs_of, own, events_asked, AreAnswersOf, IsStepping, is_feeding, feeding_of, commands_asked, IsInTime, AllInTime}
 use Rattle.sync_model.specs.Schedule.{longest_delay}
 use Rattle.game_trait.specs.Events.{is_restagger, is_moved, IsOfKind}
 
 -- what is sound is of its kind, and fits from the start
-pub sound-kinds : {W : Type 0} (H : List Asked) (s : MirrorState W) → IsSound s H → AllByRecursion (λ p. IsOfKind p.event p.reply) H
-unfolding IsSound
+pub sound-kinds : {W : Type 0} (H : List Asked) (s : MirrorState W) → AreAnswersOf s H → AllByRecursion (λ p. IsOfKind p.event p.reply) H
+unfolding AreAnswersOf
 sound-kinds [] s h = tt
 sound-kinds (p ∷ H) s h = (subst (IsOfKind p.event) (sym h.1) (answers_in_kind s p.event), sound-kinds H (next s p.event) h.2)
 
-pub sound-fits : {W : Type 0} (H : List Asked) (s : MirrorState W) → IsSound s H → AllByRecursion (Fits s) (events_of H)
-unfolding IsSound
+pub sound-fits : {W : Type 0} (H : List Asked) (s : MirrorState W) → AreAnswersOf s H → AllByRecursion (Fits s) (events_asked H)
+unfolding AreAnswersOf
 sound-fits [] s h = tt
-sound-fits (p ∷ H) s h = (h.0, all-weaker (Fits (next s p.event)) (Fits s) (events_of H) (λ f k. fitted-next s p.event f k) (sound-fits H (next s p.event) h.2))
+sound-fits (p ∷ H) s h = (h.0, all-weaker (Fits (next s p.event)) (Fits s) (events_asked H) (λ f k. fitted-next s p.event f k) (sound-fits H (next s p.event) h.2))
 
 -- the pairs of one seat, where the others made steps alone
 seat-rest : (P : Asked → Type 0) (i : ℕ) (e : Entry) (rest : List Entry) → AllByRecursion P (own i (e ∷ rest)) → AllByRecursion P (own i rest)
@@ -88,39 +88,39 @@ plan-still (ToArrive a) p h = absurd h
 plan-still (ToStep s) p h = absurd h
 plan-still Restaggered p h = refl
 
-moves-one : (e : Event) (r : Reply) (H : List Asked) → IsOfKind e r → moves (feeding_of H) ≡ moves H → moves (feeding_of (pair_of e r ∷ H)) ≡ moves (pair_of e r ∷ H)
+moves-one : (e : Event) (r : Reply) (H : List Asked) → IsOfKind e r → moves_in (feeding_of H) ≡ moves_in H → moves_in (feeding_of (pair_of e r ∷ H)) ≡ moves_in (pair_of e r ∷ H)
 unfolding times
 moves-one Tick r H kind later = omega (arith, later)
 moves-one (Arrive x) r H kind later = omega (arith, later)
 moves-one (Step c) r H kind later = (let e = step-still r c kind in rw e (omega (arith, later)))
 moves-one (Restagger p) r H kind later = (let e = plan-still r p kind in rw e (omega (arith, later)))
 
-pub moves-feeding : (H : List Asked) → AllByRecursion (λ p. IsOfKind p.event p.reply) H → moves (feeding_of H) ≡ moves H
+pub moves-feeding : (H : List Asked) → AllByRecursion (λ p. IsOfKind p.event p.reply) H → moves_in (feeding_of H) ≡ moves_in H
 moves-feeding [] kinds = refl
 moves-feeding (p ∷ H) kinds = moves-one p.event p.reply H kinds.0 (moves-feeding H kinds.1)
 
-asked-one : (e : Event) (r : Reply) (H : List Asked) → commands_asked (events_of (feeding_of H)) ≡ commands_asked (events_of H)
-    → commands_asked (events_of (feeding_of (pair_of e r ∷ H))) ≡ commands_asked (events_of (pair_of e r ∷ H))
+asked-one : (e : Event) (r : Reply) (H : List Asked) → commands_asked (events_asked (feeding_of H)) ≡ commands_asked (events_asked H)
+    → commands_asked (events_asked (feeding_of (pair_of e r ∷ H))) ≡ commands_asked (events_asked (pair_of e r ∷ H))
 unfolding commands_asked
 asked-one Tick r H later = later
 asked-one (Arrive x) r H later = ap (λ (l : List Command). x ∷ l) later
 asked-one (Step c) r H later = later
 asked-one (Restagger p) r H later = later
 
-pub asked-feeding : (H : List Asked) → commands_asked (events_of (feeding_of H)) ≡ commands_asked (events_of H)
+pub asked-feeding : (H : List Asked) → commands_asked (events_asked (feeding_of H)) ≡ commands_asked (events_asked H)
 asked-feeding [] = refl
 asked-feeding (p ∷ H) = asked-one p.event p.reply H (asked-feeding H)
 
 -- the number of arrivals is the number of commands that were asked
-count-one : (x : Command) (e : Event) (r : Reply) (H : List Asked) → arrivals_of x H ≡ times (same_command x) (commands_asked (events_of H))
-    → arrivals_of x (pair_of e r ∷ H) ≡ times (same_command x) (commands_asked (events_of (pair_of e r ∷ H)))
+count-one : (x : Command) (e : Event) (r : Reply) (H : List Asked) → arrivals_of x H ≡ times (same_command x) (commands_asked (events_asked H))
+    → arrivals_of x (pair_of e r ∷ H) ≡ times (same_command x) (commands_asked (events_asked (pair_of e r ∷ H)))
 unfolding commands_asked times
 count-one x Tick r H later = omega (arith, later)
 count-one x (Arrive y) r H later = omega (arith, later)
 count-one x (Step c) r H later = omega (arith, later)
 count-one x (Restagger p) r H later = omega (arith, later)
 
-pub arrivals-asked : (x : Command) (H : List Asked) → arrivals_of x H ≡ times (same_command x) (commands_asked (events_of H))
+pub arrivals-asked : (x : Command) (H : List Asked) → arrivals_of x H ≡ times (same_command x) (commands_asked (events_asked H))
 unfolding commands_asked times
 arrivals-asked x [] = refl
 arrivals-asked x (p ∷ H) = count-one x p.event p.reply H (arrivals-asked x H)
@@ -162,10 +162,10 @@ in_time-event s (Step c) h same = tt
 in_time-event s (Restagger p) h same = absurd cc
 
 pub in_time-places :
-    {W : Type 0} (delay : ℕ) (back front : List Asked) (s : MirrorState W) → longest_delay (delays_of s) ≡ delay → s.clock ≡ moves front → IsSound s back
-    → ((f b : List Asked) (x : Command) (r : Reply) → front ++ back ≡ f ++ arrival x r ∷ b → moves f ≤ x.time + delay)
-    → AllByRecursion (λ p. is_restagger p.event ≡ false) back → AllInTime s (events_of back)
-unfolding IsSound AllInTime times
+    {W : Type 0} (delay : ℕ) (back front : List Asked) (s : MirrorState W) → longest_delay (delays_of s) ≡ delay → s.clock ≡ moves_in front → AreAnswersOf s back
+    → ((f b : List Asked) (x : Command) (r : Reply) → front ++ back ≡ f ++ arrival x r ∷ b → moves_in f ≤ x.time + delay)
+    → AllByRecursion (λ p. is_restagger p.event ≡ false) back → AllInTime s (events_asked back)
+unfolding AreAnswersOf AllInTime times
 in_time-places delay [] front s longest clock sound all kept = tt
 in_time-places {W} delay (p ∷ back) front s longest clock sound all kept =
     let here = in_time-event s p.event (λ x h.

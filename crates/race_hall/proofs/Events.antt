@@ -22,9 +22,9 @@ use Rattle.sync_model.proofs.Room.{opening_of-next}
 use Rattle.sync_model.proofs.Legal.{all-changing}
 use Rattle.sync_model.proofs.Drain.{delays-next}
 use Rattle.copy_workers.specs.declared.post.Asked.{Asked}
-use Rattle.copy_workers.specs.Asking.{moves}
+use Rattle.copy_workers.specs.Asking.{moves_in}
 use Rattle.copy_workers.proofs.Lists.{all-append}
-use Rattle.race_hall.specs.Entries.{events_of, IsSound, commands_asked, IsInTime, AllInTime}
+use Rattle.race_hall.specs.Entries.{events_asked, AreAnswersOf, commands_asked, IsInTime, AllInTime}
 use Rattle.race_hall.proofs.Lists.{all-first}
 use Rattle.race_hall.proofs.Counting.{StandsIn, stands-in}
 use Rattle.sync_model.specs.Schedule.{longest_delay}
@@ -74,8 +74,8 @@ in_time-delays [] s h = refl
 in_time-delays (e ∷ es) s h = in_time-delays es (next s e) h.1 ∙ delays-next s e (in_time-keeps s e h.0)
 
 -- the clock counts the moves
-pub clock-sound : {W : Type 0} (H : List Asked) (s : MirrorState W) → IsSound s H → (after s (events_of H)).clock ≡ s.clock + moves H
-unfolding IsSound after times
+pub clock-sound : {W : Type 0} (H : List Asked) (s : MirrorState W) → AreAnswersOf s H → (after s (events_asked H)).clock ≡ s.clock + moves_in H
+unfolding AreAnswersOf after times
 clock-sound [] s h = omega arith
 clock-sound (p ∷ H) s h =
     (let a = clock-sound H (next s p.event) h.2 in let b = clock-next s p.event in let d = ap (λ (r : Reply). cond {A = ℕ} (is_moved r) 1 0) h.1 in omega arith)

@@ -26,9 +26,9 @@ use Rattle.sync_model.proofs.Cases.{after-fixed}
 use Rattle.sync_model.proofs.Drain.{draining_ends, draining_is_turns, drained_worlds}
 use Rattle.sync_model.proofs.History.{after-append, history_grows}
 use Rattle.copy_workers.specs.declared.post.Asked.{Asked}
-use Rattle.copy_workers.specs.Asking.{moves}
+use Rattle.copy_workers.specs.Asking.{moves_in}
 use Rattle.copy_workers.proofs.Lists.{all-append}
-use Rattle.race_hall.specs.Entries.{Entry, pairs_of, own, events_of, commands_asked, AllInTime, AllTaken}
+use Rattle.race_hall.specs.Entries.{Entry, pairs_of, own, events_asked, commands_asked, AllInTime, AllTaken}
 use Rattle.race_hall.specs.Race.{Course, IsCourse, Raced, race_opening, first_plan}
 use Rattle.race_hall.specs.Finish.{left_over, never_issued, to_deliver, delivered, finished, EndsAtFold}
 use Rattle.race_hall.proofs.Counting.{StandsIn}
@@ -60,22 +60,22 @@ pub record Runs {W : Type 0} (c : Course) (start : MirrorState W) (es : List Eve
 pub delivers :
     {W : Type 0} (c : Course) (opening : W) (spare m : ℕ) (marked : ℕ → ℕ) (got left : ℕ → List Message) (seat : ℕ) (H : List Entry) (s : MirrorState W)
     → IsCourse c → m < c.mirrors → Raced c opening spare m marked got left seat H s
-    → Runs c (race_opening c opening spare) (events_of (pairs_of H) ++ map Arrive (to_deliver c m marked left)) (delivered s (to_deliver c m marked left))
+    → Runs c (race_opening c opening spare) (events_asked (pairs_of H) ++ map Arrive (to_deliver c m marked left)) (delivered s (to_deliver c m marked left))
 delivers {W} c opening spare m marked got left seat H s course there r =
-    let fixed = after-fixed (events_of (pairs_of H)) (race_opening c opening spare) in
+    let fixed = after-fixed (events_asked (pairs_of H)) (race_opening c opening spare) in
     let kinds = sound-kinds (pairs_of H) (race_opening c opening spare) r.sound in
-    let clock : (after (race_opening c opening spare) (events_of (pairs_of H))).clock ≡ moves (own seat H) =
+    let clock : (after (race_opening c opening spare) (events_asked (pairs_of H))).clock ≡ moves_in (own seat H) =
     (let a = clock-sound (pairs_of H) (race_opening c opening spare) r.sound in
     let b = moves-feeding (pairs_of H) kinds in
-    let d = ap (λ (l : List Asked). moves l) (seat-feeds seat H r.fed.feeding r.workers) in
+    let d = ap (λ (l : List Asked). moves_in l) (seat-feeds seat H r.fed.feeding r.workers) in
     omega arith) in
-    let longest : longest_delay (delays_of (after (race_opening c opening spare) (events_of (pairs_of H)))) ≡ longest_delay (first_plan c) = ap (λ (ds : List ℕ). longest_delay ds) (in_time-delays (events_of (pairs_of H)) (race_opening c opening spare) (history-in_time c opening spare m marked got left seat H s course there r)) in
+    let longest : longest_delay (delays_of (after (race_opening c opening spare) (events_asked (pairs_of H)))) ≡ longest_delay (first_plan c) = ap (λ (ds : List ℕ). longest_delay ds) (in_time-delays (events_asked (pairs_of H)) (race_opening c opening spare) (history-in_time c opening spare m marked got left seat H s course there r)) in
     let most = course.pace in
     let late = left-in_time c opening spare m marked got left seat H s course there r in
-    let counts : (p : Command → Bool) → times p (commands_asked (events_of (pairs_of H) ++ map Arrive (to_deliver c m marked left))) ≡ times p c.commands =
+    let counts : (p : Command → Bool) → times p (commands_asked (events_asked (pairs_of H) ++ map Arrive (to_deliver c m marked left))) ≡ times p c.commands =
     λ p. (let a = shared-out c opening spare m marked got left seat H s course there r p in
-    let b = ap (λ (l : List Command). times p l) (asked-append (events_of (pairs_of H)) (map Arrive (to_deliver c m marked left))) in
-    let d = times-append p (commands_asked (events_of (pairs_of H))) (commands_asked (map Arrive (to_deliver c m marked left))) in
+    let b = ap (λ (l : List Command). times p l) (asked-append (events_asked (pairs_of H)) (map Arrive (to_deliver c m marked left))) in
+    let d = times-append p (commands_asked (events_asked (pairs_of H))) (commands_asked (map Arrive (to_deliver c m marked left))) in
     let e = ap (λ (l : List Command). times p l) (asked-arrivals (to_deliver c m marked left)) in
     let f = times-append p (left_over c m left) (never_issued c marked) in
     omega arith) in
@@ -85,17 +85,17 @@ delivers {W} c opening spare m marked got left seat H s course there r =
     let f = times-append (same_command x) (left_over c m left) (never_issued c marked) in
     omega arith)) in
     record {
-      end = ap (λ (t : MirrorState W). after t (map Arrive (to_deliver c m marked left))) r.state ∙ sym (after-append (race_opening c opening spare) (events_of (pairs_of H)) (map Arrive (to_deliver c m marked left)));
-      fit = all-append (Fits (race_opening c opening spare)) (events_of (pairs_of H)) (map Arrive (to_deliver c m marked left))
+      end = ap (λ (t : MirrorState W). after t (map Arrive (to_deliver c m marked left))) r.state ∙ sym (after-append (race_opening c opening spare) (events_asked (pairs_of H)) (map Arrive (to_deliver c m marked left)));
+      fit = all-append (Fits (race_opening c opening spare)) (events_asked (pairs_of H)) (map Arrive (to_deliver c m marked left))
           (sound-fits (pairs_of H) (race_opening c opening spare) r.sound)
           (fits-arrivals (race_opening c opening spare) (to_deliver c m marked left)
           (all-weaker (λ x. StandsIn x c.commands) (λ x. x.time < c.length) (to_deliver c m marked left)
           (λ x h. all-there (λ y. y.time < c.length) h.front x h.back (subst (AllByRecursion (λ y. y.time < c.length)) h.parts course.within)) stand));
-      in_time = in_time-append (events_of (pairs_of H)) (map Arrive (to_deliver c m marked left)) (race_opening c opening spare)
+      in_time = in_time-append (events_asked (pairs_of H)) (map Arrive (to_deliver c m marked left)) (race_opening c opening spare)
           (history-in_time c opening spare m marked got left seat H s course there r)
-          (in_time-arrivals (to_deliver c m marked left) (after (race_opening c opening spare) (events_of (pairs_of H)))
-          (all-weaker (λ x. moves (own seat H) ≤ x.time + c.pace)
-          (λ x. (after (race_opening c opening spare) (events_of (pairs_of H))).clock ≤ x.time + longest_delay (delays_of (after (race_opening c opening spare) (events_of (pairs_of H)))))
+          (in_time-arrivals (to_deliver c m marked left) (after (race_opening c opening spare) (events_asked (pairs_of H)))
+          (all-weaker (λ x. moves_in (own seat H) ≤ x.time + c.pace)
+          (λ x. (after (race_opening c opening spare) (events_asked (pairs_of H))).clock ≤ x.time + longest_delay (delays_of (after (race_opening c opening spare) (events_asked (pairs_of H)))))
           (to_deliver c m marked left) (λ x low. omega arith) late));
       counts = counts;
     }
@@ -193,11 +193,11 @@ raced-ends {W} rules c opening spare m marked got left seat H s course room ther
     let start : MirrorState W = race_opening c opening spare in
     let runs = delivers c opening spare m marked got left seat H s course there r in
     let t = delivered s (to_deliver c m marked left) in
-    let fixed = after-fixed (events_of (pairs_of H) ++ map Arrive (to_deliver c m marked left)) (race_opening c opening spare) in
+    let fixed = after-fixed (events_asked (pairs_of H) ++ map Arrive (to_deliver c m marked left)) (race_opening c opening spare) in
     let delays : delays_of (delivered s (to_deliver c m marked left)) ≡ first_plan c =
-    ap (λ (u : MirrorState W). delays_of u) runs.end ∙ in_time-delays (events_of (pairs_of H) ++ map Arrive (to_deliver c m marked left)) (race_opening c opening spare) runs.in_time in
+    ap (λ (u : MirrorState W). delays_of u) runs.end ∙ in_time-delays (events_asked (pairs_of H) ++ map Arrive (to_deliver c m marked left)) (race_opening c opening spare) runs.in_time in
     let staggered : IsStaggered (delivered s (to_deliver c m marked left)) =
-    subst IsStaggered (sym runs.end) (staggered_along (events_of (pairs_of H) ++ map Arrive (to_deliver c m marked left)) (race_opening c opening spare) runs.fit (opening_staggered opening c.length c.plans spare 0)) in
-    ends-at_fold rules c opening spare ((events_of (pairs_of H) ++ map Arrive (to_deliver c m marked left)) ++ turns_of (length (delivered s (to_deliver c m marked left)).runs) (draining_is_turns (delivered s (to_deliver c m marked left))).0) (finished s (to_deliver c m marked left)) course room
-    (drains c (race_opening c opening spare) (events_of (pairs_of H) ++ map Arrive (to_deliver c m marked left)) (delivered s (to_deliver c m marked left)) runs)
+    subst IsStaggered (sym runs.end) (staggered_along (events_asked (pairs_of H) ++ map Arrive (to_deliver c m marked left)) (race_opening c opening spare) runs.fit (opening_staggered opening c.length c.plans spare 0)) in
+    ends-at_fold rules c opening spare ((events_asked (pairs_of H) ++ map Arrive (to_deliver c m marked left)) ++ turns_of (length (delivered s (to_deliver c m marked left)).runs) (draining_is_turns (delivered s (to_deliver c m marked left))).0) (finished s (to_deliver c m marked left)) course room
+    (drains c (race_opening c opening spare) (events_asked (pairs_of H) ++ map Arrive (to_deliver c m marked left)) (delivered s (to_deliver c m marked left)) runs)
     (draining_ends (delivered s (to_deliver c m marked left)) (subst DelaysRise (sym delays) course.rise) staggered)

@@ -12,11 +12,11 @@ use Rattle.link_ring.specs.declared.message.Message.{Message}
 use Rattle.sync_model.specs.State.{MirrorState}
 use Rattle.copy_workers.specs.declared.post.Asked.{Asked}
 use Rattle.copy_workers.specs.Messages.{messages, commands_in}
-use Rattle.copy_workers.specs.Asking.{is_arrival_of, arrival, moves, arrivals_of}
-use Rattle.copy_workers.specs.Feed.{total}
+use Rattle.copy_workers.specs.Asking.{is_arrival_of, arrival, moves_in, arrivals_of}
+use Rattle.tss_io.specs.Totals.{total}
 use Rattle.copy_workers.specs.Feeding.{joined}
 use Rattle.copy_workers.proofs.Races.{times-messages, times-received}
-use Rattle.race_hall.specs.Entries.{Entry, pairs_of, own, events_of, is_feeding, feeding_of, commands_asked, AllInTime}
+use Rattle.race_hall.specs.Entries.{Entry, pairs_of, own, events_asked, is_feeding, feeding_of, commands_asked, AllInTime}
 use Rattle.race_hall.specs.Race.{Course, IsCourse, plan_of, count_from, others, Raced, race_opening, first_plan}
 use Rattle.race_hall.specs.Finish.{unissued, left_over, never_issued}
 use Rattle.race_hall.proofs.Lists.{all-first, total-map, total-plus, total-same, total-most, times-joined, filter-append, one-place}
@@ -53,7 +53,7 @@ unfolding times
 some-arrival x [] b reply here = rw here (omega arith)
 some-arrival x (p ∷ f) b reply here = omega (arith, some-arrival x f b reply here)
 
-no-moves : moves [] ≡ 0
+no-moves : moves_in [] ≡ 0
 unfolding times
 no-moves = refl
 
@@ -61,10 +61,10 @@ no-moves = refl
 pub places-in_time :
     {W : Type 0} (c : Course) (opening : W) (spare m : ℕ) (marked : ℕ → ℕ) (got left : ℕ → List Message) (seat : ℕ) (H : List Entry) (s : MirrorState W)
     → IsCourse c → m < c.mirrors → Raced c opening spare m marked got left seat H s
-    → (f b : List Asked) (x : Command) (reply : Reply) → pairs_of H ≡ f ++ arrival x reply ∷ b → moves f ≤ x.time + c.pace
+    → (f b : List Asked) (x : Command) (reply : Reply) → pairs_of H ≡ f ++ arrival x reply ∷ b → moves_in f ≤ x.time + c.pace
 places-in_time c opening spare m marked got left seat H s course there r f b x reply e =
     let kinds = sound-kinds (pairs_of H) (race_opening c opening spare) r.sound in
-    let front : moves (feeding_of f) ≡ moves f = moves-feeding f (all-first (λ p. IsOfKind p.event p.reply) f (arrival x reply ∷ b) (subst (AllByRecursion (λ p. IsOfKind p.event p.reply)) e kinds)) in
+    let front : moves_in (feeding_of f) ≡ moves_in f = moves-feeding f (all-first (λ p. IsOfKind p.event p.reply) f (arrival x reply ∷ b) (subst (AllByRecursion (λ p. IsOfKind p.event p.reply)) e kinds)) in
     let whole : own seat H ≡ feeding_of f ++ arrival x reply ∷ feeding_of b =
     sym (seat-feeds seat H r.fed.feeding r.workers) ∙ ap feeding_of e ∙ filter-append (λ p. is_feeding p.event) f (arrival x reply ∷ b) in
     let test : Asked → Bool = λ p. is_arrival_of x p.event in
@@ -74,13 +74,13 @@ places-in_time c opening spare m marked got left seat H s course there r f b x r
     let some : 0 < arrivals_of x (own seat H) = subst (λ (l : List Asked). 0 < arrivals_of x l) (sym whole) (some-arrival x (feeding_of f) (feeding_of b) reply here) in
     let at = arrives-by c opening spare m marked got left seat H s course there r x some in
     let same : feeding_of f ≡ at.front = one-place test (feeding_of f) at.front (arrival x reply) (arrival x at.reply) (feeding_of b) at.back (sym whole ∙ at.whole) here here one in
-    (let low = at.here in let k = ap (λ (l : List Asked). moves l) same in omega arith)
+    (let low = at.here in let k = ap (λ (l : List Asked). moves_in l) same in omega arith)
 
 -- so along the history each arrival is in time
 pub history-in_time :
     {W : Type 0} (c : Course) (opening : W) (spare m : ℕ) (marked : ℕ → ℕ) (got left : ℕ → List Message) (seat : ℕ) (H : List Entry) (s : MirrorState W)
     → IsCourse c → m < c.mirrors → Raced c opening spare m marked got left seat H s
-    → AllInTime (race_opening c opening spare) (events_of (pairs_of H))
+    → AllInTime (race_opening c opening spare) (events_asked (pairs_of H))
 history-in_time c opening spare m marked got left seat H s course there r =
     in_time-places (longest_delay (first_plan c)) (pairs_of H) [] (race_opening c opening spare) refl (sym no-moves) r.sound
     (λ f b x reply e. (let low = places-in_time c opening spare m marked got left seat H s course there r f b x reply e in let most = course.pace in omega arith))
@@ -90,7 +90,7 @@ history-in_time c opening spare m marked got left seat H s course there r =
 pub asked-counts :
     {W : Type 0} (c : Course) (opening : W) (spare m : ℕ) (marked : ℕ → ℕ) (got left : ℕ → List Message) (seat : ℕ) (H : List Entry) (s : MirrorState W)
     → IsCourse c → m < c.mirrors → Raced c opening spare m marked got left seat H s
-    → (p : Command → Bool) → times p (commands_asked (events_of (pairs_of H)))
+    → (p : Command → Bool) → times p (commands_asked (events_asked (pairs_of H)))
     ≡ times p (commands_in (messages (plan_of c m) (marked m))) + total (λ k. times p (commands_in (got k))) (others c.mirrors m)
 asked-counts c opening spare m marked got left seat H s course there r p =
     let fair = fairly c opening spare m marked got left seat H s course there r in
@@ -99,11 +99,11 @@ asked-counts c opening spare m marked got left seat H s course there r p =
     let received = joined (map (λ k. commands_in (got k)) (others n m)) in
     let sum : (q : Command → Bool) → times q (issued ++ received) ≡ times q issued + total (λ k. times q (commands_in (got k))) (others n m) =
     λ q. (let a = times-append q issued received in let b = times-joined q (λ (k : ℕ). commands_in (got k)) (others n m) in omega arith) in
-    counts-all (commands_asked (events_of (pairs_of H))) (issued ++ received)
+    counts-all (commands_asked (events_asked (pairs_of H))) (issued ++ received)
     (λ x. (let a = fair.counts x in
     let b = total-map (λ (g : List Message). times (same_command x) (commands_in g)) got (others n m) in
     let d = arrivals-asked x (own seat H) in
-    let e = ap (λ (l : List Asked). times (same_command x) (commands_asked (events_of l))) (sym (seat-feeds seat H r.fed.feeding r.workers)) in
+    let e = ap (λ (l : List Asked). times (same_command x) (commands_asked (events_asked l))) (sym (seat-feeds seat H r.fed.feeding r.workers)) in
     let f = ap (λ (l : List Command). times (same_command x) l) (asked-feeding (pairs_of H)) in
     let g = sum (same_command x) in
     omega arith)) p
@@ -113,7 +113,7 @@ asked-counts c opening spare m marked got left seat H s course there r p =
 pub shared-out :
     {W : Type 0} (c : Course) (opening : W) (spare m : ℕ) (marked : ℕ → ℕ) (got left : ℕ → List Message) (seat : ℕ) (H : List Entry) (s : MirrorState W)
     → IsCourse c → m < c.mirrors → Raced c opening spare m marked got left seat H s
-    → (p : Command → Bool) → times p (commands_asked (events_of (pairs_of H))) + times p (left_over c m left) + times p (never_issued c marked) ≡ times p c.commands
+    → (p : Command → Bool) → times p (commands_asked (events_asked (pairs_of H))) + times p (left_over c m left) + times p (never_issued c marked) ≡ times p c.commands
 shared-out c opening spare m marked got left seat H s course there r p =
     let n = c.mirrors in
     (let a = asked-counts c opening spare m marked got left seat H s course there r p in

@@ -9,7 +9,7 @@ use Rattle.link_ring.specs.declared.message.Message.{Message}
 use Rattle.link_ring.specs.declared.message.Message.TheVariants.{Cmd, Mark}
 use Rattle.sync_model.specs.State.{MirrorState}
 use Rattle.copy_workers.specs.Messages.{messages, commands_in, last_mark}
-use Rattle.copy_workers.specs.Asking.{moves}
+use Rattle.copy_workers.specs.Asking.{moves_in}
 use Rattle.copy_workers.proofs.Lists.{all-append}
 use Rattle.copy_workers.proofs.MessageLists.{commands_in-append, commands_in-tick}
 use Rattle.copy_workers.proofs.Races.{mark-waiting, mark-unissued}
@@ -60,30 +60,30 @@ bound clock pace length mark time (inr e) low below = absurd (omega arith)
 pub left-in_time :
     {W : Type 0} (c : Course) (opening : W) (spare m : ℕ) (marked : ℕ → ℕ) (got left : ℕ → List Message) (seat : ℕ) (H : List Entry) (s : MirrorState W)
     → IsCourse c → m < c.mirrors → Raced c opening spare m marked got left seat H s
-    → AllByRecursion (λ x. moves (own seat H) ≤ x.time + c.pace) (to_deliver c m marked left)
+    → AllByRecursion (λ x. moves_in (own seat H) ≤ x.time + c.pace) (to_deliver c m marked left)
 left-in_time c opening spare m marked got left seat H s course there r =
     let fair = fairly c opening spare m marked got left seat H s course there r in
     let n = c.mirrors in
-    let clock = moves (own seat H) in
-    let P : Command → Type 0 = λ x. moves (own seat H) ≤ x.time + c.pace in
-    let bounds = all-from_map (λ (g : List Message). (moves (own seat H) ≤ last_mark g + c.pace) ⊎ (last_mark g ≡ c.length)) got (others n m) fair.bounds in
+    let clock = moves_in (own seat H) in
+    let P : Command → Type 0 = λ x. moves_in (own seat H) ≤ x.time + c.pace in
+    let bounds = all-from_map (λ (g : List Message). (moves_in (own seat H) ≤ last_mark g + c.pace) ⊎ (last_mark g ≡ c.length)) got (others n m) fair.bounds in
     let waiting : AllByRecursion (λ k. AllByRecursion P (commands_in (left k))) (others n m) =
-    all-with (λ k. (k < n) × (k ≢ m)) (λ k. (moves (own seat H) ≤ last_mark (got k) + c.pace) ⊎ (last_mark (got k) ≡ c.length)) (λ k. AllByRecursion P (commands_in (left k))) (others n m)
+    all-with (λ k. (k < n) × (k ≢ m)) (λ k. (moves_in (own seat H) ≤ last_mark (got k) + c.pace) ⊎ (last_mark (got k) ≡ c.length)) (λ k. AllByRecursion P (commands_in (left k))) (others n m)
     (λ k h b. all-with (λ x. last_mark (got k) ≤ x.time) (λ x. x.time < c.length) P (commands_in (left k))
-    (λ x low below. bound (moves (own seat H)) c.pace c.length (last_mark (got k)) x.time b low below)
+    (λ x low below. bound (moves_in (own seat H)) c.pace c.length (last_mark (got k)) x.time b low below)
     (left-marks c.length (plan_of c k) (marked k) (got k) (left k) (r.below k h.0) (r.links k h.0 h.1) (left k) [] refl)
     (all-left (λ x. x.time < c.length) (plan_of c k) (marked k) (got k) (left k) (r.links k h.0 h.1) (all-plan (λ x. x.time < c.length) c k course.within)))
     (others-all n m there) bounds in
     let foreign : AllByRecursion (λ k. AllByRecursion P (unissued (plan_of c k) (marked k))) (others n m) =
-    all-with (λ k. (k < n) × (k ≢ m)) (λ k. (moves (own seat H) ≤ last_mark (got k) + c.pace) ⊎ (last_mark (got k) ≡ c.length)) (λ k. AllByRecursion P (unissued (plan_of c k) (marked k))) (others n m)
+    all-with (λ k. (k < n) × (k ≢ m)) (λ k. (moves_in (own seat H) ≤ last_mark (got k) + c.pace) ⊎ (last_mark (got k) ≡ c.length)) (λ k. AllByRecursion P (unissued (plan_of c k) (marked k))) (others n m)
     (λ k h b. weaker (λ x. (marked k ≤ x.time) × (x.time < c.length)) P (unissued (plan_of c k) (marked k))
-    (λ x low. bound (moves (own seat H)) c.pace c.length (last_mark (got k)) x.time b
+    (λ x low. bound (moves_in (own seat H)) c.pace c.length (last_mark (got k)) x.time b
     (mark-unissued c.length (plan_of c k) (marked k) (got k) (left k) x (r.below k h.0) (r.links k h.0 h.1) low.0) low.1)
     (all-unissued c.length (plan_of c k) (marked k) (all-plan (λ x. x.time < c.length) c k course.within)))
     (others-all n m there) bounds in
     let mine : AllByRecursion P (unissued (plan_of c m) (marked m)) =
     weaker (λ x. (marked m ≤ x.time) × (x.time < c.length)) P (unissued (plan_of c m) (marked m))
-    (λ x low. (let a = low.0 in let b = low.1 in let least : min c.length (moves (own seat H)) ≤ marked m = r.fed.least in omega arith))
+    (λ x low. (let a = low.0 in let b = low.1 in let least : min c.length (moves_in (own seat H)) ≤ marked m = r.fed.least in omega arith))
     (all-unissued c.length (plan_of c m) (marked m) (all-plan (λ x. x.time < c.length) c m course.within)) in
     all-append P (left_over c m left) (never_issued c marked)
     (all-joined P (λ (k : ℕ). commands_in (left k)) (others n m) waiting)

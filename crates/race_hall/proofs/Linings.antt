@@ -16,7 +16,7 @@ use Rattle.match_file.specs.declared.versions.TheConstants.{MOST_COMMANDS_IN_2}
 use Rattle.link_ring.specs.declared.send.LinkSend.{LinkSend}
 use Rattle.link_ring.specs.declared.receive.LinkReceive.{LinkReceive}
 use Rattle.copy_workers.specs.declared.feeder_job.FeederJob.{FeederJob}
-use Rattle.copy_workers.specs.Sending.{HasRoom}
+use Rattle.copy_workers.specs.Sending.{MaySend}
 use Rattle.link_ring.specs.Ends.{misses_of}
 use Rattle.race_hall.specs.Race.{Course, IsCourse, plan_of, count_from, others, foreign_of}
 use Rattle.race_hall.specs.Raced.{course_of}
@@ -186,7 +186,7 @@ feeder-of m budget rooms sends left rows rows_left jobs is rooms_are made each l
         sends = weaker (IsNewSend (get_or rooms k 0)) (λ s. _) job.sends.items (λ s n. n.sent) new;
         receives = weaker IsNewReceive (λ r. _) job.receives.items (λ r n. n.received) row.new;
       };
-      room = weaker (IsNewSend (get_or rooms k 0)) (HasRoom (length job.plan.items + job.stagger.length)) job.sends.items
+      room = weaker (IsNewSend (get_or rooms k 0)) (MaySend (length job.plan.items + job.stagger.length)) job.sends.items
           (λ s n. record { room = (let a = ap (λ l. length l) n.sent in let b = n.room_is in omega arith) }) new;
       misses = weaker IsNewReceive (λ r. misses_of r < 2 ^ 63) job.receives.items (λ r n. (let a = n.misses in omega arith)) row.new;
       seven = (let a = row.count in let b = is.mirrors.1 in omega arith);

@@ -7,7 +7,7 @@ use Rattle.game_trait.specs.declared.command.Command.{Command}
 use Rattle.game_trait.specs.Count.{times}
 use Rattle.game_trait.proofs.Counts.{times-in_key_order, times-filter}
 use Rattle.game_trait.proofs.KeyOrder.{all-in_key_order}
-use Rattle.copy_workers.specs.Feed.{total}
+use Rattle.tss_io.specs.Totals.{total}
 use Rattle.copy_workers.proofs.Lists.{all-append}
 use Rattle.race_hall.specs.Race.{Course, plan_of, count_from, others}
 use Rattle.race_hall.specs.Finish.{unissued}
@@ -54,7 +54,6 @@ others-all n m below =
 
 -- every mirror, as a sum and for each
 pub total-others : (f : ℕ → ℕ) (n m : ℕ) → m < n → total f (count_from 0 n) ≡ total f (others n m) + f m
-unfolding total
 total-others f n m below =
     (let a = ap (λ (l : List ℕ). total f l) (count-split 0 m n below) in
     let b = total-append f (count_from 0 m) ((0 + m) ∷ count_from (0 + m + 1) (n - (m + 1))) in
@@ -93,7 +92,7 @@ all-from p n [] h = refl
 all-from p n (x ∷ xs) h = (let low = h.0 in let e : (p x && nat_lt x.from n) ≡ p x = grind (arith, nat_tests) in rw e (omega (arith, all-from p n xs h.1)))
 
 plans-below : (p : Command → Bool) (c : Course) (n : ℕ) → total (λ k. times p (plan_of c k)) (count_from 0 n) ≡ times (λ x. p x && nat_lt x.from n) c.commands
-unfolding total count_from
+unfolding count_from
 plans-below p c zero = sym (none-from p c.commands)
 plans-below p c (suc n) =
     (let a = ap (λ (l : List ℕ). total (λ k. times p (plan_of c k)) l) (count-push 0 n) in

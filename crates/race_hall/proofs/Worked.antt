@@ -8,7 +8,7 @@ use Rattle.link_ring.specs.declared.message.Message.TheVariants.{Cmd}
 use Rattle.std.proofs.Math.ListN.{length-append}
 use Rattle.copy_workers.specs.Messages.{messages, commands_in, last_mark}
 use Rattle.copy_workers.specs.Fed.{ArriveInTime}
-use Rattle.copy_workers.specs.Feed.{total}
+use Rattle.tss_io.specs.Totals.{total}
 use Rattle.race_hall.specs.Race.{Course, Raced, others, race_opening}
 
 none-got : (ks : List ℕ) (P : List Message → Type 0) → P [] → AllByRecursion P (map (λ (k : ℕ). []) ks)
@@ -16,12 +16,11 @@ none-got [] P h = tt
 none-got (k ∷ ks) P h = (h, none-got ks P h)
 
 none-total : (ks : List ℕ) (f : List Message → ℕ) → f [] ≡ 0 → total f (map (λ (k : ℕ). []) ks) ≡ 0
-unfolding total
 none-total [] f h = refl
 none-total (k ∷ ks) f h = omega (arith, h, none-total ks f h)
 
 pub raced-nothing : {W : Type 0} (c : Course) (opening : W) (spare m : ℕ) → Raced c opening spare m (λ k. 0) (λ k. []) (λ k. []) 0 [] (race_opening c opening spare)
-unfolding messages commands_in times total Rattle.race_hall.specs.Entries.own Rattle.race_hall.specs.Entries.IsSound Rattle.sync_model.specs.Change.after Rattle.copy_workers.specs.Messages.mark_after
+unfolding messages commands_in times Rattle.race_hall.specs.Entries.own Rattle.race_hall.specs.Entries.AreAnswersOf Rattle.sync_model.specs.Change.after Rattle.copy_workers.specs.Messages.mark_after
 raced-nothing c opening spare m = record {
   sound = tt;
   state = refl;

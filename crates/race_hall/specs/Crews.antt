@@ -18,7 +18,7 @@ use Rattle.link_ring.specs.declared.send.LinkSend.{LinkSend}
 use Rattle.link_ring.specs.declared.receive.LinkReceive.{LinkReceive}
 use Rattle.copy_workers.specs.declared.feeder_job.FeederJob.{FeederJob}
 use Rattle.copy_workers.specs.declared.feeder_job.FeederEnd.{FeederEnd}
-use Rattle.copy_workers.specs.Sending.{HasRoom}
+use Rattle.copy_workers.specs.Sending.{MaySend}
 use Rattle.copy_workers.specs.Fed.{FeederEnds}
 use Rattle.race_hall.specs.declared.job.Work.{Work}
 use Rattle.race_hall.specs.declared.job.Work.TheVariants.{Copy, Feeder}
@@ -64,7 +64,7 @@ pub record IsFeederOf (c : Course) (budget k : ℕ) (job : FeederJob) : Type 0 w
   pub copies : job.copies ≡ length (first_plan c)
   pub budget_is : job.budget ≡ budget
   pub of : IsJobOf c k job
-  pub room : AllByRecursion (HasRoom (length job.plan.items + job.stagger.length)) job.sends.items
+  pub room : AllByRecursion (MaySend (length job.plan.items + job.stagger.length)) job.sends.items
   pub misses : AllByRecursion (λ r. misses_of r < 2 ^ 63) job.receives.items
   pub seven : length job.receives.items ≤ 7
 

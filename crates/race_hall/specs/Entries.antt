@@ -26,13 +26,14 @@ own seat [] = []
 own seat (e ∷ rest) = cond (e.seat == seat) (e.pair ∷ own seat rest) (own seat rest)
 
 -- the events of pairs
-abbrev pub events_of : List Asked → List Event
-events_of asked = map (λ p. p.event) asked
+abbrev pub events_asked : List Asked → List Event
+events_asked asked = map (λ p. p.event) asked
 
 -- each event fits, and each answer is what the mirror said there
-unfoldable pub IsSound : {W : Type 0} → MirrorState W → List Asked → Type 0
-IsSound s [] = Unit {0}
-IsSound s (p ∷ rest) = Fits s p.event × (p.reply ≡ said s p.event) × IsSound (next s p.event) rest
+unfoldable pub AreAnswersOf : {W : Type 0} → MirrorState W → List Asked → Type 0
+AreAnswersOf s [] = Unit {0}
+AreAnswersOf s (p ∷ rest) =
+    Fits s p.event × (p.reply ≡ said s p.event) × AreAnswersOf (next s p.event) rest
 
 -- an event is a copy's step
 abbrev pub IsStepping : Event → Type 0

@@ -16,7 +16,7 @@ use Rattle.sync_model.specs.Legal.{IsLegal}
 use Rattle.sync_model.specs.Turns.{IsDrained, drain}
 use Rattle.copy_workers.specs.Messages.{commands_in}
 use Rattle.copy_workers.specs.Feeding.{joined}
-use Rattle.race_hall.specs.Entries.{Entry, pairs_of, events_of, commands_asked, AllTaken}
+use Rattle.race_hall.specs.Entries.{Entry, pairs_of, events_asked, commands_asked, AllTaken}
 use Rattle.race_hall.specs.Race.{Course, plan_of, count_from, others, race_opening}
 
 -- the commands that a feeder never issued, in key order
@@ -67,12 +67,12 @@ pub record CanTake {W : Type 0} (s : MirrorState W) (xs : List Command) : Type 0
 -- left in a link, or was never issued; those that are still to be delivered are taken too
 pub record NothingLate {W : Type 0} (c : Course) (opening : W) (spare m : ℕ) (marked : ℕ → ℕ)
     (left : ℕ → List Message) (history : List Entry) (s : MirrorState W) : Type 0 where
-  pub accepted : s.accepted ≡ commands_asked (events_of (pairs_of history))
+  pub accepted : s.accepted ≡ commands_asked (events_asked (pairs_of history))
   pub turned : s.turned ≡ []
-  pub taken : AllTaken (race_opening c opening spare) (events_of (pairs_of history))
+  pub taken : AllTaken (race_opening c opening spare) (events_asked (pairs_of history))
   pub shared : (test : Command → Bool)
-      → times test (commands_asked (events_of (pairs_of history))) + times test (left_over c m left)
-      + times test (never_issued c marked) ≡ times test c.commands
+      → times test (commands_asked (events_asked (pairs_of history)))
+      + times test (left_over c m left) + times test (never_issued c marked) ≡ times test c.commands
   pub can : CanTake s (to_deliver c m marked left)
   pub later : AllTaken s (map Arrive (to_deliver c m marked left))
 

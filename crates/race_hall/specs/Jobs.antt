@@ -20,7 +20,7 @@ use Rattle.copy_workers.specs.declared.feeder_job.FeederJob.{FeederJob}
 use Rattle.copy_workers.specs.declared.feeder_job.FeederEnd.{FeederEnd}
 use Rattle.copy_workers.specs.declared.post.Asked.{Asked}
 use Rattle.copy_workers.specs.Asking.{IsFeedingBelow}
-use Rattle.copy_workers.specs.Sending.{HasRoom}
+use Rattle.copy_workers.specs.Sending.{MaySend}
 use Rattle.copy_workers.specs.Fed.{FeederEnds}
 use Rattle.race_hall.specs.declared.job.Work.{Work}
 use Rattle.race_hall.specs.declared.job.Work.TheVariants.{Copy, Feeder}
@@ -50,7 +50,7 @@ module _ {S W : Type 0} (game : GameRules W) where
     pub calls : 8 * job.budget + length job.plan.items ≤ (view seat).calls
     pub grows : length job.plan.items + job.foreign ≤ (view seat).grows
     pub rises : KeysRise job.plan.items
-    pub room : AllByRecursion (HasRoom (length job.plan.items + job.stagger.length)) job.sends.items
+    pub room : AllByRecursion (MaySend (length job.plan.items + job.stagger.length)) job.sends.items
     pub misses : AllByRecursion (λ r. misses_of r < 2 ^ 63) job.receives.items
     pub seven : length job.receives.items ≤ 7
     pub budget : job.budget < 2 ^ 63

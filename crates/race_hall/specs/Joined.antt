@@ -12,7 +12,7 @@ use Rattle.copy_workers.specs.declared.post.Asked.{Asked}
 use Rattle.copy_workers.specs.declared.feeder_job.FeederEnd.{FeederEnd}
 use Rattle.copy_workers.specs.declared.feeder_job.FeederJob.{FeederJob}
 use Rattle.copy_workers.specs.Fed.{FeederEnds}
-use Rattle.race_hall.specs.Entries.{Entry, pairs_of, own, events_of, IsSound, IsStepping}
+use Rattle.race_hall.specs.Entries.{Entry, pairs_of, own, events_asked, AreAnswersOf, IsStepping}
 use Rattle.race_hall.specs.Race.{Course, plan_of, foreign_of, others, race_opening}
 
 -- a job of a race's feeder: its plan, the match's numbers, and links that are new
@@ -45,8 +45,8 @@ pub record Fed (c : Course) (m : ℕ) (job : FeederJob) (end : FeederEnd)
 -- a lock was closed: its history, the seat of the feeder, the state that it gave back
 pub record Closed {W : Type 0} (c : Course) (opening : W) (spare seat : ℕ) (history : List Entry)
     (s : MirrorState W) : Type 0 where
-  pub sound : IsSound (race_opening c opening spare) (pairs_of history)
-  pub state : s ≡ after (race_opening c opening spare) (events_of (pairs_of history))
+  pub sound : AreAnswersOf (race_opening c opening spare) (pairs_of history)
+  pub state : s ≡ after (race_opening c opening spare) (events_asked (pairs_of history))
   pub workers : (i : ℕ) → i ≢ seat → AllByRecursion (λ p. IsStepping p.event) (own i history)
 
 -- all feeders of a race

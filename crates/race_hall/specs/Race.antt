@@ -10,10 +10,10 @@ use Rattle.sync_model.specs.State.{MirrorState, opening_state}
 use Rattle.sync_model.specs.Change.{after}
 use Rattle.copy_workers.specs.declared.post.Asked.{Asked}
 use Rattle.copy_workers.specs.Messages.{messages, commands_in, last_mark, IsOrderly}
-use Rattle.copy_workers.specs.Asking.{IsFeeding, moves, arrivals_of, ArrivesAt}
-use Rattle.copy_workers.specs.Feed.{total}
+use Rattle.copy_workers.specs.Asking.{IsFeeding, moves_in, arrivals_of, ArrivesAt}
+use Rattle.tss_io.specs.Totals.{total}
 use Rattle.copy_workers.specs.Fed.{ArriveInTime}
-use Rattle.race_hall.specs.Entries.{Entry, pairs_of, own, events_of, IsSound, IsStepping}
+use Rattle.race_hall.specs.Entries.{Entry, pairs_of, own, events_asked, AreAnswersOf, IsStepping}
 use Rattle.sync_model.specs.Schedule.{DelaysRise, longest_delay}
 
 -- what of a match matters to a race: its commands, how many mirrors there are, its length, its
@@ -69,13 +69,13 @@ pub record IsFairlyFed (pace length : ℕ) (issued : List Command) (gots : List 
       → arrivals_of x asked
       ≡ times (same_command x) issued + total (λ got. times (same_command x) (commands_in got)) gots
   pub bounds : AllByRecursion
-      (λ got. (moves asked ≤ last_mark got + pace) ⊎ (last_mark got ≡ length)) gots
+      (λ got. (moves_in asked ≤ last_mark got + pace) ⊎ (last_mark got ≡ length)) gots
 
 -- what a feeder did: its plan, how many received commands it may ask, how many ticks it issued,
 -- what it received, what it asked
 pub record IsFedBy (c : Course) (plan : List Command) (foreign marked : ℕ)
     (gots : List (List Message)) (asked : List Asked) : Type 0 where
-  pub least : min c.length (moves asked) ≤ marked
+  pub least : min c.length (moves_in asked) ≤ marked
   pub most : marked ≤ c.length
   pub arrive : AllByRecursion (λ x. ArrivesAt asked x x.time) (commands_in (messages plan marked))
   pub feeding : AllByRecursion (λ p. IsFeeding p.event) asked
@@ -89,8 +89,8 @@ pub record IsFedBy (c : Course) (plan : List Command) (foreign marked : ℕ)
 pub record Raced {W : Type 0} (c : Course) (opening : W) (spare m : ℕ) (marked : ℕ → ℕ)
     (got left : ℕ → List Message)
     (seat : ℕ) (history : List Entry) (s : MirrorState W) : Type 0 where
-  pub sound : IsSound (race_opening c opening spare) (pairs_of history)
-  pub state : s ≡ after (race_opening c opening spare) (events_of (pairs_of history))
+  pub sound : AreAnswersOf (race_opening c opening spare) (pairs_of history)
+  pub state : s ≡ after (race_opening c opening spare) (events_asked (pairs_of history))
   pub workers : (i : ℕ) → i ≢ seat → AllByRecursion (λ p. IsStepping p.event) (own i history)
   pub fed : IsFedBy c (plan_of c m) (foreign_of c m) (marked m) (map got (others c.mirrors m))
       (own seat history)

@@ -24,17 +24,17 @@ use Rattle.run_auditor.specs.declared.why.Fault.{Fault}
 use Rattle.run_auditor.specs.declared.why.Why.{Why}
 use Rattle.run_auditor.specs.declared.why.Why.TheVariants as whys
 use Rattle.run_auditor.specs.Audit.{start, IsStated, IsRight, IsStuckAt, IsFirstWrong, IsFault, Found, FoundFalse, AllRight, IsFirstFault, event_count, IsLegalRecord, Tells, says_legal}
-use Rattle.run_auditor.specs.Walks.{why_of, Walk, walk_of, told, told_next, moved, moved_on, WentOn, Stopped}
+use Rattle.run_auditor.specs.Walks.{why_of, LogWalk, walk_of, told_of_event, told_next, moved, moved_on, WentOn, Stopped}
 use Rattle.run_auditor.proofs.WalkLaws.{why_changes, why_stays, events_named, opened_copies}
 use Rattle.report_text.specs.Worlds.{Showing, copy_block}
 use Rattle.sync_model.specs.Drafts.{run_of}
 
 -- ---- a walk
 
-pub went_nowhere : {W : Type 0} (w : Walk W) → WentOn w w
+pub went_nowhere : {W : Type 0} (w : LogWalk W) → WentOn w w
 went_nowhere w = record { number = refl; begun = refl; log = refl }
 
-went_further : {W : Type 0} (w v : Walk W) (e : Event) (es : List Event) → v.left ≡ e ∷ es → changes v.mirror e ≡ true → WentOn w v → WentOn w (record v { mirror = next v.mirror e; left = es })
+went_further : {W : Type 0} (w v : LogWalk W) (e : Event) (es : List Event) → v.left ≡ e ∷ es → changes v.mirror e ≡ true → WentOn w v → WentOn w (record v { mirror = next v.mirror e; left = es })
 went_further w v e es left changed on =
     let history : (next v.mirror e).history ≡ v.mirror.history ++ e ∷ [] = history-next v.mirror e ∙ rw changed refl in
     record {
@@ -44,18 +44,18 @@ went_further w v e es left changed on =
     }
 
 -- an event that changes the mirror
-pub note_moves : {W : Type 0} (w v : Walk W) (left : List Event) (note : NoteOf) → v.left ≡ left → told_next v left ≡ Note note → WentOn w v → WentOn w (moved_on v left) × (length (moved_on v left).left + 1 ≡ length left)
+pub note_moves : {W : Type 0} (w v : LogWalk W) (left : List Event) (note : NoteOf) → v.left ≡ left → told_next v left ≡ Note note → WentOn w v → WentOn w (moved_on v left) × (length (moved_on v left).left + 1 ≡ length left)
 note_moves w v [] note here e on = absurd cc
 note_moves w v (x ∷ xs) note here e on =
-    elim (why_of (said v.mirror x)) as (λ o. why_of (said v.mirror x) ≡ o → told v x o ≡ Note note → WentOn w (moved v x xs o) × (length (moved v x xs o).left + 1 ≡ length (x ∷ xs))) [
+    elim (why_of (said v.mirror x)) as (λ o. why_of (said v.mirror x) ≡ o → told_of_event v x o ≡ Note note → WentOn w (moved v x xs o) × (length (moved v x xs o).left + 1 ≡ length (x ∷ xs))) [
       | None ↦ λ none e. (went_further w v x xs here (why_changes (said v.mirror x) none) on, omega arith)
       | Some why ↦ λ some e. absurd cc
     ] refl e
 
-pub end_stays : {W : Type 0} (w v : Walk W) (left : List Event) → v.left ≡ left → told_next v left ≡ End → WentOn w v → WentOn w (moved_on v left) × Stopped (moved_on v left) None
+pub end_stays : {W : Type 0} (w v : LogWalk W) (left : List Event) → v.left ≡ left → told_next v left ≡ End → WentOn w v → WentOn w (moved_on v left) × Stopped (moved_on v left) None
 end_stays w v [] here e on = (on, here)
 end_stays w v (x ∷ xs) here e on =
-    elim (why_of (said v.mirror x)) as (λ o. told v x o ≡ End → WentOn w (moved v x xs o) × Stopped (moved v x xs o) None) [
+    elim (why_of (said v.mirror x)) as (λ o. told_of_event v x o ≡ End → WentOn w (moved v x xs o) × Stopped (moved v x xs o) None) [
       | None ↦ λ e. absurd cc
       | Some why ↦ λ e. absurd cc
     ] e
@@ -63,10 +63,10 @@ end_stays w v (x ∷ xs) here e on =
 same_stuck : (a b : ℕ) (x y : Why) → ◌≡◌ {A = Walked} (Stuck a x) (Stuck b y) → (b ≡ a) × (x ≡ y)
 same_stuck a b x y e = (cc, cc)
 
-pub stuck_stays : {W : Type 0} (w v : Walk W) (left : List Event) (place : ℕ) (why : Why) → v.left ≡ left → told_next v left ≡ Stuck place why → WentOn w v → WentOn w (moved_on v left) × Stopped (moved_on v left) (Some (record { place = place; why = why }))
+pub stuck_stays : {W : Type 0} (w v : LogWalk W) (left : List Event) (place : ℕ) (why : Why) → v.left ≡ left → told_next v left ≡ Stuck place why → WentOn w v → WentOn w (moved_on v left) × Stopped (moved_on v left) (Some (record { place = place; why = why }))
 stuck_stays w v [] place why here e on = absurd cc
 stuck_stays w v (x ∷ xs) place why here e on =
-    elim (why_of (said v.mirror x)) as (λ o. why_of (said v.mirror x) ≡ o → told v x o ≡ Stuck place why → WentOn w (moved v x xs o) × Stopped (moved v x xs o) (Some (record { place = place; why = why }))) [
+    elim (why_of (said v.mirror x)) as (λ o. why_of (said v.mirror x) ≡ o → told_of_event v x o ≡ Stuck place why → WentOn w (moved v x xs o) × Stopped (moved v x xs o) (Some (record { place = place; why = why }))) [
       | None ↦ λ none e. absurd cc
       | Some cause ↦ λ some e. let same = same_stuck (length v.mirror.history) place cause why e in (on, (x, xs, here, same.0, some ∙ ap Some same.1))
     ] refl e
@@ -111,7 +111,7 @@ items_end Is n (a ∷ rest) all none on = absurd (omega arith)
 reached_start : {W : Type 0} (opening : W) (m : MatchData) (s : MirrorState W) → IsConsistent s → first_state s ≡ start opening m → without_room s ≡ without_room (after (start opening m) s.history)
 reached_start opening m s is begun = from_history_reached s is.from_history ∙ ap (λ t. without_room (after t s.history)) begun
 
-pub found_stuck : {W : Type 0} (show : Showing W) (opening : W) (m : MatchData) (number : ℕ) (log : List Event) (blocks : List (List ℕ)) (w : Walk W) (fault : Fault)
+pub found_stuck : {W : Type 0} (show : Showing W) (opening : W) (m : MatchData) (number : ℕ) (log : List Event) (blocks : List (List ℕ)) (w : LogWalk W) (fault : Fault)
     → IsConsistent w.mirror → WentOn (walk_of opening m number log) w → Stopped w (Some fault) → Found show opening m number log blocks (Some fault)
 found_stuck show opening m number log blocks w fault is on stopped =
     let s = w.mirror in
@@ -129,7 +129,7 @@ found_stuck show opening m number log blocks w fault is on stopped =
       stuck = ap why_of (sym answer) ∙ stopped.4;
     })
 
-legal_log : {W : Type 0} (opening : W) (m : MatchData) (number : ℕ) (log : List Event) (w : Walk W) → AllByRecursion (IsEventOf m) log → IsConsistent w.mirror → WentOn (walk_of opening m number log) w → w.left ≡ [] → (w.mirror.history ≡ log) × IsLegal m.commands (start opening m) log
+legal_log : {W : Type 0} (opening : W) (m : MatchData) (number : ℕ) (log : List Event) (w : LogWalk W) → AllByRecursion (IsEventOf m) log → IsConsistent w.mirror → WentOn (walk_of opening m number log) w → w.left ≡ [] → (w.mirror.history ≡ log) × IsLegal m.commands (start opening m) log
 legal_log opening m number log w events is on ended =
     let s = w.mirror in
     let begun : first_state s ≡ start opening m = on.begun in
@@ -143,13 +143,13 @@ stated_alike show opening m number log s is begun whole =
     let same = reached_start opening m s is begun ∙ ap (λ h. without_room (after (start opening m) h)) whole in
     λ i copy block. block ≡ copy_block show number (same i).opening copy (run_of (same i) copy)
 
-pub found_false : {W : Type 0} (show : Showing W) (opening : W) (m : MatchData) (number : ℕ) (log : List Event) (blocks : List (List ℕ)) (w : Walk W) (copy : ℕ) → AllByRecursion (IsEventOf m) log
+pub found_false : {W : Type 0} (show : Showing W) (opening : W) (m : MatchData) (number : ℕ) (log : List Event) (blocks : List (List ℕ)) (w : LogWalk W) (copy : ℕ) → AllByRecursion (IsEventOf m) log
     → IsConsistent w.mirror → WentOn (walk_of opening m number log) w → Stopped w None → FoundFalse show number w.mirror blocks (Some copy) → Found show opening m number log blocks (Some (record { place = copy; why = whys.World }))
 found_false show opening m number log blocks w copy events is on stopped wrong =
     let legal = legal_log opening m number log w events is on stopped in
     inr (record { legal = legal.1; cause = refl; world = subst (λ Is. IsFirstWrong Is 0 blocks copy) (stated_alike show opening m number log w.mirror is on.begun legal.0) wrong })
 
-pub found_right : {W : Type 0} (show : Showing W) (opening : W) (m : MatchData) (number : ℕ) (log : List Event) (blocks : List (List ℕ)) (w : Walk W) → AllByRecursion (IsEventOf m) log
+pub found_right : {W : Type 0} (show : Showing W) (opening : W) (m : MatchData) (number : ℕ) (log : List Event) (blocks : List (List ℕ)) (w : LogWalk W) → AllByRecursion (IsEventOf m) log
     → IsConsistent w.mirror → WentOn (walk_of opening m number log) w → Stopped w None → FoundFalse show number w.mirror blocks None → Found show opening m number log blocks None
 found_right show opening m number log blocks w events is on stopped right =
     let legal = legal_log opening m number log w events is on stopped in

@@ -25,7 +25,7 @@ use Rattle.sync_model.proofs.Room.{spare-next, plan_spare-next}
 use Rattle.match_file.specs.Data.{MatchData, IsMatch, IsCommand, all_plans, schedules}
 use Rattle.run_recorder.specs.Data.{IsEventOf}
 use Rattle.run_auditor.specs.declared.why.Why.{Why}
-use Rattle.run_auditor.specs.Walks.{why_of, Walk, IsWalk, moved, moved_on}
+use Rattle.run_auditor.specs.Walks.{why_of, LogWalk, IsWalk, moved, moved_on}
 use Rattle.game_trait.proofs.CommandLists.{command_named-Contains}
 use Rattle.match_file.proofs.Plans.{delays-of_schedules}
 use Rattle.std.proofs.Math.Bool.{and-true}
@@ -87,10 +87,10 @@ pub walk_stays : {W : Type 0} (s : MirrorState W) (left : List Event) (e : Event
 walk_stays s left e same is = subst (λ t. IsWalk t left) (sym (unchanged-next s e same)) is
 
 -- a walk whose next event changes nothing stays
-pub stays_put : {W : Type 0} (w v : Walk W) (e : Event) (rest : List Event) (why : Why) → w ≡ v → w.left ≡ e ∷ rest → why_of (said w.mirror e) ≡ Some why → record w { mirror = next w.mirror e } ≡ moved_on v v.left
+pub stays_put : {W : Type 0} (w v : LogWalk W) (e : Event) (rest : List Event) (why : Why) → w ≡ v → w.left ≡ e ∷ rest → why_of (said w.mirror e) ≡ Some why → record w { mirror = next w.mirror e } ≡ moved_on v v.left
 stays_put {W} w v e rest why here whole stuck =
     let same = unchanged-next w.mirror e (why_stays (said w.mirror e) why stuck) in
-    (λ i. record w { mirror = same i }) ∙ sym (ap (moved_on w) whole ∙ ap (moved w e rest) stuck) ∙ ap (λ (u : Walk W). moved_on u u.left) here
+    (λ i. record w { mirror = same i }) ∙ sym (ap (moved_on w) whole ∙ ap (moved w e rest) stuck) ∙ ap (λ (u : LogWalk W). moved_on u u.left) here
 
 -- ---- a walk that begins
 

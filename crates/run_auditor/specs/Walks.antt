@@ -34,33 +34,33 @@ why_of Restaggered = None
 
 -- a walk: whose log it is, the mirror, whose history is what was made of the log, and the events
 -- that are left
-pub record Walk (W : Type 0) : Type 0 where
+pub record LogWalk (W : Type 0) : Type 0 where
   pub number : ℕ
   pub mirror : MirrorState W
   pub left : List Event
 
 -- what the walk tells of the next event
-abbrev pub told : {W : Type 0} → Walk W → Event → Option Why → Walked
-told w e None = Note (record { mirror = w.number; event = e; reply = said w.mirror e })
-told w e (Some why) = Stuck (length w.mirror.history) why
+abbrev pub told_of_event : {W : Type 0} → LogWalk W → Event → Option Why → Walked
+told_of_event w e None = Note (record { mirror = w.number; event = e; reply = said w.mirror e })
+told_of_event w e (Some why) = Stuck (length w.mirror.history) why
 
 -- what it tells of these events, of which the first is the next
-abbrev pub told_next : {W : Type 0} → Walk W → List Event → Walked
+abbrev pub told_next : {W : Type 0} → LogWalk W → List Event → Walked
 told_next w [] = End
-told_next w (e ∷ es) = told w e (why_of (said w.mirror e))
+told_next w (e ∷ es) = told_of_event w e (why_of (said w.mirror e))
 
 -- the walk after the next event, where that changes the mirror
-abbrev pub moved : {W : Type 0} → Walk W → Event → List Event → Option Why → Walk W
+abbrev pub moved : {W : Type 0} → LogWalk W → Event → List Event → Option Why → LogWalk W
 moved w e es None = record w { mirror = next w.mirror e; left = es }
 moved w e es (Some why) = w
 
 -- the walk once it went on along these
-abbrev pub moved_on : {W : Type 0} → Walk W → List Event → Walk W
+abbrev pub moved_on : {W : Type 0} → LogWalk W → List Event → LogWalk W
 moved_on w [] = w
 moved_on w (e ∷ es) = moved w e es (why_of (said w.mirror e))
 
 -- a walk that begins: a mirror of the match before any event, with room for the log
-abbrev pub walk_of : {W : Type 0} → W → MatchData → ℕ → List Event → Walk W
+abbrev pub walk_of : {W : Type 0} → W → MatchData → ℕ → List Event → LogWalk W
 walk_of opening m number log = record {
   number = number;
   mirror = opening_state opening m.length (all_plans m) (times is_arrival log)
@@ -76,13 +76,13 @@ pub record IsWalk {W : Type 0} (s : MirrorState W) (left : List Event) : Type 0 
   pub few : length s.history + length left ≤ MOST_ROOM
 
 -- a walk that went on along its log, on its mirror
-pub record WentOn {W : Type 0} (w v : Walk W) : Type 0 where
+pub record WentOn {W : Type 0} (w v : LogWalk W) : Type 0 where
   pub number : v.number ≡ w.number
   pub begun : first_state v.mirror ≡ first_state w.mirror
   pub log : v.mirror.history ++ v.left ≡ w.mirror.history ++ w.left
 
 -- where a walk stopped: behind the log, or at an event that changes nothing
-abbrev pub Stopped : {W : Type 0} → Walk W → Option Fault → Type 0
+abbrev pub Stopped : {W : Type 0} → LogWalk W → Option Fault → Type 0
 Stopped w None = w.left ≡ []
 Stopped w (Some fault) =
     (e : Event) × (rest : List Event) × (w.left ≡ e ∷ rest)

@@ -45,9 +45,9 @@ pub struct LogWalk<'a, G: Game> {
 }
 
 impl<'a, G: Game> Model for LogWalk<'a, G> {
-    ghost use Rattle.run_auditor.specs.Walks.{Walk, IsWalk};
+    ghost use Rattle.run_auditor.specs.Walks.{LogWalk, IsWalk};
 
-    ghost Value = { Walk G };
+    ghost Value = { LogWalk G };
 
     ghost view = { λ w. record { number = w.number; mirror = w.mirror; left = w.left.now } };
 

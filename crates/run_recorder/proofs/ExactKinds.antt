@@ -6,7 +6,7 @@ use Rattle.tss_io.proofs.FormLaws.{ExactField, number_exact, only_exact, then_ex
 use Rattle.tss_io.proofs.KindLaws.{ExactKind}
 use Rattle.match_file.specs.Data.{MatchData, IsMatch}
 use Rattle.run_recorder.specs.declared.tail.Tail.{Tail}
-use Rattle.run_recorder.specs.Kinds.{log_kind, arrive_kind, step_kind, restagger_kind, world_kind}
+use Rattle.run_recorder.specs.Kinds.{log_kind, record_arrive_kind, record_step_kind, record_restagger_kind, record_world_kind}
 
 -- a match whose numbers are small enough for the lines
 pub record IsSmall (m : MatchData) : Type 0 where
@@ -47,18 +47,18 @@ unfoldable pub log_exact : (m : MatchData) → IsSmall m → ExactKind (log_kind
 unfolding is_word
 log_exact m small = record { keyword = refl; longest = λ _. 9; form = λ _. then_exact (mirror_exact m small) (only_exact (number_exact 0 131072 6 (lit< tt) (lit< tt) (lit< tt))); short = λ _ _ _. lit≤ tt }
 
-unfoldable pub arrive_exact : (m : MatchData) → IsSmall m → ExactKind (arrive_kind m) (ArriveFits m)
+unfoldable pub arrive_exact : (m : MatchData) → IsSmall m → ExactKind (record_arrive_kind m) (ArriveFits m)
 unfolding is_word
 arrive_exact m small = record { keyword = refl; longest = λ _. 9; form = λ _. then_exact (mirror_exact m small) (only_exact (number_exact 0 999999 6 (lit< tt) (lit< tt) (lit< tt))); short = λ _ _ _. lit≤ tt }
 
-unfoldable pub step_exact : (m : MatchData) → IsSmall m → ExactKind (step_kind m) (StepFits m)
+unfoldable pub step_exact : (m : MatchData) → IsSmall m → ExactKind (record_step_kind m) (StepFits m)
 unfolding is_word
 step_exact m small = record { keyword = refl; longest = λ _. 2; form = λ _. only_exact (copy_exact m small); short = λ _ _ _. lit≤ tt }
 
-unfoldable pub restagger_exact : (m : MatchData) → IsSmall m → ExactKind (restagger_kind m) (RestaggerFits m)
+unfoldable pub restagger_exact : (m : MatchData) → IsSmall m → ExactKind (record_restagger_kind m) (RestaggerFits m)
 unfolding is_word
 restagger_exact m small = let few = small.plans in record { keyword = refl; longest = λ _. 2; form = λ _. only_exact (number_exact 0 (length m.plans) 1 (lit< tt) (omega arith) (omega arith)); short = λ _ _ _. lit≤ tt }
 
-unfoldable pub world_exact : (m : MatchData) → IsSmall m → ExactKind (world_kind m) (WorldFits m)
+unfoldable pub world_exact : (m : MatchData) → IsSmall m → ExactKind (record_world_kind m) (WorldFits m)
 unfolding is_word
 world_exact m small = record { keyword = refl; longest = λ _. 15; form = λ _. then_exact (mirror_exact m small) (then_exact (copy_exact m small) (only_exact (number_exact 0 (2 ^ 32 - 1) 10 (lit< tt) (lit< tt) (lit< tt)))); short = λ _ _ _. lit≤ tt }

@@ -4,7 +4,7 @@ use Rattle.std.proofs.lemmas.Grind.{flat_map-append, take_at_read}
 use Rattle.game_trait.specs.declared.event.Event.{Event}
 use Rattle.tss_io.specs.Lines.{as_line, lines_text}
 use Rattle.run_recorder.specs.declared.log.MirrorLog.{MirrorLog}
-use Rattle.run_recorder.specs.Text.{event_line, log_line, log_text, blocks_text, mirrors_text}
+use Rattle.run_recorder.specs.Text.{event_line, log_line, log_text, blocks_text, record_mirrors_text}
 
 pub blocks_none : (old : List ℕ) → old ≡ old ++ blocks_text []
 unfolding blocks_text
@@ -30,8 +30,8 @@ log_puts mirror count events old mid new first more = more ∙ rw first (append_
 
 -- one mirror more
 pub mirrors_text-append : (logs : List MirrorLog) (worlds : List (List (List ℕ))) (log : MirrorLog) (blocks : List (List ℕ)) → length worlds ≡ length logs
-    → mirrors_text (logs ++ log ∷ []) (worlds ++ blocks ∷ []) ≡ mirrors_text logs worlds ++ (log_text log.mirror (length log.events) log.events ++ blocks_text blocks)
-unfolding mirrors_text
+    → record_mirrors_text (logs ++ log ∷ []) (worlds ++ blocks ∷ []) ≡ record_mirrors_text logs worlds ++ (log_text log.mirror (length log.events) log.events ++ blocks_text blocks)
+unfolding record_mirrors_text
 mirrors_text-append [] [] log blocks same = append-nil (log_text log.mirror (length log.events) log.events ++ blocks_text blocks)
 mirrors_text-append [] (ws ∷ worlds) log blocks same = absurd (omega arith)
 mirrors_text-append (l ∷ logs) [] log blocks same = absurd (omega arith)
@@ -41,17 +41,17 @@ mirrors_text-append (l ∷ logs) (ws ∷ worlds) log blocks same =
 
 -- the mirrors from this one on
 pub mirrors_on : (logs more : List MirrorLog) (worlds others : List (List (List ℕ))) (log : MirrorLog) (blocks : List (List ℕ)) (old new all : List ℕ) → logs ≡ log ∷ more → worlds ≡ blocks ∷ others
-    → new ≡ old ++ (log_text log.mirror (length log.events) log.events ++ blocks_text blocks) → old ++ mirrors_text logs worlds ≡ all → new ++ mirrors_text more others ≡ all
-unfolding mirrors_text
+    → new ≡ old ++ (log_text log.mirror (length log.events) log.events ++ blocks_text blocks) → old ++ record_mirrors_text logs worlds ≡ all → new ++ record_mirrors_text more others ≡ all
+unfolding record_mirrors_text
 mirrors_on logs more worlds others log blocks old new all some stated put so_far =
-    rw put (append_assoc old (log_text log.mirror (length log.events) log.events ++ blocks_text blocks) (mirrors_text more others)) ∙ rw (some, stated) at so_far
+    rw put (append_assoc old (log_text log.mirror (length log.events) log.events ++ blocks_text blocks) (record_mirrors_text more others)) ∙ rw (some, stated) at so_far
 
-pub mirrors_end : (logs : List MirrorLog) (worlds : List (List (List ℕ))) (old all : List ℕ) → length logs ≡ 0 → old ++ mirrors_text logs worlds ≡ all → old ≡ all
-unfolding mirrors_text
+pub mirrors_end : (logs : List MirrorLog) (worlds : List (List (List ℕ))) (old all : List ℕ) → length logs ≡ 0 → old ++ record_mirrors_text logs worlds ≡ all → old ≡ all
+unfolding record_mirrors_text
 mirrors_end [] worlds old all none so_far = sym (append-nil old) ∙ so_far
 mirrors_end (log ∷ logs) worlds old all none so_far = absurd (omega arith)
 
-pub worlds_end : (logs more : List MirrorLog) (worlds : List (List (List ℕ))) (log : MirrorLog) (old all : List ℕ) → logs ≡ log ∷ more → length worlds ≡ 0 → old ++ mirrors_text logs worlds ≡ all → old ≡ all
-unfolding mirrors_text
+pub worlds_end : (logs more : List MirrorLog) (worlds : List (List (List ℕ))) (log : MirrorLog) (old all : List ℕ) → logs ≡ log ∷ more → length worlds ≡ 0 → old ++ record_mirrors_text logs worlds ≡ all → old ≡ all
+unfolding record_mirrors_text
 worlds_end logs more [] log old all some none so_far = sym (append-nil old) ∙ rw some at so_far
 worlds_end logs more (blocks ∷ worlds) log old all some none so_far = absurd (omega arith)

@@ -28,9 +28,9 @@ use Rattle.run_recorder.specs.declared.tail.Stage.{Stage}
 use Rattle.run_recorder.specs.declared.tail.Stage.TheVariants.{Between, InLog, InWorld, Ended}
 use Rattle.run_recorder.specs.declared.tail.Tail.{Tail}
 use Rattle.run_recorder.specs.Data.{EachNumbered, IsEventOf, IsLogOf, IsBlockLine, IsBlock, AreWorldsOf}
-use Rattle.run_recorder.specs.Kinds.{is_under_way, is_between, is_in_log, is_in_world, is_ended, begun, blocks_of, is_event_due, is_past_events, has_worlds, is_end_due, closed, with_event, with_arrival, is_there, log_kind, arrive_kind, world_kind}
-use Rattle.run_recorder.specs.Reading.{by_word, take, is_last, no_tail}
-use Rattle.run_recorder.specs.Text.{last_line, event_line, log_line, world_line, is_block_line, log_text, blocks_text, mirrors_text}
+use Rattle.run_recorder.specs.Kinds.{is_under_way, is_between, is_in_log, is_in_world, is_record_ended, begun, blocks_of, is_event_due, is_past_events, has_worlds, is_end_due, closed, with_event, with_arrival, is_there, log_kind, record_arrive_kind, record_world_kind}
+use Rattle.run_recorder.specs.Reading.{record_by_word, take_record_line, is_record_last, no_tail}
+use Rattle.run_recorder.specs.Text.{last_line, event_line, log_line, world_line, is_block_line, log_text, blocks_text, record_mirrors_text}
 use Rattle.run_recorder.proofs.ExactKinds.{IsSmall, LogFits, ArriveFits, WorldFits, log_exact, arrive_exact, step_exact, restagger_exact, world_exact}
 use Rattle.run_recorder.proofs.NumberedLaws.{numbered_push, numbered_last}
 use Rattle.run_recorder.proofs.PrintLaws.{blocks_text-append, one_block, mirrors_text-append}
@@ -74,7 +74,7 @@ part_text InWorld t = under_way_text t
 part_text Ended t = as_line last_line
 
 abbrev pub tail_text : Tail → List ℕ
-tail_text t = mirrors_text t.logs t.worlds ++ part_text t.stage t
+tail_text t = record_mirrors_text t.logs t.worlds ++ part_text t.stage t
 
 -- what is always true of what was read
 pub record IsTail (m : MatchData) (t : Tail) : Type 0 where
@@ -89,7 +89,7 @@ pub record IsTail (m : MatchData) (t : Tail) : Type 0 where
   pub fresh : is_in_world t.stage ≡ false → t.blocks ≡ []
   pub past : is_in_world t.stage ≡ true → t.left ≡ 0
   pub still : is_under_way t.stage ≡ false → (t.events ≡ []) × (t.left ≡ 0)
-  pub whole : is_ended t.stage ≡ true → length t.logs ≡ m.mirrors
+  pub whole : is_record_ended t.stage ≡ true → length t.logs ≡ m.mirrors
 
 pub no_tail_is : (m : MatchData) → IsTail m no_tail
 unfolding EachNumbered
@@ -134,7 +134,7 @@ event_says m t e is due fit =
         fresh = is.fresh;
         past = λ h. absurd (let k : is_in_world t.stage ≡ false = rw stage refl in cc);
         still = λ h. absurd (let k : is_under_way t.stage ≡ true = rw stage refl in cc);
-        whole = λ h. absurd (let k : is_ended t.stage ≡ false = rw stage refl in cc);
+        whole = λ h. absurd (let k : is_record_ended t.stage ≡ false = rw stage refl in cc);
       },
     )
 
@@ -190,10 +190,10 @@ block_says m t l is inside fit =
     )
 
 -- the text of the mirror under way
-under_text : (t : Tail) → is_under_way t.stage ≡ true → tail_text t ≡ mirrors_text t.logs t.worlds ++ under_way_text t
+under_text : (t : Tail) → is_under_way t.stage ≡ true → tail_text t ≡ record_mirrors_text t.logs t.worlds ++ under_way_text t
 under_text t h = elim (under_is t.stage h) [ inl e ↦ rw e refl | inr e ↦ rw e refl ]
 
-pub under_not_ended : (stage : Stage) → is_under_way stage ≡ true → is_ended stage ≡ false
+pub under_not_ended : (stage : Stage) → is_under_way stage ≡ true → is_record_ended stage ≡ false
 under_not_ended Between h = absurd cc
 under_not_ended InLog h = refl
 under_not_ended InWorld h = refl
@@ -202,7 +202,7 @@ under_not_ended Ended h = absurd cc
 pub under_begun : (t : Tail) → is_under_way t.stage ≡ true → begun t ≡ length t.logs + 1
 under_begun t h = rw h refl
 
-world_says : (m : MatchData) (t u : Tail) (ws : List (List ℕ)) → IsTail m t → (took : Took (world_kind m) (WorldFits m) t ws u) → Says m t (line_text (world_kind m) t took.a) u
+world_says : (m : MatchData) (t u : Tail) (ws : List (List ℕ)) → IsTail m t → (took : Took (record_world_kind m) (WorldFits m) t ws u) → Says m t (line_text (record_world_kind m) t took.a) u
 world_says m t u ws is took =
     let s = took.sound in
     let due = and_parts (is_past_events t) _ s.stands in
@@ -216,7 +216,7 @@ world_says m t u ws is took =
     let begins : IsBlock (length t.logs) (0 + length (blocks_of t)) (as_line (world_line took.a.0 took.a.1.0 took.a.1.1)) = rw (from_none, mirror, copy) (head_is_block (length t.logs) (length (blocks_of t)) took.a.1.1 (omega arith)) in
     let begun_in : begun t ≡ length t.logs + 1 = under_begun t past.0 in
     let mirrors = is.mirrors in
-    let levels : tail_text u ≡ tail_text t ++ as_line (line_text (world_kind m) t took.a) =
+    let levels : tail_text u ≡ tail_text t ++ as_line (line_text (record_world_kind m) t took.a) =
     rw (took.put, under_text t past.0, last_block (blocks_of t) (as_line (world_line took.a.0 took.a.1.0 took.a.1.1))) (simp append_assoc) in (
       levels,
       rw took.put (record {
@@ -238,7 +238,7 @@ world_says m t u ws is took =
 -- ---- a log, and the end
 
 abbrev pub closed_text : Tail → List ℕ
-closed_text t = mirrors_text t.logs t.worlds
+closed_text t = record_mirrors_text t.logs t.worlds
 
 -- the mirror under way, closed
 record Closes (m : MatchData) (t c : Tail) : Type 0 where
@@ -265,7 +265,7 @@ close_says m t is due =
     let here : 0 + length t.worlds ≡ length t.logs = omega (arith, is.level) in
     let stated : AreWorldsOf m (0 + length t.worlds) (blocks_of t) = rw here (all, is.blocks) in
     let worlds : EachNumbered (AreWorldsOf m) 0 (t.worlds ++ blocks_of t ∷ []) = numbered_push (AreWorldsOf m) 0 t.worlds (blocks_of t) is.worlds stated in
-    let text : tail_text t ≡ mirrors_text (t.logs ++ log ∷ []) (t.worlds ++ blocks_of t ∷ []) =
+    let text : tail_text t ≡ record_mirrors_text (t.logs ++ log ∷ []) (t.worlds ++ blocks_of t ∷ []) =
     under_text t past.0 ∙ rw count (sym (mirrors_text-append t.logs t.worlds log (blocks_of t) is.level)) in
     rw past.0 (record {
       is = record {
@@ -300,7 +300,7 @@ still_begun : (t : Tail) → is_under_way t.stage ≡ false → begun t ≡ leng
 still_begun t h = rw h refl
 
 still_text : (t : Tail) → t.stage ≡ Between → tail_text t ≡ closed_text t
-still_text t e = rw e (append-nil (mirrors_text t.logs t.worlds))
+still_text t e = rw e (append-nil (record_mirrors_text t.logs t.worlds))
 
 still_says : (m : MatchData) (t : Tail) → IsTail m t → is_between t.stage ≡ true → Closes m t (closed t)
 still_says m t is at =
@@ -308,7 +308,7 @@ still_says m t is at =
     let still = between_still t.stage at in
     subst (Closes m t) (sym (closed_still t still)) (record { is = is; between = stage; text = still_text t stage; begun_is = still_begun t still })
 
-opens_text : (logs : List MirrorLog) (worlds : List (List (List ℕ))) (left mirror : ℕ) → mirror ≡ length logs → mirrors_text logs worlds ++ (log_text (length logs) (0 + left) [] ++ blocks_text []) ≡ mirrors_text logs worlds ++ as_line (log_line mirror left)
+opens_text : (logs : List MirrorLog) (worlds : List (List (List ℕ))) (left mirror : ℕ) → mirror ≡ length logs → record_mirrors_text logs worlds ++ (log_text (length logs) (0 + left) [] ++ blocks_text []) ≡ record_mirrors_text logs worlds ++ as_line (log_line mirror left)
 unfolding lines_text blocks_text
 opens_text logs worlds left mirror e =
     let from_none : 0 + left ≡ left = omega arith in
@@ -406,19 +406,19 @@ arrive_at m t from number x is due e =
     let same : event_line (Arrive x) ≡ spaced (codes "arrive" ∷ decimal from ∷ decimal number ∷ []) = rw (named.0, named.1) refl in
     subst (λ (l : List ℕ). Says m t l (with_event t (Arrive x))) same (event_says m t (Arrive x) is due there)
 
-arrive_says : (m : MatchData) (t u : Tail) (ws : List (List ℕ)) → IsTail m t → (took : Took (arrive_kind m) (ArriveFits m) t ws u) → Says m t (line_text (arrive_kind m) t took.a) u
+arrive_says : (m : MatchData) (t u : Tail) (ws : List (List ℕ)) → IsTail m t → (took : Took (record_arrive_kind m) (ArriveFits m) t ws u) → Says m t (line_text (record_arrive_kind m) t took.a) u
 arrive_says m t u ws is took =
     let s = took.sound in
     let found = found_is (command_named m.commands took.a.0 took.a.1) s.tests.0 in
     let put : u ≡ with_event t (Arrive found.0) = took.put ∙ ap (with_arrival t) found.1 in
-    subst (λ (v : Tail). Says m t (line_text (arrive_kind m) t took.a) v) (sym put) (arrive_at m t took.a.0 took.a.1 found.0 is s.stands found.1)
+    subst (λ (v : Tail). Says m t (line_text (record_arrive_kind m) t took.a) v) (sym put) (arrive_at m t took.a.0 took.a.1 found.0 is s.stands found.1)
 
 -- a copy up to the last is there, where there is one
 step_below : (m : MatchData) → IsSmall m → (copy : ℕ) → copy ≤ length m.delays - 1 → copy < length m.delays
 step_below m small copy h = let some = small.some in omega arith
 
-by_word_says : (m : MatchData) → IsSmall m → (t : Tail) (l : List ℕ) (u : Tail) (front : List ℕ × List (List ℕ)) → IsTail m t → front_at (words_of l) ≡ Ok front → by_word m t front.0 front.1 ≡ Ok u → Says m t l u
-unfolding by_word
+by_word_says : (m : MatchData) → IsSmall m → (t : Tail) (l : List ℕ) (u : Tail) (front : List ℕ × List (List ℕ)) → IsTail m t → front_at (words_of l) ≡ Ok front → record_by_word m t front.0 front.1 ≡ Ok u → Says m t l u
+unfolding record_by_word
 by_word_says m small t l u front is front_is e =
     either (bytes_eq front.0 (codes "arrive")) _ _ _
     (λ same e. let k = step_takes (arrive_exact m small) t front.1 u e in subst (λ (l : List ℕ). Says m t l u) (sym (took_line t u l front front_is same k)) (arrive_says m t u front.1 is k))
@@ -435,8 +435,8 @@ by_word_says m small t l u front is front_is e =
     (λ same e. let k = step_takes (restagger_exact m small) t front.1 u e in rw (k.put, took_line t u l front front_is same k) (event_says m t (Restagger k.a) is k.sound.stands k.sound.fits.1))
     (λ _ e. absurd cc) e) e) e) e) e
 
-pub take_says : (m : MatchData) → IsSmall m → (t : Tail) (l : List ℕ) (u : Tail) → IsTail m t → is_long l ≡ false → take m t l ≡ Ok u → Says m t l u
-unfolding take
+pub take_says : (m : MatchData) → IsSmall m → (t : Tail) (l : List ℕ) (u : Tail) → IsTail m t → is_long l ≡ false → take_record_line m t l ≡ Ok u → Says m t l u
+unfolding take_record_line
 take_says m small t l u is short e =
     either (bytes_eq l (codes "tick")) _ _ _
     (λ same e.
@@ -453,7 +453,7 @@ take_says m small t l u is short e =
     (λ _ e. through _ _ _ e (λ front front_is e. by_word_says m small t l u front is front_is e)) e) e) e
 
 -- what lines say, one after another
-pub follows_says : (m : MatchData) → IsSmall m → (t : Tail) (front : List (List ℕ)) (u : Tail) → IsTail m t → Follows (take m) is_last t front u → (tail_text u ≡ tail_text t ++ lines_text front) × IsTail m u
+pub follows_says : (m : MatchData) → IsSmall m → (t : Tail) (front : List (List ℕ)) (u : Tail) → IsTail m t → Follows (take_record_line m) is_record_last t front u → (tail_text u ≡ tail_text t ++ lines_text front) × IsTail m u
 unfolding Follows lines_text
 follows_says m small t [] u is good = (ap tail_text (sym good) ∙ sym (append-nil (tail_text t)), subst (IsTail m) good is)
 follows_says m small t (l ∷ front) u is good =
@@ -473,7 +473,7 @@ line_is_short (line k rest) l e =
     subst (λ (b : List ℕ). is_long b ≡ false) same g.0
 
 -- what the next line says
-pub step_is : (m : MatchData) → IsSmall m → (t u : Tail) (lines rest : Lines) → IsTail m t → line_step (take m) t lines ≡ Ok (u, rest) → IsTail m u
+pub step_is : (m : MatchData) → IsSmall m → (t u : Tail) (lines rest : Lines) → IsTail m t → line_step (take_record_line m) t lines ≡ Ok (u, rest) → IsTail m u
 unfolding line_step
 step_is m small t u lines rest is e = through _ _ _ e (λ (l : List ℕ × Lines) l_is e. through _ _ _ e (λ d d_is e.
     let same : ◌≡◌ {A = Tail × Lines} (d, l.1) (u, rest) = same_step (d, l.1) (u, rest) e in

@@ -1,5 +1,5 @@
 -- What is written behind a match is read.
-use Rattle.std.proofs.Common.{◌≡◌, ℕ, ◌+◌, ◌-◌, ◌<◌, ◌≤◌, Bool, true, false, cond, ◌||◌, eqb, ltb, List, [], ◌∷◌, ◌++◌, length, map, Option, Some, None, Ok, Err, refl, sym, ap, subst, ◌∙◌, append_assoc, append-nil, length-append, arith, lit<}
+use Rattle.std.proofs.Common.{◌≡◌, ℕ, ◌+◌, ◌-◌, ◌<◌, ◌≤◌, Bool, true, false, cond, ◌||◌, eqb, ltb, List, [], ◌∷◌, ◌++◌, length, map, Some, Ok, Err, refl, sym, ap, subst, ◌∙◌, append_assoc, append-nil, length-append, arith, lit<}
 use Rattle.std.specs.Prelude.{bytes_eq, codes, decimal}
 use Rattle.std.specs.List.{AllByRecursion, list_all}
 use Rattle.std.proofs.lemmas.Bool.{and_parts, eq-eqb, lt-ltb}
@@ -11,12 +11,12 @@ use Rattle.game_trait.specs.Keys.{is_named}
 use Rattle.game_trait.specs.CommandList.{command_named}
 use Rattle.tss_io.specs.declared.cause.Cause.TheVariants.{Shape}
 use Rattle.tss_io.specs.Lines.{torn, as_line, words_of, lines_of, lines_text}
-use Rattle.tss_io.specs.Forms.{is_word, front_at, last_at, InRange, at_least, number_in, is_canonical, is_missing, is_over}
-use Rattle.tss_io.specs.Decimals.{number_of}
+use Rattle.tss_io.specs.Forms.{is_word, front_at, last_at, InRange}
 use Rattle.tss_io.specs.Kinds.{Kind, Sound, step, is_long}
 use Rattle.tss_io.specs.Runs.{Follows, ahead, run}
+use Rattle.tss_io.proofs.AboveLaws.{not_above}
 use Rattle.tss_io.proofs.EachLaws.{of_list_all}
-use Rattle.tss_io.proofs.FormLaws.{same_words, number_again, number_exact}
+use Rattle.tss_io.proofs.FormLaws.{same_words, number_exact}
 use Rattle.tss_io.proofs.KindLaws.{ExactKind, step_again, line_text, line_short, line_front, line_fits, not_alone}
 use Rattle.tss_io.proofs.Printing.{lines_text-append, text_of-ahead}
 use Rattle.tss_io.proofs.RunLaws.{follows_more, all_append, run_again}
@@ -27,10 +27,9 @@ use Rattle.run_recorder.specs.declared.tail.Stage.TheVariants.{InLog, InWorld, E
 use Rattle.run_recorder.specs.declared.tail.Tail.{Tail}
 use Rattle.run_recorder.specs.Data.{EachNumbered, IsEventOf, IsLogOf, IsBlockLine, IsBlock, AreWorldsOf}
 use Rattle.run_recorder.specs.Kinds.{is_under_way, is_between, begun, blocks_of, is_event_due, is_past_events, is_world_due, has_worlds, is_log_due, is_end_due, closed, with_event, with_arrival, is_there, second_of, is_few}
-use Rattle.run_recorder.specs.Reading.{by_word, take, is_last, no_tail}
-use Rattle.run_recorder.specs.Text.{last_line, event_line, log_line, world_line, is_shown, first_word, is_block_line, log_text, blocks_text, mirrors_text}
+use Rattle.run_recorder.specs.Reading.{record_by_word, take_record_line, is_record_last, no_tail}
+use Rattle.run_recorder.specs.Text.{last_line, event_line, log_line, world_line, is_shown, first_word, is_block_line, log_text, blocks_text, record_mirrors_text}
 use Rattle.run_recorder.proofs.ExactKinds.{IsSmall, mirror_exact, LogFits, ArriveFits, WorldFits, log_exact, arrive_exact, step_exact, restagger_exact, world_exact}
-use Rattle.std.proofs.Math.Bool.{and-false}
 use Rattle.run_recorder.proofs.TailLaws.{under_not_ended, under_begun}
 
 -- this text is lines that lead from one place to another
@@ -38,7 +37,7 @@ pub record Written (m : MatchData) (t : Tail) (text : List ℕ) (u : Tail) : Typ
   pub lines : List (List ℕ)
   pub text_is : text ≡ lines_text lines
   pub whole : AllByRecursion (Lacks 10) lines
-  pub follows : Follows (take m) is_last t lines u
+  pub follows : Follows (take_record_line m) is_record_last t lines u
 
 nothing : (m : MatchData) (t : Tail) → Written m t [] t
 unfolding Follows lines_text
@@ -49,10 +48,10 @@ more m t s u a b h k = record {
   lines = h.lines ++ k.lines;
   text_is = ap (λ (x : List ℕ). x ++ b) h.text_is ∙ ap (λ (x : List ℕ). lines_text h.lines ++ x) k.text_is ∙ sym (lines_text-append h.lines k.lines);
   whole = all_append (Lacks 10) h.lines k.lines h.whole k.whole;
-  follows = follows_more (take m) is_last t h.lines s k.lines u h.follows k.follows;
+  follows = follows_more (take_record_line m) is_record_last t h.lines s k.lines u h.follows k.follows;
 }
 
-one : (m : MatchData) (t u : Tail) (l : List ℕ) → is_last t ≡ false → is_long l ≡ false → Lacks 10 l → take m t l ≡ Ok u → Written m t (as_line l) u
+one : (m : MatchData) (t u : Tail) (l : List ℕ) → is_record_last t ≡ false → is_long l ≡ false → Lacks 10 l → take_record_line m t l ≡ Ok u → Written m t (as_line l) u
 unfolding Follows lines_text
 one m t u l going short whole taken = record { lines = l ∷ []; text_is = sym (append-nil (as_line l)); whole = (whole, tt); follows = (going, short, u, taken, refl) }
 
@@ -73,13 +72,13 @@ no_block_line : (l : List ℕ) (front : List ℕ × List (List ℕ)) → front_a
 unfolding is_block_line
 no_block_line l front e other = rw (first_word_is l front e, other) refl
 
-take_front : (m : MatchData) (t : Tail) (l : List ℕ) (front : List ℕ × List (List ℕ)) → front_at (words_of l) ≡ Ok front → is_shown front.0 ≡ false → take m t l ≡ by_word m t front.0 front.1
-unfolding take
+take_front : (m : MatchData) (t : Tail) (l : List ℕ) (front : List ℕ × List (List ℕ)) → front_at (words_of l) ≡ Ok front → is_shown front.0 ≡ false → take_record_line m t l ≡ record_by_word m t front.0 front.1
+unfolding take_record_line
 take_front m t l front e other = rw (not_alone l (codes "tick") front e alone_tick, not_alone l (codes "done") front e alone_done, no_block_line l front e other, e) refl
 
 -- what a kind writes is taken, where its keyword leads to it
-kind_written : {R A : Type 0} {k : Kind Tail R A Tail} {Fits : Tail → A → Type 0} (m : MatchData) → ExactKind k Fits → (t : Tail) (a : A) → Sound k Fits t a → is_shown k.keyword ≡ false → by_word m t k.keyword ((k.form t).words a) ≡ step k t ((k.form t).words a)
-    → is_last t ≡ false → Written m t (as_line (line_text k t a)) (k.put t a)
+kind_written : {R A : Type 0} {k : Kind Tail R A Tail} {Fits : Tail → A → Type 0} (m : MatchData) → ExactKind k Fits → (t : Tail) (a : A) → Sound k Fits t a → is_shown k.keyword ≡ false → record_by_word m t k.keyword ((k.form t).words a) ≡ step k t ((k.form t).words a)
+    → is_record_last t ≡ false → Written m t (as_line (line_text k t a)) (k.put t a)
 kind_written {k = k} m x t a h other led going =
     one m t (k.put t a) (line_text k t a) going (line_short x t a h) (Lacks-spaced _ (line_fits x t a h)) (take_front m t (line_text k t a) _ (line_front x t a h) other ∙ led ∙ step_again x t a h)
 
@@ -88,7 +87,7 @@ kind_written {k = k} m x t a h other led going =
 event_stands : (t : Tail) (left : ℕ) → t.stage ≡ InLog → t.left ≡ left + 1 → is_event_due t ≡ true
 event_stands t left stage some = let k : ltb 0 t.left ≡ true = lt-ltb _ _ (omega arith) in rw (stage, k) refl
 
-log_going : (t : Tail) → t.stage ≡ InLog → is_last t ≡ false
+log_going : (t : Tail) → t.stage ≡ InLog → is_record_last t ≡ false
 log_going t stage = rw stage refl
 
 tick_word_lacks : Lacks 10 (codes "tick")
@@ -107,7 +106,7 @@ found_all P from number (y ∷ commands) x h e =
     ] e
 
 event_written : (m : MatchData) → IsMatch m → IsSmall m → (t : Tail) (e : Event) (left : ℕ) → t.stage ≡ InLog → t.left ≡ left + 1 → IsEventOf m e → Written m t (as_line (event_line e)) (with_event t e)
-unfolding take by_word
+unfolding take_record_line record_by_word
 event_written m is small t Tick left stage some fit = one m t (with_event t Tick) (codes "tick") (log_going t stage) refl tick_word_lacks (rw (event_stands t left stage some) refl)
 event_written m is small t (Arrive x) left stage some fit =
     let named = found_all (IsCommand m) x.from x.number m.commands x is.commands fit in
@@ -157,7 +156,7 @@ block_line_lacks l shown =
     subst (Lacks 10) (spaced-words_of l) (Lacks-spaced (words_of l) (of_list_all is_word (words_of l) words.1))
 
 block_line_written : (m : MatchData) (t : Tail) (l : List ℕ) → t.stage ≡ InWorld → IsBlockLine l → Written m t (as_line l) (record t { block = t.block ++ as_line l })
-unfolding take
+unfolding take_record_line
 block_line_written m t l stage fit =
     one m t (record t { block = t.block ++ as_line l }) l (rw stage refl) fit.1 (block_line_lacks l fit.0) (rw (other_line l (codes "tick") fit.0 tick_no_block, other_line l (codes "done") fit.0 done_no_block, fit.0, stage) refl)
 
@@ -182,7 +181,7 @@ past_events m t h = let k : eqb t.left 0 ≡ true = eq-eqb _ _ h.past in rw (h.u
 
 block_written : (m : MatchData) → IsSmall m → (t : Tail) (block : List ℕ) → Shows m t → length (blocks_of t) < length m.delays → IsBlock (length t.logs) (length (blocks_of t)) block
     → Written m t block (record t { stage = InWorld; blocks = blocks_of t; block = block })
-unfolding by_word
+unfolding record_by_word
 block_written m small t block h room is =
     let n = length t.logs in
     let c = length (blocks_of t) in
@@ -226,29 +225,19 @@ record Ready (m : MatchData) (t : Tail) (logs : List MirrorLog) (worlds : List (
   pub closed_is : closed t ≡ record no_tail { logs = logs; worlds = worlds }
   pub due : (is_between t.stage || has_worlds m t) ≡ true
   pub begun_is : begun t ≡ length logs
-  pub going : is_last t ≡ false
+  pub going : is_record_last t ≡ false
 
-number_there : (o : Option ℕ) (n : ℕ) → at_least 0 o ≡ Ok n → is_missing o ≡ false
-number_there None n e = absurd cc
-number_there (Some k) n e = refl
-
-not_over : (count : ℕ) → count ≤ MOST_LOGGED_EVENTS → is_over MOST_LOGGED_EVENTS (decimal count) ≡ false
-unfolding is_over number_in
-not_over count few =
-    let there : is_missing (number_of (decimal count) MOST_LOGGED_EVENTS) ≡ false = number_there _ count (number_again 0 MOST_LOGGED_EVENTS count (lit< tt) (omega arith, few)) in
-    rw there (and-false (is_canonical (decimal count)))
-
--- the count of a log isn't over
+-- the count of a log isn't above the most
 few_events : (m : MatchData) → IsSmall m → (mirror count : ℕ) → InRange 0 (m.mirrors - 1) mirror → count ≤ MOST_LOGGED_EVENTS → is_few (second_of (decimal mirror ∷ decimal count ∷ [])) ≡ true
 unfolding front_at last_at
 few_events m small mirror count fits few =
     let first : is_word (decimal mirror) ≡ true = (mirror_exact m small).fit mirror fits in
     let second : is_word (decimal count) ≡ true = (number_exact 0 131072 6 (lit< tt) (lit< tt) (lit< tt)).fit count (omega arith, few) in
-    rw (first, second, not_over count few) refl
+    rw (first, second, not_above MOST_LOGGED_EVENTS count few (lit< tt)) refl
 
 log_written : (m : MatchData) → IsSmall m → (t : Tail) (logs : List MirrorLog) (worlds : List (List (List ℕ))) (count : ℕ) → Ready m t logs worlds → length logs < m.mirrors → count ≤ MOST_LOGGED_EVENTS
     → Written m t (as_line (log_line (length logs) count)) (record no_tail { stage = InLog; logs = logs; worlds = worlds; left = count })
-unfolding by_word
+unfolding record_by_word
 log_written m small t logs worlds count ready room few =
     let n = length logs in
     let begun_is = ready.begun_is in
@@ -311,8 +300,8 @@ mirror_written m is small t logs worlds log blocks ready room of_mirror stated =
 
 mirrors_written : (m : MatchData) → IsMatch m → IsSmall m → (more_logs : List MirrorLog) (more_worlds : List (List (List ℕ))) (t : Tail) (logs : List MirrorLog) (worlds : List (List (List ℕ))) → Ready m t logs worlds → (length more_logs ≡ 0 → has_worlds m t ≡ true)
     → length more_worlds ≡ length more_logs → length logs + length more_logs ≤ m.mirrors → EachNumbered (IsLogOf m) (length logs) more_logs → EachNumbered (AreWorldsOf m) (length logs) more_worlds
-    → MirrorWritten m t (mirrors_text more_logs more_worlds) (logs ++ more_logs) (worlds ++ more_worlds)
-unfolding mirrors_text EachNumbered
+    → MirrorWritten m t (record_mirrors_text more_logs more_worlds) (logs ++ more_logs) (worlds ++ more_worlds)
+unfolding record_mirrors_text EachNumbered
 mirrors_written m is small [] [] t logs worlds ready last level room are stated =
     record { after = t; written = nothing m t; ready = rw (append-nil logs, append-nil worlds) ready; shown = last refl }
 mirrors_written m is small [] (ws ∷ more_worlds) t logs worlds ready last level room are stated = absurd (omega arith)
@@ -323,13 +312,13 @@ mirrors_written m is small (log ∷ more_logs) (blocks ∷ more_worlds) t logs w
     let rest = mirrors_written m is small more_logs more_worlds first.after (logs ++ log ∷ []) (worlds ++ blocks ∷ []) first.ready (λ _. first.shown) (omega arith) (omega (arith, count)) (rw count are.1) (rw count stated.1) in
     record {
       after = rest.after;
-      written = more m t first.after rest.after _ (mirrors_text more_logs more_worlds) first.written rest.written;
+      written = more m t first.after rest.after _ (record_mirrors_text more_logs more_worlds) first.written rest.written;
       ready = rw (append_assoc logs (log ∷ []) more_logs, append_assoc worlds (blocks ∷ []) more_worlds) at rest.ready;
       shown = rest.shown;
     }
 
 end_written : (m : MatchData) (t : Tail) (logs : List MirrorLog) (worlds : List (List (List ℕ))) → Ready m t logs worlds → has_worlds m t ≡ true → length logs ≡ m.mirrors → Written m t (as_line last_line) (record no_tail { stage = Ended; logs = logs; worlds = worlds })
-unfolding take
+unfolding take_record_line
 end_written m t logs worlds ready shown count =
     let all : eqb (begun t) m.mirrors ≡ true = eq-eqb _ _ (ready.begun_is ∙ count) in
     let due : is_end_due m t ≡ true = rw (shown, all) refl in
@@ -338,15 +327,15 @@ end_written m t logs worlds ready shown count =
 
 -- The logs and worlds of a record are read, behind its match.
 pub tail_written : (m : MatchData) → IsMatch m → IsSmall m → (logs : List MirrorLog) (worlds : List (List (List ℕ))) → length logs ≡ m.mirrors → length worlds ≡ m.mirrors → EachNumbered (IsLogOf m) 0 logs → EachNumbered (AreWorldsOf m) 0 worlds
-    → Written m no_tail (mirrors_text logs worlds ++ as_line last_line) (record no_tail { stage = Ended; logs = logs; worlds = worlds })
+    → Written m no_tail (record_mirrors_text logs worlds ++ as_line last_line) (record no_tail { stage = Ended; logs = logs; worlds = worlds })
 tail_written m is small logs worlds count level are stated =
     let some = is.mirrors.0 in
     let ready : Ready m no_tail [] [] = record { closed_is = refl; due = refl; begun_is = refl; going = refl } in
     let all = mirrors_written m is small logs worlds no_tail [] [] ready (λ none. absurd (omega arith)) (level ∙ sym count) (omega arith) are stated in
-    more m no_tail all.after _ (mirrors_text logs worlds) (as_line last_line) all.written (end_written m all.after logs worlds all.ready all.shown count)
+    more m no_tail all.after _ (record_mirrors_text logs worlds) (as_line last_line) all.written (end_written m all.after logs worlds all.ready all.shown count)
 
 -- What is written so is read.
-pub written_runs : (m : MatchData) (n : ℕ) (t u : Tail) (text : List ℕ) → Written m t text u → is_last u ≡ true → run (take m) is_last n t (lines_of text) ≡ Ok u
+pub written_runs : (m : MatchData) (n : ℕ) (t u : Tail) (text : List ℕ) → Written m t text u → is_record_last u ≡ true → run (take_record_line m) is_record_last n t (lines_of text) ≡ Ok u
 written_runs m n t u text w last =
     let lines : lines_of text ≡ ahead w.lines (torn []) = ap lines_of (w.text_is ∙ sym (text_of-ahead w.lines)) ∙ lines_of-text_of (ahead w.lines (torn [])) (AreLines-ahead w.lines (torn []) w.whole refl) in
-    rw lines (run_again (take m) is_last n t w.lines u w.follows last)
+    rw lines (run_again (take_record_line m) is_record_last n t w.lines u w.follows last)

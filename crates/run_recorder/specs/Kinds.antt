@@ -8,7 +8,7 @@ use Rattle.game_trait.specs.declared.limits.TheConstants.{GREATEST_NUMBER, MOST_
 use Rattle.game_trait.specs.CommandList.{command_named}
 use Rattle.tss_io.specs.declared.cause.Cause.{Cause}
 use Rattle.tss_io.specs.declared.cause.Cause.TheVariants.{Name, Order}
-use Rattle.tss_io.specs.Forms.{front_at, last_at, number, only, ◌&◌, is_over}
+use Rattle.tss_io.specs.Forms.{front_at, last_at, number, only, ◌&◌, is_above}
 use Rattle.tss_io.specs.Results.{◌>>=◌}
 use Rattle.tss_io.specs.Kinds.{Kind}
 use Rattle.tss_io.specs.Lines.{as_line}
@@ -45,11 +45,11 @@ is_in_world InLog = false
 is_in_world InWorld = true
 is_in_world Ended = false
 
-abbrev pub is_ended : Stage → Bool
-is_ended Between = false
-is_ended InLog = false
-is_ended InWorld = false
-is_ended Ended = true
+abbrev pub is_record_ended : Stage → Bool
+is_record_ended Between = false
+is_record_ended InLog = false
+is_record_ended InWorld = false
+is_record_ended Ended = true
 
 -- ---- what may come next
 
@@ -118,7 +118,7 @@ second_of words = front_at words >>= λ front. last_at front.1
 
 -- no count of events above the most
 abbrev pub is_few : Result (List ℕ) Cause → Bool
-is_few (Ok word) = not (is_over MOST_LOGGED_EVENTS word)
+is_few (Ok word) = not (is_above MOST_LOGGED_EVENTS word)
 is_few (Err cause) = true
 
 -- ---- the kinds
@@ -136,8 +136,8 @@ log_kind m = record {
 }
 
 -- the arrival of a command that the match has
-abbrev pub arrive_kind : MatchData → Kind Tail (List ℕ × List ℕ) (ℕ × ℕ) Tail
-arrive_kind m = record {
+abbrev pub record_arrive_kind : MatchData → Kind Tail (List ℕ × List ℕ) (ℕ × ℕ) Tail
+record_arrive_kind m = record {
   keyword = codes "arrive";
   form = λ _. number 0 (m.mirrors - 1) & only (number 0 GREATEST_NUMBER);
   stands = is_event_due;
@@ -147,8 +147,8 @@ arrive_kind m = record {
 }
 
 -- a step of a copy that is there
-abbrev pub step_kind : MatchData → Kind Tail (List ℕ) ℕ Tail
-step_kind m = record {
+abbrev pub record_step_kind : MatchData → Kind Tail (List ℕ) ℕ Tail
+record_step_kind m = record {
   keyword = codes "step";
   form = λ _. only (number 0 (length m.delays - 1));
   stands = is_event_due;
@@ -158,8 +158,8 @@ step_kind m = record {
 }
 
 -- a plan that is there
-abbrev pub restagger_kind : MatchData → Kind Tail (List ℕ) ℕ Tail
-restagger_kind m = record {
+abbrev pub record_restagger_kind : MatchData → Kind Tail (List ℕ) ℕ Tail
+record_restagger_kind m = record {
   keyword = codes "restagger";
   form = λ _. only (number 0 (length m.plans));
   stands = is_event_due;
@@ -169,8 +169,8 @@ restagger_kind m = record {
 }
 
 -- the head of the block that is due: its mirror, its copy, and a time
-abbrev pub world_kind : MatchData → Kind Tail (List ℕ × (List ℕ × List ℕ)) (ℕ × (ℕ × ℕ)) Tail
-world_kind m = record {
+abbrev pub record_world_kind : MatchData → Kind Tail (List ℕ × (List ℕ × List ℕ)) (ℕ × (ℕ × ℕ)) Tail
+record_world_kind m = record {
   keyword = codes "world";
   form = λ _. number 0 (m.mirrors - 1) & number 0 (length m.delays - 1) & only
       (number 0 (2 ^ 32 - 1));

@@ -19,57 +19,57 @@ use Rattle.match_file.specs.Text.{match_text}
 use Rattle.run_recorder.specs.declared.race_record.RaceRecord.{RaceRecord}
 use Rattle.run_recorder.specs.declared.tail.Stage.TheVariants.{Between, Ended}
 use Rattle.run_recorder.specs.declared.tail.Tail.{Tail}
-use Rattle.run_recorder.specs.Kinds.{is_ended, is_in_world, is_event_due, is_end_due, closed, with_event, log_kind, arrive_kind, step_kind, restagger_kind, world_kind}
-use Rattle.run_recorder.specs.Text.{head_line, is_block_line}
+use Rattle.run_recorder.specs.Kinds.{is_record_ended, is_in_world, is_event_due, is_end_due, closed, with_event, log_kind, record_arrive_kind, record_step_kind, record_restagger_kind, record_world_kind}
+use Rattle.run_recorder.specs.Text.{record_head, is_block_line}
 
 -- ---- a line behind the match
 
 -- the line of the kind that its first word names
-unfoldable pub by_word : MatchData → Tail → List ℕ → List (List ℕ) → Result Tail Cause
-by_word m t word words =
-    if bytes_eq word (codes "arrive") then step (arrive_kind m) t words
-    else (if bytes_eq word (codes "step") then step (step_kind m) t words
-    else (if bytes_eq word (codes "world") then step (world_kind m) t words
+unfoldable pub record_by_word : MatchData → Tail → List ℕ → List (List ℕ) → Result Tail Cause
+record_by_word m t word words =
+    if bytes_eq word (codes "arrive") then step (record_arrive_kind m) t words
+    else (if bytes_eq word (codes "step") then step (record_step_kind m) t words
+    else (if bytes_eq word (codes "world") then step (record_world_kind m) t words
     else (if bytes_eq word (codes "log") then step (log_kind m) t words
-    else (if bytes_eq word (codes "restagger") then step (restagger_kind m) t words
+    else (if bytes_eq word (codes "restagger") then step (record_restagger_kind m) t words
     else Err Shape))))
 
 -- a line behind the match
-unfoldable pub take : MatchData → Tail → List ℕ → Result Tail Cause
-take m t l =
+unfoldable pub take_record_line : MatchData → Tail → List ℕ → Result Tail Cause
+take_record_line m t l =
     if bytes_eq l (codes "tick") then (if is_event_due t then Ok (with_event t Tick) else Err Shape)
     else (if bytes_eq l (codes "done")
     then (if is_end_due m t then Ok (record (closed t) { stage = Ended }) else Err Shape)
     else (if is_block_line l
     then (if is_in_world t.stage then Ok (record t { block = t.block ++ as_line l })
     else Err Shape)
-    else (front_at (words_of l) >>= λ front. by_word m t front.0 front.1)))
+    else (front_at (words_of l) >>= λ front. record_by_word m t front.0 front.1)))
 
-abbrev pub is_last : Tail → Bool
-is_last t = is_ended t.stage
+abbrev pub is_record_last : Tail → Bool
+is_record_last t = is_record_ended t.stage
 
 -- every check of a line whose first word is this, in their order
-abbrev pub word_checks : MatchData → Tail → List ℕ → List (List ℕ) → List (Bool × Cause)
-word_checks m t word words =
-    if bytes_eq word (codes "arrive") then all_tests (arrive_kind m) t words
-    else (if bytes_eq word (codes "step") then all_tests (step_kind m) t words
-    else (if bytes_eq word (codes "world") then all_tests (world_kind m) t words
+abbrev pub record_word_checks : MatchData → Tail → List ℕ → List (List ℕ) → List (Bool × Cause)
+record_word_checks m t word words =
+    if bytes_eq word (codes "arrive") then all_tests (record_arrive_kind m) t words
+    else (if bytes_eq word (codes "step") then all_tests (record_step_kind m) t words
+    else (if bytes_eq word (codes "world") then all_tests (record_world_kind m) t words
     else (if bytes_eq word (codes "log") then all_tests (log_kind m) t words
-    else (if bytes_eq word (codes "restagger") then all_tests (restagger_kind m) t words
+    else (if bytes_eq word (codes "restagger") then all_tests (record_restagger_kind m) t words
     else (false, Shape) ∷ []))))
 
-abbrev pub behind_checks : MatchData → Tail → Result (List ℕ × List (List ℕ)) Cause
+abbrev pub record_behind_checks : MatchData → Tail → Result (List ℕ × List (List ℕ)) Cause
     → List (Bool × Cause)
-behind_checks m t (Ok front) = word_checks m t front.0 front.1
-behind_checks m t (Err cause) = (false, Shape) ∷ []
+record_behind_checks m t (Ok front) = record_word_checks m t front.0 front.1
+record_behind_checks m t (Err cause) = (false, Shape) ∷ []
 
 -- every check of a line behind the match, in their order
-abbrev pub checks_of : MatchData → Tail → List ℕ → List (Bool × Cause)
-checks_of m t l =
+abbrev pub record_checks : MatchData → Tail → List ℕ → List (Bool × Cause)
+record_checks m t l =
     if bytes_eq l (codes "tick") then (is_event_due t, Shape) ∷ []
     else (if bytes_eq l (codes "done") then (is_end_due m t, Shape) ∷ []
     else (if is_block_line l then (is_in_world t.stage, Shape) ∷ []
-    else behind_checks m t (front_at (words_of l))))
+    else record_behind_checks m t (front_at (words_of l))))
 
 -- no line was read yet
 abbrev pub no_tail : Tail
@@ -85,13 +85,13 @@ no_tail = record {
 
 -- the lines behind the match, of which the first has this number, with nothing behind them
 abbrev pub tail_at : MatchData → ℕ → Lines → Result Tail Refused
-tail_at m n lines = run_to (take m) is_last n no_tail lines >>= ended
+tail_at m n lines = run_to (take_record_line m) is_record_last n no_tail lines >>= ended
 
 -- ---- the first line, and the match
 
 -- the lines behind the first
-abbrev pub head_at : Lines → Result Lines Cause
-head_at lines = line_at lines >>= λ l. if bytes_eq l.0 head_line then Ok l.1 else Err Head
+abbrev pub record_head_at : Lines → Result Lines Cause
+record_head_at lines = line_at lines >>= λ l. if bytes_eq l.0 record_head then Ok l.1 else Err Head
 
 -- how many newlines there are, so how many lines are closed
 abbrev pub newlines : List ℕ → ℕ
@@ -100,7 +100,7 @@ newlines text = count_by (λ b. b == 10) text
 -- a record begins with this match; behind it stands this text, whose first line has this number
 pub record IsFront (text : List ℕ) (m : MatchData) (number : ℕ) (rest : List ℕ) : Type 0 where
   pub sound : IsMatch m
-  pub whole : text ≡ as_line head_line ++ (match_text m ++ rest)
+  pub whole : text ≡ as_line record_head ++ (match_text m ++ rest)
   pub counted : number ≡ 2 + newlines (match_text m)
 
 -- ---- the whole record
@@ -108,25 +108,25 @@ pub record IsFront (text : List ℕ) (m : MatchData) (number : ℕ) (rest : List
 -- the match behind the first line, the number of the line behind it, and the lines from that one on
 unfoldable pub front_of : List ℕ → Result (MatchData × (ℕ × Lines)) Refused
 front_of text = do
-  rest ← at 1 (head_at (lines_of text))
+  rest ← at 1 (record_head_at (lines_of text))
   game ← read_match 2 rest
   Ok (game.0, (2 + newlines (match_text game.0), game.1.rest))
 
-abbrev pub record_of : MatchData → Tail → RaceRecord
-record_of m t = record { game = m; logs = t.logs; worlds = t.worlds }
+abbrev pub record_with : MatchData → Tail → RaceRecord
+record_with m t = record { game = m; logs = t.logs; worlds = t.worlds }
 
 -- what a text says
-unfoldable pub read_text : List ℕ → Result RaceRecord Refused
-read_text text =
+unfoldable pub read_record : List ℕ → Result RaceRecord Refused
+read_record text =
     if nat_lt LONGEST_RECORD_TEXT (length text) then Err (refused_at 0 Long)
     else (front_of text >>= λ front. tail_at front.0 front.1.0 front.1.1 >>= λ t.
-    Ok (record_of front.0 t))
+    Ok (record_with front.0 t))
 
 -- ---- the first fault of a record
 
 -- the check of the first line
 abbrev pub head_checks : Unit {0} → List ℕ → List (Bool × Cause)
-head_checks _ l = (bytes_eq l head_line, Head) ∷ []
+head_checks _ l = (bytes_eq l record_head, Head) ∷ []
 
 -- the first line is refused
 abbrev pub IsHeadFault : List ℕ → Refused → Type 0
@@ -138,7 +138,7 @@ IsHeadFault text refused =
 -- No match stands behind the first line, and its first faulty line is refused.
 pub record IsMatchFault (text : List ℕ) (refused : Refused) : Type 0 where
   pub rest : List ℕ
-  pub head : text ≡ as_line head_line ++ rest
+  pub head : text ≡ as_line record_head ++ rest
   pub no_match : (m : MatchData) (behind : List ℕ) → IsMatch m → rest ≡ match_text m ++ behind → ⊥
   pub first : IsFirstAt 2 rest (text_faults.Refused refused)
 
@@ -147,10 +147,10 @@ pub record IsTailFault (text : List ℕ) (refused : Refused) : Type 0 where
   pub game : MatchData
   pub rest : List ℕ
   pub sound : IsMatch game
-  pub front : text ≡ as_line head_line ++ (match_text game ++ rest)
+  pub front : text ≡ as_line record_head ++ (match_text game ++ rest)
   pub first :
-      FirstFault (take game) (checks_of game) is_last (2 + newlines (match_text game)) no_tail
-      (lines_of rest) refused
+      FirstFault (take_record_line game) (record_checks game) is_record_last
+      (2 + newlines (match_text game)) no_tail (lines_of rest) refused
 
 -- The first line, or the first faulty line of the match, is refused.
 abbrev pub IsFrontFault : List ℕ → TextFault → Type 0
@@ -160,9 +160,9 @@ IsFrontFault text (text_faults.Refused refused) =
 
 -- The refusal is of the whole text for its length, or of the first faulty line, with that line's
 -- first failing check: lines are counted over the whole record.
-abbrev pub IsFirst : List ℕ → TextFault → Type 0
-IsFirst text text_faults.NoMemory = Unit {0}
-IsFirst text (text_faults.Refused refused) =
+abbrev pub IsFirstOfRecord : List ℕ → TextFault → Type 0
+IsFirstOfRecord text text_faults.NoMemory = Unit {0}
+IsFirstOfRecord text (text_faults.Refused refused) =
     ((LONGEST_RECORD_TEXT < length text) × (refused ≡ refused_at 0 Long))
     ⊎ ((length text ≤ LONGEST_RECORD_TEXT)
     × (IsFrontFault text (text_faults.Refused refused) ⊎ IsTailFault text refused))

@@ -11,8 +11,8 @@ use Rattle.run_recorder.specs.declared.log.MirrorLog.{MirrorLog}
 use Rattle.run_recorder.specs.declared.race_record.RaceRecord.{RaceRecord}
 
 -- the first line
-abbrev pub head_line : List ℕ
-head_line = codes "tss record 1"
+abbrev pub record_head : List ℕ
+record_head = codes "tss record 1"
 
 -- the last line
 abbrev pub last_line : List ℕ
@@ -62,14 +62,15 @@ abbrev pub log_text : ℕ → ℕ → List Event → List ℕ
 log_text mirror count events = lines_text (log_line mirror count ∷ map event_line events)
 
 -- the log of each mirror, and behind it the blocks of its copies
-unfoldable pub mirrors_text : List MirrorLog → List (List (List ℕ)) → List ℕ
-mirrors_text [] worlds = []
-mirrors_text (log ∷ logs) [] = []
-mirrors_text (log ∷ logs) (blocks ∷ worlds) =
+unfoldable pub record_mirrors_text : List MirrorLog → List (List (List ℕ)) → List ℕ
+record_mirrors_text [] worlds = []
+record_mirrors_text (log ∷ logs) [] = []
+record_mirrors_text (log ∷ logs) (blocks ∷ worlds) =
     (log_text log.mirror (length log.events) log.events ++ blocks_text blocks)
-    ++ mirrors_text logs worlds
+    ++ record_mirrors_text logs worlds
 
 -- the one text of a record
 abbrev pub record_text : RaceRecord → List ℕ
 record_text r =
-    as_line head_line ++ (match_text r.game ++ (mirrors_text r.logs r.worlds ++ as_line last_line))
+    as_line record_head
+    ++ (match_text r.game ++ (record_mirrors_text r.logs r.worlds ++ as_line last_line))

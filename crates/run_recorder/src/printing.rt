@@ -3,7 +3,7 @@
 ghost use Rattle.std.specs.Prelude.{◌≡◌, ◌++◌, ◌∷◌, [], decimal, length, map, OnOk, IfOk};
 ghost use Rattle.match_file.specs.Text.{match_text};
 ghost use Rattle.tss_io.specs.Lines.{as_line, lines_text, spaced};
-ghost use Rattle.run_recorder.specs.Text.{event_line, log_line, log_text, blocks_text, mirrors_text, record_text, head_line, last_line};
+ghost use Rattle.run_recorder.specs.Text.{event_line, log_line, log_text, blocks_text, record_mirrors_text, record_text, record_head, last_line};
 
 use crate::block::Block;
 use crate::log::MirrorLog;
@@ -109,7 +109,8 @@ fn push_mirrors(
     logs: &[MirrorLog],
     worlds: &[Seq<Block>],
 ) -> Result<(), NoMemory>
-    ensures { OnOk result (out.new.items ≡ out.old.items ++ mirrors_text logs.now worlds.now) }
+    ensures { OnOk result
+        (out.new.items ≡ out.old.items ++ record_mirrors_text logs.now worlds.now) }
 {
     let mut logs = logs;
     let mut worlds = worlds;

@@ -7,8 +7,8 @@ ghost use Rattle.tss_io.specs.Reading.{Answers, Fails, Gives};
 ghost use Rattle.match_file.specs.Data.{MatchData, IsMatch};
 ghost use Rattle.match_file.specs.Text.{match_text};
 ghost use Rattle.run_recorder.specs.Data.{IsRecord};
-ghost use Rattle.run_recorder.specs.Reading.{head_at, newlines, front_of, read_text, IsFront, IsFrontFault, IsFirst};
-ghost use Rattle.run_recorder.specs.Text.{head_line, record_text};
+ghost use Rattle.run_recorder.specs.Reading.{record_head_at, newlines, front_of, read_record, IsFront, IsFrontFault, IsFirstOfRecord};
+ghost use Rattle.run_recorder.specs.Text.{record_head, record_text};
 ghost use Rattle.run_recorder.specs.declared.race_record.RaceRecord.{RaceRecord as Record};
 
 use crate::race_record::RaceRecord;
@@ -21,7 +21,7 @@ use tss_io::{Cause, Lines, Refused, TextFault};
 
 // The text behind the first line.
 fn read_head(text: &[u8]) -> Result<&[u8], Cause>
-    ensures read { Answers (λ rest. lines_of rest.now) result (head_at (lines_of text.now)) }
+    ensures read { Answers (λ rest. lines_of rest.now) result (record_head_at (lines_of text.now)) }
     ensures shorter { IfOk result (λ rest. length rest.now < length text.now) }
 {
     let (line, rest) = next_line(text)?;
@@ -57,7 +57,8 @@ fn read_front<'a>(alloc: Global, text: &'a [u8]) -> Result<(Match, u32, &'a [u8]
     ensures found { IfOk result (λ x. IsFront text.now x.0 x.1 x.2.now) }
     ensures small { IfOk result (λ x. x.1 + length x.2.now < 2 ^ 32) }
     ensures only { (m : MatchData) (rest : List ℕ) → IsMatch m
-        → text.now ≡ as_line head_line ++ (match_text m ++ rest) → Gives (λ x. x.0) result (Ok m) }
+        → text.now ≡ as_line record_head ++ (match_text m ++ rest)
+        → Gives (λ x. x.0) result (Ok m) }
     ensures exact { IfErr result (λ fault. Fails fault (front_of text.now)) }
     ensures refused { IfErr result (IsFrontFault text.now) }
 {
@@ -83,9 +84,9 @@ pub fn read_record(alloc: Global, text: &[u8]) -> Result<RaceRecord, TextFault>
     ensures only { (r : Record) → IsRecord r → text.now ≡ record_text r
         → Gives (λ v. v) result (Ok r) }
     // The record, or the refusal, is the one that reading gives, unless memory runs out.
-    ensures exact { Gives (λ v. v) result (read_text text.now) }
+    ensures exact { Gives (λ v. v) result (read_record text.now) }
     // A refusal names the first faulty line and its first failing check.
-    ensures refused { IfErr result (IsFirst text.now) }
+    ensures refused { IfErr result (IsFirstOfRecord text.now) }
 {
     if text.len() > LONGEST_RECORD_TEXT {
         return Err(TextFault::Refused(Refused {

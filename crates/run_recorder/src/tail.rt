@@ -9,8 +9,8 @@ ghost use Rattle.tss_io.specs.Reading.{Answers, GivesLine, Placed};
 ghost use Rattle.tss_io.specs.Kinds.{step};
 ghost use Rattle.tss_io.specs.Runs.{is_end, line_step, run_to, stopped};
 ghost use Rattle.match_file.specs.Data.{MatchData, IsMatch};
-ghost use Rattle.run_recorder.specs.Kinds.{is_under_way, is_between, is_in_log, is_in_world, is_ended, begun, blocks_of, is_event_due, is_past_events, is_world_due, has_worlds, is_log_due, is_end_due, closed, with_event, log_kind, arrive_kind, step_kind, restagger_kind, world_kind};
-ghost use Rattle.run_recorder.specs.Reading.{by_word, take, is_last, no_tail, tail_at};
+ghost use Rattle.run_recorder.specs.Kinds.{is_under_way, is_between, is_in_log, is_in_world, is_record_ended, begun, blocks_of, is_event_due, is_past_events, is_world_due, has_worlds, is_log_due, is_end_due, closed, with_event, log_kind, record_arrive_kind, record_step_kind, record_restagger_kind, record_world_kind};
+ghost use Rattle.run_recorder.specs.Reading.{record_by_word, take_record_line, is_record_last, no_tail, tail_at};
 ghost use Rattle.run_recorder.specs.Text.{first_word, is_shown, is_block_line, world_line};
 
 use crate::block::Block;
@@ -21,7 +21,7 @@ use match_file::{Match, find_command};
 use std::alloc::Global;
 use std::mem;
 use tss_io::words::{are_words, front, last, next_line, number};
-use tss_io::{Cause, LineFault, NoMemory, Seq, Word, is_over, push_line};
+use tss_io::{Cause, LineFault, NoMemory, Seq, Word, is_above, push_line};
 
 /// How far a record was read behind its match.
 #[derive(Clone, Copy, Debug, PartialEq, Eq)]
@@ -100,7 +100,7 @@ fn is_in_world(stage: Stage) -> bool
 }
 
 fn is_ended(stage: Stage) -> bool
-    ensures { result ≡ is_ended stage }
+    ensures { result ≡ is_record_ended stage }
 {
     match stage {
         Stage::Between => false,
@@ -294,7 +294,7 @@ impl Tail {
         }
         let (mirror, words) = front(words)?;
         let count = last(words)?;
-        if is_over(MOST_LOGGED_EVENTS as u32, count) {
+        if is_above(MOST_LOGGED_EVENTS as u32, count) {
             return Err(LineFault::Refused(Cause::Many));
         }
         let mirror = mirror_of(game, mirror)?;
@@ -310,7 +310,7 @@ impl Tail {
 
     fn take_arrive(&mut self, game: &Match, words: &[u8]) -> Result<(), LineFault>
         ensures { GivesLine (λ _. self.new) result
-            (step (arrive_kind game.now) self.old (words_of words.now)) }
+            (step (record_arrive_kind game.now) self.old (words_of words.now)) }
     {
         if !self.is_event_due() {
             return Err(LineFault::Refused(Cause::Shape));
@@ -328,7 +328,7 @@ impl Tail {
 
     fn take_step(&mut self, game: &Match, words: &[u8]) -> Result<(), LineFault>
         ensures { GivesLine (λ _. self.new) result
-            (step (step_kind game.now) self.old (words_of words.now)) }
+            (step (record_step_kind game.now) self.old (words_of words.now)) }
     {
         if !self.is_event_due() {
             return Err(LineFault::Refused(Cause::Shape));
@@ -340,7 +340,7 @@ impl Tail {
 
     fn take_restagger(&mut self, game: &Match, words: &[u8]) -> Result<(), LineFault>
         ensures { GivesLine (λ _. self.new) result
-            (step (restagger_kind game.now) self.old (words_of words.now)) }
+            (step (record_restagger_kind game.now) self.old (words_of words.now)) }
     {
         if !self.is_event_due() {
             return Err(LineFault::Refused(Cause::Shape));
@@ -353,7 +353,7 @@ impl Tail {
     fn take_world(&mut self, alloc: Global, game: &Match, words: &[u8]) -> Result<(), LineFault>
         requires blocks { length self.old.blocks < 256 }
         ensures { GivesLine (λ _. self.new) result
-            (step (world_kind game.now) self.old (words_of words.now)) }
+            (step (record_world_kind game.now) self.old (words_of words.now)) }
     {
         if !self.is_world_due(game) {
             return Err(LineFault::Refused(Cause::Shape));
@@ -377,7 +377,7 @@ impl Tail {
     }
 
     // A line of the kind that its first word names.
-    #[tactic(auto, unfolding(crate::specs::Reading::by_word))]
+    #[tactic(auto, unfolding(crate::specs::Reading::record_by_word))]
     fn take_words(
         &mut self,
         alloc: Global,
@@ -388,7 +388,7 @@ impl Tail {
         requires blocks { length self.old.blocks < 256 }
         requires logs { length self.old.logs < 256 }
         ensures { GivesLine (λ _. self.new) result
-            (by_word game.now self.old word.now (words_of words.now)) }
+            (record_by_word game.now self.old word.now (words_of words.now)) }
     {
         if word == b"arrive".as_slice() {
             self.take_arrive(game, words)
@@ -406,11 +406,11 @@ impl Tail {
     }
 
     // A line behind the match.
-    #[tactic(auto, unfolding(crate::specs::Reading::take))]
+    #[tactic(auto, unfolding(crate::specs::Reading::take_record_line))]
     fn take(&mut self, alloc: Global, game: &Match, line: &[u8]) -> Result<(), LineFault>
         requires blocks { length self.old.blocks < 256 }
         requires logs { length self.old.logs < 256 }
-        ensures { GivesLine (λ _. self.new) result (take game.now self.old line.now) }
+        ensures { GivesLine (λ _. self.new) result (take_record_line game.now self.old line.now) }
     {
         if line == b"tick".as_slice() {
             if !self.is_event_due() {
@@ -449,7 +449,7 @@ impl Tail {
         requires blocks { length self.old.blocks < 256 }
         requires logs { length self.old.logs < 256 }
         ensures read { GivesLine (λ rest. (self.new, lines_of rest.now)) result
-            (line_step (take game.now) self.old (lines_of text.now)) }
+            (line_step (take_record_line game.now) self.old (lines_of text.now)) }
         ensures shorter { IfOk result (λ rest. length rest.now < length text.now) }
     {
         let (line, rest) = next_line(text)?;
@@ -484,7 +484,7 @@ fn read_lines<'a>(
     requires game { IsMatch game.now }
     requires counted { line.old + length text.now < 2 ^ 32 }
     ensures { Placed (λ x. stopped x.0 line.new (lines_of x.1.now)) line.new result
-        (run_to (take game.now) is_last line.old no_tail (lines_of text.now)) }
+        (run_to (take_record_line game.now) is_record_last line.old no_tail (lines_of text.now)) }
 {
     let mut tail = Tail::new(alloc);
     let mut rest = text;

@@ -12,7 +12,7 @@ use Rattle.sync_model.specs.State.{MirrorState}
 use Rattle.sync_model.specs.Turns.{drain}
 use Rattle.match_file.specs.declared.script_line.ScriptLine.{ScriptLine}
 use Rattle.match_hall.specs.Script.{changed_at, after_line, mirror_of, after_script, opening_from, opening_mirrors, scripted, played}
-use Rattle.match_maker.specs.Generator.{made}
+use Rattle.match_maker.specs.Generator.{match_of_number}
 use Rattle.soak.specs.Soak.{all_commands, IsSoaked}
 use Rattle.soak.specs.Agree.{IsAllAt, AreAllAt}
 
@@ -35,10 +35,10 @@ unfolding opening_from
 length-opening opening m first zero = refl
 length-opening opening m first (suc n) = let more = length-opening opening m (first + 1) n in omega (arith, more)
 
-pub length-played : {W : Type 0} (opening : W) (seed : ℕ) → length (played opening (made seed)) ≡ 8
+pub length-played : {W : Type 0} (opening : W) (seed : ℕ) → length (played opening (match_of_number seed)) ≡ 8
 length-played {W} opening seed =
-    length-map (scripted opening (made seed)) (λ (s : MirrorState W). drain s)
-    ∙ (length-script (made seed).commands (opening_mirrors opening (made seed)) (made seed).script ∙ length-opening opening (made seed) 0 8)
+    length-map (scripted opening (match_of_number seed)) (λ (s : MirrorState W). drain s)
+    ∙ (length-script (match_of_number seed).commands (opening_mirrors opening (match_of_number seed)) (match_of_number seed).script ∙ length-opening opening (match_of_number seed) 0 8)
 
 -- what holds of the element at each place
 pub all-gets : {X : Type 0} → (P : X → Type 0) (xs : List X) → ((i : ℕ) → i < length xs → (x : X) × (slice_get xs i ≡ Some x) × P x) → AllByRecursion P xs
@@ -58,9 +58,9 @@ soaked-at rules opening seed end h =
 
 pub all-agree : {W : Type 0} (rules : Rules W) (opening : W) (seed : ℕ)
     → ((number : ℕ) → number < 8
-    → (end : MirrorState W) × (slice_get (played opening (made seed)) number ≡ Some end) × IsSoaked rules opening seed end)
-    → AreAllAt rules (time_ordered rules opening (all_commands seed) 512) (played opening (made seed))
+    → (end : MirrorState W) × (slice_get (played opening (match_of_number seed)) number ≡ Some end) × IsSoaked rules opening seed end)
+    → AreAllAt rules (time_ordered rules opening (all_commands seed) 512) (played opening (match_of_number seed))
 all-agree rules opening seed each =
-    all-gets (IsAllAt rules (time_ordered rules opening (all_commands seed) 512)) (played opening (made seed))
+    all-gets (IsAllAt rules (time_ordered rules opening (all_commands seed) 512)) (played opening (match_of_number seed))
     (λ i l. let one = each i (omega (arith, l, length-played opening seed)) in
     (one.0, one.1, soaked-at rules opening seed one.0 one.2))

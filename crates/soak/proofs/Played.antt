@@ -22,7 +22,7 @@ use Rattle.match_file.specs.declared.script_line.ScriptLine.{ScriptLine}
 use Rattle.match_file.specs.declared.script_line.ScriptLine.TheVariants.{Arrive, Turn}
 use Rattle.match_hall.specs.Script.{names, events_of, after_line, after_lines, opening_mirror, opening_from, opening_mirrors, scripted, played}
 use Rattle.match_maker.specs.Below.{joined_below, each_below}
-use Rattle.match_maker.specs.Generator.{command_at, lag, arrival, arrivals, mirror_lines, tick_lines, made}
+use Rattle.match_maker.specs.Generator.{command_at, lag, arrival_lines, arrivals, mirror_lines, tick_lines, match_of_number}
 use Rattle.match_maker.proofs.Lists.{all_joined}
 use Rattle.match_maker.proofs.Drawing.{command_at-new}
 use Rattle.match_maker.proofs.Sound.{command_at-named}
@@ -73,10 +73,10 @@ filter-other m (l ∷ ls) h = rw h.0 (filter-other m ls h.1)
 
 -- those of a tick at a mirror
 lines-name : (seed tick mirror m : ℕ) (v : Bool) → (mirror == m) ≡ v → AllByRecursion (λ l. names m l ≡ v) (mirror_lines seed tick mirror)
-unfolding arrival
+unfolding arrival_lines
 lines-name seed tick mirror m v e =
     all_append (λ l. names m l ≡ v) (arrivals seed tick mirror) (Turn mirror ∷ [])
-    (all_joined (λ l. names m l ≡ v) (arrival seed tick mirror) 4096 (λ j l.
+    (all_joined (λ l. names m l ≡ v) (arrival_lines seed tick mirror) 4096 (λ j l.
     elim (j / 8 + lag seed j mirror == tick) as
     (λ w. AllByRecursion (λ l. names m l ≡ v) (cond w (Arrive mirror (j % 8) (j / 8) ∷ []) []))
     [ true ↦ (e, tt) | false ↦ tt ]))
@@ -130,8 +130,8 @@ after_lines-append commands (x ∷ xs) ys s = after_lines-append commands xs ys 
 
 -- an arrival or none
 arrival-events : {W : Type 0} (seed tick m j : ℕ) → j < 4096 → (s : MirrorState W)
-    → after_lines (all_commands seed) (arrival seed tick m j) s ≡ after s (map Arrival (arriving seed m tick j))
-unfolding arrival arriving after_lines after events_of
+    → after_lines (all_commands seed) (arrival_lines seed tick m j) s ≡ after s (map Arrival (arriving seed m tick j))
+unfolding arrival_lines arriving after_lines after events_of
 arrival-events {W} seed tick m j h s =
     elim (j / 8 + lag seed j m == tick) as
     (λ v. after_lines (all_commands seed) (cond v (Arrive m (j % 8) (j / 8) ∷ []) []) s
@@ -141,14 +141,14 @@ arrival-events {W} seed tick m j h s =
     ]
 
 arrivals-events : {W : Type 0} (seed tick m n : ℕ) → n ≤ 4096 → (s : MirrorState W)
-    → after_lines (all_commands seed) (joined_below (arrival seed tick m) n) s ≡ after s (map Arrival (joined_below (arriving seed m tick) n))
+    → after_lines (all_commands seed) (joined_below (arrival_lines seed tick m) n) s ≡ after s (map Arrival (joined_below (arriving seed m tick) n))
 unfolding joined_below after_lines after
 arrivals-events seed tick m zero h s = refl
 arrivals-events {W} seed tick m (suc n) h s =
     let xs = joined_below (arriving seed m tick) n in
     let between = after s (map Arrival xs) in
-    after_lines-append (all_commands seed) (joined_below (arrival seed tick m) n) (arrival seed tick m n) s
-    ∙ (ap (λ (t : MirrorState W). after_lines (all_commands seed) (arrival seed tick m n) t) (arrivals-events seed tick m n (omega (arith, h)) s)
+    after_lines-append (all_commands seed) (joined_below (arrival_lines seed tick m) n) (arrival_lines seed tick m n) s
+    ∙ (ap (λ (t : MirrorState W). after_lines (all_commands seed) (arrival_lines seed tick m n) t) (arrivals-events seed tick m n (omega (arith, h)) s)
     ∙ (arrival-events seed tick m n (omega (arith, h)) between
     ∙ (sym (after-append s (map Arrival xs) (map Arrival (arriving seed m tick n)))
     ∙ ap (after s) (sym (map-append Arrival xs (arriving seed m tick n))))))
@@ -197,26 +197,26 @@ drained-at (x ∷ xs) (suc i) = drained-at xs i
 -- what a mirror sees of the script
 abbrev pub SeesItsLines : {W : Type 0} (opening : W) (seed number : ℕ) → Type 0
 SeesItsLines opening seed number =
-    slice_get (scripted opening (made seed)) number
+    slice_get (scripted opening (match_of_number seed)) number
     ≡ option_map (after_lines (all_commands seed) (filter (names number) (joined_below (tick_lines seed) 544)))
-    (slice_get (opening_mirrors opening (made seed)) number)
+    (slice_get (opening_mirrors opening (match_of_number seed)) number)
 
 pub played-soaked : {W : Type 0} (rules : Rules W) (opening : W) (seed number : ℕ) → number < 8
     → SeesItsLines opening seed number
-    → (end : MirrorState W) × (slice_get (played opening (made seed)) number ≡ Some end) × IsSoaked rules opening seed end
+    → (end : MirrorState W) × (slice_get (played opening (match_of_number seed)) number ≡ Some end) × IsSoaked rules opening seed end
 unfolding opening_mirror
 played-soaked {W} rules opening seed number h sees =
-    let start : MirrorState W = opening_mirror opening (made seed) number in
+    let start : MirrorState W = opening_mirror opening (match_of_number seed) number in
     let commands = all_commands seed in
     let script = joined_below (tick_lines seed) 544 in
     let zero-on : 0 + number ≡ number = omega arith in
-    let at : slice_get (opening_mirrors opening (made seed)) number ≡ Some start =
-    opening-at opening (made seed) 0 8 number h ∙ ap (λ k. Some (opening_mirror opening (made seed) k)) zero-on in
+    let at : slice_get (opening_mirrors opening (match_of_number seed)) number ≡ Some start =
+    opening-at opening (match_of_number seed) 0 8 number h ∙ ap (λ k. Some (opening_mirror opening (match_of_number seed) k)) zero-on in
     let events : after_lines commands (filter (names number) script) start ≡ after start (events_until seed number 544) =
     ap (λ (ls : List ScriptLine). after_lines commands ls start) (own-script seed number h) ∙ script-events seed number 544 start refl in
-    let here : slice_get (scripted opening (made seed)) number ≡ Some (after start (events_until seed number 544)) =
+    let here : slice_get (scripted opening (match_of_number seed)) number ≡ Some (after start (events_until seed number 544)) =
     sees ∙ (ap (option_map (after_lines commands (filter (names number) script))) at ∙ ap (λ (s : MirrorState W). Some s) events) in (
       drain (after start (events_until seed number 544)),
-      drained-at (scripted opening (made seed)) number ∙ ap (option_map (λ (s : MirrorState W). drain s)) here,
+      drained-at (scripted opening (match_of_number seed)) number ∙ ap (option_map (λ (s : MirrorState W). drain s)) here,
       soaked rules opening seed number _ _,
     )

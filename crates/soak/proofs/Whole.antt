@@ -14,16 +14,16 @@ use Rattle.soak.specs.Agree.{AreAllAt}
 use Rattle.match_hall.specs.Script.{opening_mirrors}
 use Rattle.match_hall.proofs.MirrorLines.{own-lines}
 use Rattle.match_maker.specs.Below.{joined_below}
-use Rattle.match_maker.specs.Generator.{made, tick_lines}
+use Rattle.match_maker.specs.Generator.{match_of_number, tick_lines}
 use Rattle.soak.specs.Soak.{all_commands, IsSoaked}
-use Rattle.soak.specs.Answer.{soak_opening, soaked, soak_world, lines_of, TellsOf, IsSoakText, soak_text, whole_lines}
+use Rattle.soak.specs.Answer.{soak_opening, soaked, soak_world, agreement_text, TellsOf, IsSoakText, soak_text, whole_lines}
 use Rattle.soak.proofs.Agreed.{all-gets, length-played}
 use Rattle.soak.proofs.Played.{played-soaked}
 
 -- a text says that the copies agree, since they do
 pub text-agrees : (seed : ℕ) (text : List ℕ) → AreAllAt arena_rules (soak_world seed) (soaked seed) → IsSoakText seed text → text ≡ soak_text seed
 unfolding soak_text
-text-agrees seed text agree told = told.lines ∙ ap (lines_of seed (soaked seed)) (told.decided.1 agree)
+text-agrees seed text agree told = told.lines ∙ ap (agreement_text seed (soaked seed)) (told.decided.1 agree)
 
 -- a mirror that took every command
 abbrev pub IsWhole : MirrorState World → Type 0
@@ -42,7 +42,7 @@ pub text-whole :
     → ((number : ℕ) → number < 8 → (end : MirrorState World) × (slice_get (soaked seed) number ≡ Some end) × IsSoaked arena_rules soak_opening seed end)
     → (of_each : List ℕ) × (length of_each ≡ 8)
     × (soak_text seed ≡ soak_line seed 4096 ++ (whole_lines 0 of_each ++ (same_line true ++ done_line)))
-unfolding soak_text lines_of
+unfolding soak_text agreement_text
 text-whole seed each =
     let long = length-played soak_opening seed in
     let all : AllByRecursion IsWhole (soaked seed) =
@@ -56,7 +56,7 @@ text-whole seed each =
 pub soaked-each : (seed number : ℕ) → number < 8 → (end : MirrorState World) × (slice_get (soaked seed) number ≡ Some end) × IsSoaked arena_rules soak_opening seed end
 soaked-each seed number h =
     played-soaked arena_rules soak_opening seed number h
-    (own-lines (all_commands seed) (opening_mirrors soak_opening (made seed)) (joined_below (tick_lines seed) 544) number)
+    (own-lines (all_commands seed) (opening_mirrors soak_opening (match_of_number seed)) (joined_below (tick_lines seed) 544) number)
 
 pub soaked-all : (seed : ℕ) → AllByRecursion (IsSoaked arena_rules soak_opening seed) (soaked seed)
 soaked-all seed =

@@ -9,7 +9,7 @@ use Rattle.report_text.specs.Mirrors.{mirror_line}
 use Rattle.report_text.specs.Soak.{soak_line, same_line}
 use Rattle.match_hall.specs.Script.{played}
 use Rattle.match_hall.specs.Report.{lines_of_mirrors}
-use Rattle.match_maker.specs.Generator.{the_layout, made}
+use Rattle.match_maker.specs.Generator.{the_layout, match_of_number}
 use Rattle.soak.specs.Soak.{all_commands}
 use Rattle.soak.specs.Agree.{AreAllAt}
 
@@ -18,7 +18,7 @@ abbrev pub soak_opening : World
 soak_opening = opening_world the_layout
 
 abbrev pub soaked : ℕ → List (MirrorState World)
-soaked seed = played soak_opening (made seed)
+soaked seed = played soak_opening (match_of_number seed)
 
 -- the time-ordered execution of all its commands
 abbrev pub soak_world : ℕ → World
@@ -32,8 +32,8 @@ pub record TellsAgreement {W : Type 0} (rules : Rules W) (world : W)
   pub line : after ≡ before ++ same_line same
 
 -- the text of a number and of mirrors that says of their copies that they agree, or that they don't
-unfoldable pub lines_of : {W : Type 0} → ℕ → List (MirrorState W) → Bool → List ℕ
-lines_of number mirrors same =
+unfoldable pub agreement_text : {W : Type 0} → ℕ → List (MirrorState W) → Bool → List ℕ
+agreement_text number mirrors same =
     soak_line number 4096 ++ (lines_of_mirrors 0 mirrors ++ (same_line same ++ done_line))
 
 -- a text says of mirrors that their copies have a world where they do, and that they don't where
@@ -42,7 +42,7 @@ pub record TellsOf {W : Type 0} (rules : Rules W) (world : W) (number : ℕ)
     (mirrors : List (MirrorState W)) (text : List ℕ) : Type 0 where
   pub same : Bool
   pub decided : IsTrue same ↔ AreAllAt rules world mirrors
-  pub lines : text ≡ lines_of number mirrors same
+  pub lines : text ≡ agreement_text number mirrors same
 
 -- the text of the match of a number
 abbrev pub IsSoakText : ℕ → List ℕ → Type 0
@@ -50,7 +50,7 @@ IsSoakText seed text = TellsOf arena_rules (soak_world seed) seed (soaked seed) 
 
 -- the same text by what is known of every number: the copies agree
 unfoldable pub soak_text : ℕ → List ℕ
-soak_text seed = lines_of seed (soaked seed) true
+soak_text seed = agreement_text seed (soaked seed) true
 
 -- the lines of mirrors that accepted every command and turned none away, by how many copies each
 -- repaired; the first has this number

@@ -67,7 +67,7 @@ fn push_agreement(
 }
 
 // The text of a number and of the hall of its match, whose time-ordered execution is this world.
-#[tactic(auto, unfolding(crate::specs::Answer::lines_of))]
+#[tactic(auto, unfolding(crate::specs::Answer::agreement_text))]
 fn text_of(
     alloc: Global,
     number: u32,

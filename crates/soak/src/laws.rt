@@ -6,7 +6,7 @@ ghost use Rattle.sync_model.specs.State.{MirrorState, opening_state};
 ghost use Rattle.sync_model.specs.Change.{after};
 ghost use Rattle.sync_model.specs.Turns.{drain};
 ghost use Rattle.match_hall.specs.Script.{played};
-ghost use Rattle.match_maker.specs.Generator.{made};
+ghost use Rattle.match_maker.specs.Generator.{match_of_number};
 ghost use Rattle.game_trait.specs.Ordered.{time_ordered};
 ghost use Rattle.soak.specs.Soak.{all_commands, events_until, IsSoaked};
 ghost use Rattle.soak.specs.Agree.{AreAllAt};
@@ -34,7 +34,8 @@ pub fn no_command_is_late<G: Game>()
 /// of its copies, whatever the game and the number.
 pub fn each_mirror_takes_every_command<G: Game>()
     ensures { (opening : G) (seed number : ℕ) → number < 8
-        → (end : MirrorState G) × (slice_get (played opening (made seed)) number ≡ Some end)
+        → (end : MirrorState G)
+        × (slice_get (played opening (match_of_number seed)) number ≡ Some end)
         × IsSoaked G.rules opening seed end }
 {
     a_mirror_sees_its_own_lines::<G>();
@@ -45,7 +46,7 @@ pub fn each_mirror_takes_every_command<G: Game>()
 pub fn all_copies_agree<G: Game>()
     ensures { (opening : G) (seed : ℕ)
         → AreAllAt G.rules (time_ordered G.rules opening (all_commands seed) 512)
-        (played opening (made seed)) }
+        (played opening (match_of_number seed)) }
 {
     each_mirror_takes_every_command::<G>();
 }

@@ -1,10 +1,10 @@
+pub mod AboveLaws
 mod DecimalLaws
 pub mod EachLaws
 pub mod FormLaws
 pub mod KindLaws
 pub mod LineLaws
 mod LineSteps
-mod OverLaws
 pub mod Printing
 mod ReadFaults
 pub mod Results

@@ -147,5 +147,5 @@ is_missing None = true
 is_missing (Some n) = false
 
 -- a canonical number, of any length, above this one
-unfoldable pub is_over : ℕ → List ℕ → Bool
-is_over most word = is_canonical word && is_missing (number_of word most)
+unfoldable pub is_above : ℕ → List ℕ → Bool
+is_above most word = is_canonical word && is_missing (number_of word most)

@@ -9,5 +9,6 @@ pub mod Reading
 pub mod Results
 pub mod Runs
 pub mod Streams
+pub mod Totals
 pub mod Walks
 pub mod Words

@@ -2,6 +2,7 @@
 //! contracts see plainly.
 #![tactic(auto)]
 
+mod above;
 mod cause;
 mod decimals;
 mod fault;
@@ -11,7 +12,6 @@ mod line;
 mod lines;
 mod memory;
 mod no_memory;
-mod over;
 mod put;
 mod read;
 mod seq;
@@ -20,6 +20,7 @@ mod source;
 mod std_streams;
 pub mod words;
 
+pub use above::is_above;
 pub use cause::Cause;
 pub use decimals::{decimal, push_decimal};
 pub use fault::{LineFault, Refused, TextFault};
@@ -29,7 +30,6 @@ pub use line::{Word, push_line};
 pub use lines::{LineStep, Lines};
 pub use memory::{MemSink, MemSource};
 pub use no_memory::NoMemory;
-pub use over::is_over;
 pub use put::put_all;
 pub use read::read_all;
 pub use seq::Seq;

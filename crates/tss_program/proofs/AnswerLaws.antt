@@ -11,7 +11,7 @@ use Rattle.match_file.proofs.TextLaws.{whole_read, whole_found}
 use Rattle.match_hall.proofs.Headline.{played-AllPlayed}
 use Rattle.run_recorder.specs.declared.race_record.RaceRecord.{RaceRecord}
 use Rattle.run_recorder.specs.Data.{IsRecord}
-use Rattle.run_recorder.specs.Reading.{read_text as read_record_text}
+use Rattle.run_recorder.specs.Reading.{read_record as read_record_text}
 use Rattle.run_recorder.specs.Text.{record_text}
 use Rattle.run_recorder.proofs.WholeLaws.{whole_read as record_read, whole_found as record_found}
 use Rattle.run_auditor.specs.declared.verdict.Verdict.{Verdict}
@@ -23,13 +23,13 @@ use Rattle.tss_program.specs.declared.subcommand.MatchTask.TheVariants.{Order, P
 use Rattle.tss_program.specs.declared.subcommand.Subcommand.{Subcommand}
 use Rattle.tss_program.specs.declared.subcommand.Subcommand.TheVariants.{OfMatch, Audit, Soak}
 use Rattle.watch_board.specs.Behaviour.{Behaviour}
-use Rattle.match_maker.specs.Generator.{made}
-use Rattle.match_maker.proofs.Sound.{IsMatch-made}
+use Rattle.match_maker.specs.Generator.{match_of_number}
+use Rattle.match_maker.proofs.Sound.{IsMatch-match_of_number}
 use Rattle.tss_program.specs.Subcommands.{subcommand_of}
 use Rattle.tss_program.specs.Due.{Due, IsAnswer, of_match, of_record, of_number, refusal, IsDue, usage, answer, due_of_match, due_of_number, usage_due, refusal_due, code, arena_shown, IsVerdictOf, status_of, due_of_verdict}
 use Rattle.run_recorder.specs.declared.log.MirrorLog.{MirrorLog}
 use Rattle.tss_program.specs.declared.status.Status.{Status}
-use Rattle.tss_program.specs.Run.{IsInput, Answers, keeps_logs, IsPlayed, Keeps, KeepsPlayed, SaysIfLegal}
+use Rattle.tss_program.specs.Run.{IsInput, AnswersAnInput, keeps_logs, PlaysMatch, KeepsLogsOf, KeepsPlayed, SaysIfLegal}
 use Rattle.tss_program.proofs.Inputs.{some-input, faulty-match, faulty-record}
 
 -- ---- numbers
@@ -206,14 +206,14 @@ due-no n words input due is zero two five six status of at =
 
 -- ---- what it keeps
 
-keeps-played : (m : MatchData) → IsMatch m → Keeps m (due_of_match [] Play m).kept
+keeps-played : (m : MatchData) → IsMatch m → KeepsLogsOf m (due_of_match [] Play m).kept
 keeps-played m sound = played-AllPlayed arena_rules m (opening_world m.layout) sound
 
 -- the logs of a match that is played for the input
 plays : (subcommand : Subcommand) (task : MatchTask) (input : List ℕ) (m : MatchData) (kept : List MirrorLog) → subcommand ≡ OfMatch task → keeps_logs (OfMatch task) ≡ true
     → IsMatch m → input ≡ match_text m → kept ≡ (due_of_match [] Play m).kept → KeepsPlayed subcommand input kept
 plays (OfMatch k) task input m kept asks playing sound text is =
-    record { m = m; playing = ap keeps_logs asks ∙ playing; is = (sound, text); keeps = subst (Keeps m) (sym is) (keeps-played m sound) }
+    record { m = m; playing = ap keeps_logs asks ∙ playing; is = (sound, text); keeps = subst (KeepsLogsOf m) (sym is) (keeps-played m sound) }
 plays Audit task input m kept asks playing sound text is = absurd (no_match task asks)
 plays (Soak n) task input m kept asks playing sound text is = absurd (of_no_number n task asks)
 
@@ -222,7 +222,7 @@ plays-number : (subcommand : Subcommand) (n : ℕ) (input : List ℕ) (kept : Li
 plays-number (OfMatch k) n input kept asks is = absurd (no_number n k asks)
 plays-number Audit n input kept asks is = absurd (record_no_number n asks)
 plays-number (Soak k) n input kept asks is =
-    record { m = made n; playing = refl; is = ap made (sym (same_number k n asks)); keeps = subst (Keeps (made n)) (sym is) (keeps-played (made n) (IsMatch-made n)) }
+    record { m = match_of_number n; playing = refl; is = ap match_of_number (sym (same_number k n asks)); keeps = subst (KeepsLogsOf (match_of_number n)) (sym is) (keeps-played (match_of_number n) (IsMatch-match_of_number n)) }
 
 -- nothing, or the logs of the match that is played
 pub answer-kept : {ws : List Behaviour} (subcommand : Subcommand) (input : List ℕ) (due : Due) → IsAnswer ws subcommand input due → (due.kept ≡ []) ⊎ KeepsPlayed subcommand input due.kept
@@ -245,24 +245,24 @@ answer-whole s input due (of_number n asks is) playing zero = plays-number s n i
 answer-whole s input due (refusal r lacks is) playing zero = absurd (not 5 0 (code due.status) refl (ap (λ (d : Due). code d.status) is) zero)
 
 -- the logs of a match are those of the one that is played for the input
-same-plays : (subcommand : Subcommand) (task : MatchTask) (input : List ℕ) (n m : MatchData) (kept : List MirrorLog) → subcommand ≡ OfMatch task → IsPlayed subcommand input m
-    → IsMatch n → input ≡ match_text n → kept ≡ (due_of_match [] Play n).kept → Keeps m kept
+same-plays : (subcommand : Subcommand) (task : MatchTask) (input : List ℕ) (n m : MatchData) (kept : List MirrorLog) → subcommand ≡ OfMatch task → PlaysMatch subcommand input m
+    → IsMatch n → input ≡ match_text n → kept ≡ (due_of_match [] Play n).kept → KeepsLogsOf m kept
 same-plays (OfMatch k) task input n m kept asks played sound text is =
     (let same : n ≡ m = match_text-injective n m sound played.0 (sym text ∙ played.1) in
-    subst (Keeps m) (sym (is ∙ ap (λ (x : MatchData). (due_of_match [] Play x).kept) same)) (keeps-played m played.0))
+    subst (KeepsLogsOf m) (sym (is ∙ ap (λ (x : MatchData). (due_of_match [] Play x).kept) same)) (keeps-played m played.0))
 same-plays Audit task input n m kept asks played sound text is = absurd (no_match task asks)
 same-plays (Soak k) task input n m kept asks played sound text is = absurd (of_no_number k task asks)
 
-same-number : (subcommand : Subcommand) (n : ℕ) (input : List ℕ) (m : MatchData) (kept : List MirrorLog) → subcommand ≡ Soak n → IsPlayed subcommand input m
-    → kept ≡ (due_of_number n).kept → Keeps m kept
+same-number : (subcommand : Subcommand) (n : ℕ) (input : List ℕ) (m : MatchData) (kept : List MirrorLog) → subcommand ≡ Soak n → PlaysMatch subcommand input m
+    → kept ≡ (due_of_number n).kept → KeepsLogsOf m kept
 same-number (OfMatch k) n input m kept asks played is = absurd (no_number n k asks)
 same-number Audit n input m kept asks played is = absurd (record_no_number n asks)
 same-number (Soak k) n input m kept asks played is =
-    (let same : m ≡ made n = played ∙ ap made (same_number k n asks) in
-    subst (λ (x : MatchData). Keeps x kept) (sym same) (subst (Keeps (made n)) (sym is) (keeps-played (made n) (IsMatch-made n))))
+    (let same : m ≡ match_of_number n = played ∙ ap match_of_number (same_number k n asks) in
+    subst (λ (x : MatchData). KeepsLogsOf x kept) (sym same) (subst (KeepsLogsOf (match_of_number n)) (sym is) (keeps-played (match_of_number n) (IsMatch-match_of_number n))))
 
 -- those of the match that is played for the input
-pub answer-played : {ws : List Behaviour} (subcommand : Subcommand) (input : List ℕ) (due : Due) (m : MatchData) → IsAnswer ws subcommand input due → keeps_logs subcommand ≡ true → IsPlayed subcommand input m → Keeps m due.kept
+pub answer-played : {ws : List Behaviour} (subcommand : Subcommand) (input : List ℕ) (due : Due) (m : MatchData) → IsAnswer ws subcommand input due → keeps_logs subcommand ≡ true → PlaysMatch subcommand input m → KeepsLogsOf m due.kept
 answer-played s input due m (of_match Order n asks sound text is) playing played = absurd (let never = sym (ap keeps_logs asks) ∙ playing in cc)
 answer-played s input due m (of_match Lift n asks sound text is) playing played = absurd (let never = sym (ap keeps_logs asks) ∙ playing in cc)
 answer-played s input due m (of_match Play n asks sound text is) playing played = same-plays s Play input n m due.kept asks played sound text (ap (λ (d : Due). d.kept) is)
@@ -326,7 +326,7 @@ pub answers-match :
     {ws : List Behaviour} (subcommand : Subcommand) (task : MatchTask) (left : Option (List ℕ)) (m : MatchData) (status : Status) (text : List ℕ) (kept : List MirrorLog)
     → subcommand ≡ OfMatch task → IsMatch m → IsInput left (match_text m)
     → status ≡ (due_of_match ws task m).status → text ≡ (due_of_match ws task m).text → kept ≡ (due_of_match ws task m).kept
-    → Answers ws subcommand left (record { status = status; text = text; kept = kept })
+    → AnswersAnInput ws subcommand left (record { status = status; text = text; kept = kept })
 answers-match subcommand task left m status text kept asks sound told s t k = record {
   input = match_text m;
   told = told;
@@ -337,7 +337,7 @@ answers-match subcommand task left m status text kept asks sound told s t k = re
 pub answers-number :
     {ws : List Behaviour} (subcommand : Subcommand) (n : ℕ) (left : Option (List ℕ)) (status : Status) (text : List ℕ) (kept : List MirrorLog) → subcommand ≡ Soak n
     → status ≡ (due_of_number n).status → text ≡ (due_of_number n).text → kept ≡ (due_of_number n).kept
-    → Answers ws subcommand left (record { status = status; text = text; kept = kept })
+    → AnswersAnInput ws subcommand left (record { status = status; text = text; kept = kept })
 answers-number subcommand n left status text kept asks s t k =
     let input = some-input left in
     record { input = input.0; told = input.1; is = of_number n asks (λ i. record { status = s i; text = t i; kept = k i }) }
@@ -354,7 +354,7 @@ pub answers-record :
     {ws : List Behaviour} (subcommand : Subcommand) (left : Option (List ℕ)) (r : RaceRecord) (verdict : Verdict) (status : Status) (text : List ℕ) (kept : List MirrorLog)
     → subcommand ≡ Audit → IsRecord r → IsInput left (record_text r) → IsVerdictOf r verdict
     → status ≡ (due_of_verdict verdict).status → text ≡ (due_of_verdict verdict).text → kept ≡ []
-    → Answers ws subcommand left (record { status = status; text = text; kept = kept })
+    → AnswersAnInput ws subcommand left (record { status = status; text = text; kept = kept })
 answers-record subcommand left r verdict status text kept asks sound told tells s t k = record {
   input = record_text r;
   told = told;

@@ -14,7 +14,7 @@ use Rattle.tss_program.specs.declared.status.Status.TheVariants.{WrongWords, Ref
 use Rattle.watch_board.specs.Behaviour.{Behaviour}
 use Rattle.tss_program.specs.Subcommands.{subcommand_of, most_read, most_asked}
 use Rattle.tss_program.specs.Due.{Due, IsAnswer, refusal, IsDue, usage, answer, usage_due, refusal_due, due_of_number, code, IsRefused}
-use Rattle.tss_program.specs.Run.{Streams, EndsWith, EndsAsDue, IsPut, Keeps, KeepsPlayed, KeepsAMatch, SaysIfLegal, AuditsARecord, SoaksWhole, IsRun, IsInput, behind, ReadsAtMost, RefusesText, Answers}
+use Rattle.tss_program.specs.Run.{Streams, EndsWith, EndsAsDue, IsPut, KeepsLogsOf, KeepsPlayed, KeepsAMatch, SaysIfLegal, AuditsARecord, SoaksWhole, IsRun, IsInput, behind, ReadsAtMost, RefusesText, AnswersAnInput}
 use Rattle.soak.specs.Answer.{soak_opening}
 use Rattle.soak.proofs.Agreed.{length-played}
 use Rattle.soak.proofs.Whole.{text-whole, soaked-each, soaked-all}
@@ -108,7 +108,7 @@ ends-IsRun words old new status kept e wrong read_steady write_steady whole most
           by-status ((status ≡ code other.status) ⊎ (status ≡ 1)) due old new status kept e.ends (λ h. inr h.0) (λ h. absurd (no_read h.1)) (λ h. absurd (no_write h.1))
           (λ h. inl (h.0 ∙ ap (λ (d : Due). code d.status) (one-due words e.input due other is also))));
       played = told-of old.left e.input _ e.told (λ subcommand m asked playing played when.
-          subst (Keeps m) (sym (kept-at due old new status kept e.ends when)) (answer-played subcommand e.input due m (due-answer words e.input due subcommand asked is) playing played));
+          subst (KeepsLogsOf m) (sym (kept-at due old new status kept e.ends when)) (answer-played subcommand e.input due m (due-answer words e.input due subcommand asked is) playing played));
       played_whole = λ subcommand asked playing zero. by-status (KeepsAMatch words old.left kept) due old new status kept e.ends
           (λ h. absurd (not 1 0 status refl h.0 zero)) (λ h. absurd (not 3 0 status refl h.0 zero)) (λ h. absurd (not 4 0 status refl h.0 zero))
           (λ h. kept-match words old.left e.input subcommand kept due.kept asked e.told h.1 (answer-whole subcommand e.input due (due-answer words e.input due subcommand asked is) playing (sym h.0 ∙ zero)));
@@ -227,7 +227,7 @@ run-put words old new status kept subcommand input due said told is put steady l
 
 pub run-answered :
     {ws : List Behaviour} (words : List (List ℕ)) (old new : Streams) (status : ℕ) (kept : List MirrorLog) (subcommand : Subcommand) (due : Due)
-    → subcommand_of words ≡ Some subcommand → Answers ws subcommand old.left due
+    → subcommand_of words ≡ Some subcommand → AnswersAnInput ws subcommand old.left due
     → IsPut due.status due.text due.kept (new.write_faults ≡ old.write_faults) (Rose old.write_faults new.write_faults) old.taken new.taken status kept
     → (new.left ≡ behind (most_read subcommand) old.left) × (new.read_faults ≡ old.read_faults)
     → ReadsAtMost (most_read subcommand) old.left new.left old.reads new.reads → IsRun ws words old new status kept

@@ -19,7 +19,7 @@ use Rattle.match_file.specs.Data.{MatchData}
 use Rattle.match_file.specs.Reading.{read_text}
 use Rattle.match_file.proofs.TextLaws.{whole_read, refused_first}
 use Rattle.run_recorder.specs.declared.race_record.RaceRecord.{RaceRecord}
-use Rattle.run_recorder.specs.Reading.{read_text as read_record_text}
+use Rattle.run_recorder.specs.Reading.{read_record as read_record_text}
 use Rattle.run_recorder.proofs.WholeLaws.{whole_read as record_read, refused_first as record_refused, long_fails}
 use Rattle.tss_program.specs.declared.subcommand.Subcommand.{Subcommand}
 use Rattle.tss_program.specs.declared.subcommand.Subcommand.TheVariants.{Soak}

@@ -16,7 +16,7 @@ use Rattle.match_hall.specs.Report.{play_text}
 use Rattle.run_recorder.specs.declared.log.MirrorLog.{MirrorLog}
 use Rattle.run_recorder.specs.declared.race_record.RaceRecord.{RaceRecord}
 use Rattle.run_recorder.specs.Data.{IsRecord}
-use Rattle.run_recorder.specs.Reading.{read_text as read_record_text, IsFirst as IsFirstOfRecord}
+use Rattle.run_recorder.specs.Reading.{read_record as read_record_text, IsFirstOfRecord}
 use Rattle.run_recorder.specs.Text.{record_text}
 use Rattle.run_auditor.specs.declared.verdict.Verdict.{Verdict}
 use Rattle.run_auditor.specs.declared.verdict.Verdict.TheVariants.{Legal, NotLegal}
@@ -182,9 +182,9 @@ pub data IsDue (watchers : List Behaviour) (words : List (List ℕ)) (input : Li
 
 -- a run may end so: it ran out of memory, a read failed, a write failed, or what is due was written
 -- whole
-abbrev pub Ends : Due → ℕ → List MirrorLog → Type 0 → Type 0 → Option (List ℕ) → Option (List ℕ)
+abbrev pub MayEnd : Due → ℕ → List MirrorLog → Type 0 → Type 0 → Option (List ℕ) → Option (List ℕ)
     → Type 0
-Ends due status kept read_fault write_fault old new =
+MayEnd due status kept read_fault write_fault old new =
     ((status ≡ code NoMemory) × (kept ≡ []) × Gains old [] new)
     ⊎ ((status ≡ code ReadFault) × read_fault × (kept ≡ []) × Gains old [] new)
     ⊎ ((status ≡ code WriteFault) × write_fault × (kept ≡ due.kept)

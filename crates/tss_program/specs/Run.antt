@@ -14,7 +14,7 @@ use Rattle.std.specs.List.{AllByRecursion}
 use Rattle.watch_board.specs.Behaviour.{Behaviour}
 use Rattle.report_text.specs.Ends.{done_line}
 use Rattle.report_text.specs.Soak.{soak_line, same_line}
-use Rattle.match_maker.specs.Generator.{made}
+use Rattle.match_maker.specs.Generator.{match_of_number}
 use Rattle.soak.specs.Soak.{IsSoaked}
 use Rattle.soak.specs.Answer.{soak_opening, soaked, whole_lines}
 use Rattle.match_hall.specs.Script.{played, logs_from}
@@ -27,7 +27,7 @@ use Rattle.tss_program.specs.declared.stop.Stop.TheVariants as stops
 use Rattle.run_recorder.specs.declared.race_record.RaceRecord.{RaceRecord}
 use Rattle.run_recorder.specs.Data.{IsRecord}
 use Rattle.run_recorder.specs.Text.{record_text}
-use Rattle.tss_program.specs.Due.{Due, IsDue, IsAnswer, IsLegalOne, code, Ends}
+use Rattle.tss_program.specs.Due.{Due, IsDue, IsAnswer, IsLegalOne, code, MayEnd}
 
 -- what is seen of a source and a sink: the bytes that are left and those that were taken, where
 -- they tell them, how many calls failed, and how many calls were made to the source
@@ -37,6 +37,17 @@ pub record Streams : Type 0 where
   pub reads : ℕ
   pub taken : Option (List ℕ)
   pub write_faults : ℕ
+
+-- the streams at a source and a sink, by what a source and a sink show
+abbrev pub seen_of : {S K : Type 0} → (S → Option (List ℕ)) → (S → ℕ) → (S → ℕ)
+    → (K → Option (List ℕ)) → (K → ℕ) → S → K → Streams
+seen_of left read_faults reads taken write_faults source sink = record {
+  left = left source;
+  read_faults = read_faults source;
+  reads = reads source;
+  taken = taken sink;
+  write_faults = write_faults sink;
+}
 
 -- an input is the one that a source tells, where it tells one
 abbrev pub IsInput : Option (List ℕ) → List ℕ → Type 0
@@ -49,7 +60,7 @@ behind n left = option_map (drop n) left
 -- a run from streams to streams ended in one of the ways that what is due allows
 abbrev pub EndsWith : Due → Streams → Streams → ℕ → List MirrorLog → Type 0
 EndsWith due old new status kept =
-    Ends due status kept (Rose old.read_faults new.read_faults)
+    MayEnd due status kept (Rose old.read_faults new.read_faults)
     (Rose old.write_faults new.write_faults) old.taken new.taken
 
 -- for some input, which is the one that the source tells where it tells one, the run ended as is
@@ -87,8 +98,8 @@ pub record ReadsAtMost (most : ℕ) (left now : Option (List ℕ)) (calls called
   pub reads : called ≤ calls + most
 
 -- what is answered to an input, which is the one that the source tells where it tells one
-pub record Answers (watchers : List Behaviour) (subcommand : Subcommand) (left : Option (List ℕ))
-    (due : Due) : Type 0 where
+pub record AnswersAnInput (watchers : List Behaviour) (subcommand : Subcommand)
+    (left : Option (List ℕ)) (due : Due) : Type 0 where
   pub input : List ℕ
   pub told : IsInput left input
   pub is : IsAnswer watchers subcommand input due
@@ -115,14 +126,14 @@ keeps_logs Audit = false
 keeps_logs (Soak number) = true
 
 -- the match that a subcommand plays, if it plays one, for this input
-abbrev pub IsPlayed : Subcommand → List ℕ → MatchData → Type 0
-IsPlayed (OfMatch task) input m = IsMatch m × (input ≡ match_text m)
-IsPlayed Audit input m = ⊥
-IsPlayed (Soak number) input m = m ≡ made number
+abbrev pub PlaysMatch : Subcommand → List ℕ → MatchData → Type 0
+PlaysMatch (OfMatch task) input m = IsMatch m × (input ≡ match_text m)
+PlaysMatch Audit input m = ⊥
+PlaysMatch (Soak number) input m = m ≡ match_of_number number
 
 -- the logs are those of the mirrors of this match, which was played
-abbrev pub Keeps : MatchData → List MirrorLog → Type 0
-Keeps m kept =
+abbrev pub KeepsLogsOf : MatchData → List MirrorLog → Type 0
+KeepsLogsOf m kept =
     AllPlayed arena_rules (opening_world m.layout) m 0 (played (opening_world m.layout) m) kept
 
 -- the logs are those of a match that a subcommand plays for this input
@@ -130,8 +141,8 @@ pub record KeepsPlayed (subcommand : Subcommand) (input : List ℕ)
     (kept : List MirrorLog) : Type 0 where
   pub m : MatchData
   pub playing : keeps_logs subcommand ≡ true
-  pub is : IsPlayed subcommand input m
-  pub keeps : Keeps m kept
+  pub is : PlaysMatch subcommand input m
+  pub keeps : KeepsLogsOf m kept
 
 -- the logs are those of a match that is played for words and some input, which is the one that the
 -- source tells where it tells one
@@ -187,8 +198,8 @@ pub record IsRun (watchers : List Behaviour) (words : List (List ℕ)) (old new 
   -- whatever the source
   pub played : IfSome old.left (λ input. (subcommand : Subcommand) (m : MatchData)
       → subcommand_of words ≡ Some subcommand → keeps_logs subcommand ≡ true
-      → IsPlayed subcommand input m
-      → (status ≡ 0) ⊎ (status ≡ 4) → Keeps m kept)
+      → PlaysMatch subcommand input m
+      → (status ≡ 0) ⊎ (status ≡ 4) → KeepsLogsOf m kept)
   pub played_whole : (subcommand : Subcommand) → subcommand_of words ≡ Some subcommand
       → keeps_logs subcommand ≡ true
       → status ≡ 0 → KeepsAMatch words old.left kept

@@ -10,7 +10,7 @@ ghost use Rattle.run_recorder.specs.Text.{record_text};
 ghost use Rattle.tss_program.specs.Subcommands.{most_read};
 ghost use Rattle.tss_program.specs.declared.subcommand.Subcommand.TheVariants.{Soak};
 ghost use Rattle.tss_program.specs.Due.{due_of_match, IsFaultyMatch, IsFaultyRecord, IsRefused};
-ghost use Rattle.tss_program.specs.Run.{IsInput, Answers, behind, WhyStopped, ReadsAtMost};
+ghost use Rattle.tss_program.specs.Run.{IsInput, AnswersAnInput, behind, WhyStopped, ReadsAtMost};
 
 use crate::answer::{Answer, audit_record, lift_match, order, play, score_match, soak_number};
 use crate::stop::Stop;
@@ -84,7 +84,7 @@ pub fn answer_to<S: Source>(
     watchers: Vec<Box<dyn Watcher>>,
 ) -> Result<Answer, Stop>
     ensures due { IfOk result
-        (λ a. Answers (map (λ w. behaviour w) watchers.items) subcommand (S.left source.old)
+        (λ a. AnswersAnInput (map (λ w. behaviour w) watchers.items) subcommand (S.left source.old)
         (record { status = a.status; text = a.text; kept = a.kept })) }
     ensures whole { OnOk result
         ((S.left source.new ≡ behind (most_read subcommand) (S.left source.old))

@@ -7,7 +7,7 @@ ghost use Rattle.std.specs.declared.io.ErrorKind.TheVariants.{OutOfMemory};
 ghost use Rattle.tss_io.specs.Streams.{Rose, Yields, Gains};
 ghost use Rattle.tss_program.specs.Subcommands.{subcommand_of};
 ghost use Rattle.tss_program.specs.declared.subcommand.Subcommand.TheVariants.{Soak};
-ghost use Rattle.tss_program.specs.Run.{Streams, IsRun, IsPut};
+ghost use Rattle.tss_program.specs.Run.{seen_of, IsRun, IsPut};
 
 use crate::answer::Answer;
 use crate::asked::answer_to;
@@ -46,24 +46,10 @@ pub fn run_plain<S: Source, K: Sink>(
     sink: &mut K,
     watchers: Vec<Box<dyn Watcher>>,
 ) -> Done
-    ensures run { let old : Streams =
-        record {
-          left = S.left source.old;
-          read_faults = S.faults source.old;
-          reads = S.calls source.old;
-          taken = K.taken sink.old;
-          write_faults = K.faults sink.old;
-        } in
-        let new : Streams =
-        record {
-          left = S.left source.new;
-          read_faults = S.faults source.new;
-          reads = S.calls source.new;
-          taken = K.taken sink.new;
-          write_faults = K.faults sink.new;
-        } in
+    ensures run { let seen = seen_of S.left S.faults S.calls K.taken K.faults in
         IsRun (map (λ w. behaviour w) watchers.items)
-        (map string_bytes words.now) old new result.status result.kept }
+        (map string_bytes words.now) (seen source.old sink.old) (seen source.new sink.new)
+        result.status result.kept }
     ensures untouched { subcommand_of (map string_bytes words.now) ≡ None
         → source.new ≡ source.old }
     ensures reads_no_number { (number : ℕ)
@@ -101,44 +87,16 @@ pub fn run_arguments<S: Source, K: Sink>(
     sink: &mut K,
     watchers: Vec<Box<dyn Watcher>>,
 ) -> Done
-    ensures words { let old : Streams =
-        record {
-          left = S.left source.old;
-          read_faults = S.faults source.old;
-          reads = S.calls source.old;
-          taken = K.taken sink.old;
-          write_faults = K.faults sink.old;
-        } in
-        let new : Streams =
-        record {
-          left = S.left source.new;
-          read_faults = S.faults source.new;
-          reads = S.calls source.new;
-          taken = K.taken sink.new;
-          write_faults = K.faults sink.new;
-        } in
+    ensures words { let seen = seen_of S.left S.faults S.calls K.taken K.faults in
         IfOk arguments
         (λ all. IsRun (map (λ w. behaviour w) watchers.items)
-        (drop 1 (map string_bytes all.items)) old new result.status result.kept) }
-    ensures no_text { let old : Streams =
-        record {
-          left = S.left source.old;
-          read_faults = S.faults source.old;
-          reads = S.calls source.old;
-          taken = K.taken sink.old;
-          write_faults = K.faults sink.old;
-        } in
-        let new : Streams =
-        record {
-          left = S.left source.new;
-          read_faults = S.faults source.new;
-          reads = S.calls source.new;
-          taken = K.taken sink.new;
-          write_faults = K.faults sink.new;
-        } in
+        (drop 1 (map string_bytes all.items)) (seen source.old sink.old)
+        (seen source.new sink.new) result.status result.kept) }
+    ensures no_text { let seen = seen_of S.left S.faults S.calls K.taken K.faults in
         IfErr arguments
         (λ fault. error_kind fault ≢ OutOfMemory
-        → IsRun (map (λ w. behaviour w) watchers.items) [] old new result.status result.kept) }
+        → IsRun (map (λ w. behaviour w) watchers.items) [] (seen source.old sink.old)
+        (seen source.new sink.new) result.status result.kept) }
     ensures no_memory { IfErr arguments (λ fault. error_kind fault ≡ OutOfMemory
         → (result.status ≡ 1) × (result.kept ≡ []) × (source.new ≡ source.old)
         × (sink.new ≡ sink.old)) }

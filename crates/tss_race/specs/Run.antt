@@ -31,7 +31,7 @@ pace_line = 6
 -- a text is the record of a race of this match whose mirrors ended so, and the logs are theirs:
 -- each mirror has every command once and turned none away, its log is legal, and its copies' worlds
 -- are the time-ordered execution of all commands
-pub record IsRaceOf {W : Type 0} (show : Showing W) (opening : W) (m : MatchData)
+pub record IsRecordOfRace {W : Type 0} (show : Showing W) (opening : W) (m : MatchData)
     (mirrors : List (MirrorState W)) (text : List ℕ) (kept : List MirrorLog) : Type 0 where
   pub raced : AreRaced show.rules m opening mirrors
   pub text_is : text ≡ record_text (record_of show m mirrors)
@@ -48,7 +48,7 @@ pub data IsRefusedRace (input : List ℕ) (refused : Refused) : Type 0 where
 pub data IsRaceDue (input : List ℕ) (due : Due) : Type 0 where
   raced : (m : MatchData) (mirrors : List (MirrorState World)) → IsMatch m → input ≡ match_text m
       → 0 < m.pace → due.status ≡ Complete
-      → IsRaceOf (arena_shown m) (opening_world m.layout) m mirrors due.text due.kept
+      → IsRecordOfRace (arena_shown m) (opening_world m.layout) m mirrors due.text due.kept
       → IsRaceDue input due
   refused : (refused : Refused) → IsRefusedRace input refused → due ≡ refusal_due refused
       → IsRaceDue input due

@@ -3,7 +3,7 @@
 ghost use Rattle.std.specs.Prelude.{◌≡◌, List, IfOk};
 ghost use Rattle.sync_model.specs.State.{MirrorState};
 ghost use Rattle.match_hall.specs.Report.{Showing};
-ghost use Rattle.tss_race.specs.Run.{IsRaceOf};
+ghost use Rattle.tss_race.specs.Run.{IsRecordOfRace};
 
 use crate::record::record_of;
 use arena_rules::Shown;
@@ -34,7 +34,7 @@ pub fn race_match<R: Threads + Wait + Sync, G: Game + Shown + Send, P: Gate + Sy
 ) -> Result<Raced, NoMemory>
     ensures { let show : Showing G = record { rules = G.rules; lines = G.lines; names = m.names } in
         IfOk result (λ a. (mirrors : List (MirrorState G))
-        × IsRaceOf show opening.now m mirrors a.text a.kept) }
+        × IsRecordOfRace show opening.now m mirrors a.text a.kept) }
 {
     let mirrors = race(rt, alloc, &m, opening, gate)?;
     let r = record_of(alloc, m, mirrors.as_slice())?;

@@ -6,7 +6,7 @@ ghost use Rattle.game_trait.specs.declared.limits.TheConstants.{LONGEST_MATCH_TE
 ghost use Rattle.tss_io.specs.Streams.{Rose};
 ghost use Rattle.match_file.specs.Data.{IsMatch};
 ghost use Rattle.match_file.specs.Text.{match_text};
-ghost use Rattle.tss_program.specs.Run.{Streams, IsInput, IsRun, WhyStopped, ReadsAtMost};
+ghost use Rattle.tss_program.specs.Run.{seen_of, IsInput, IsRun, WhyStopped, ReadsAtMost};
 ghost use Rattle.tss_race.specs.Run.{asks_race, IsRefusedRace, IsRaceRun};
 
 use crate::answer::{Raced, race_match};
@@ -68,21 +68,8 @@ fn run_race<R: Threads + Wait + Sync, S: Source, K: Sink, P: Gate + Sync>(
     sink: &mut K,
     gate: &P,
 ) -> Done
-    ensures run { let old : Streams = record {
-      left = S.left source.old;
-      read_faults = S.faults source.old;
-      reads = S.calls source.old;
-      taken = K.taken sink.old;
-      write_faults = K.faults sink.old;
-    } in
-        let new : Streams = record {
-          left = S.left source.new;
-          read_faults = S.faults source.new;
-          reads = S.calls source.new;
-          taken = K.taken sink.new;
-          write_faults = K.faults sink.new;
-        } in
-        IsRaceRun old new result.status result.kept }
+    ensures run { let seen = seen_of S.left S.faults S.calls K.taken K.faults in
+        IsRaceRun (seen source.old sink.old) (seen source.new sink.new) result.status result.kept }
     ensures most { ReadsAtMost (LONGEST_MATCH_TEXT + 1) (S.left source.old) (S.left source.new)
         (S.calls source.old) (S.calls source.new) }
 {
@@ -120,42 +107,17 @@ pub fn run<R: Threads + Wait + Sync, S: Source, K: Sink, P: Gate + Sync>(
     watchers: Vec<Box<dyn Watcher>>,
     gate: &P,
 ) -> Done
-    ensures race { let old : Streams = record {
-      left = S.left source.old;
-      read_faults = S.faults source.old;
-      reads = S.calls source.old;
-      taken = K.taken sink.old;
-      write_faults = K.faults sink.old;
-    } in
-        let new : Streams = record {
-          left = S.left source.new;
-          read_faults = S.faults source.new;
-          reads = S.calls source.new;
-          taken = K.taken sink.new;
-          write_faults = K.faults sink.new;
-        } in
+    ensures race { let seen = seen_of S.left S.faults S.calls K.taken K.faults in
         asks_race (map string_bytes words.now) ≡ true
-        → IsRaceRun old new result.status result.kept }
+        → IsRaceRun (seen source.old sink.old) (seen source.new sink.new) result.status
+        result.kept }
     ensures most { asks_race (map string_bytes words.now) ≡ true
         → ReadsAtMost (LONGEST_MATCH_TEXT + 1) (S.left source.old) (S.left source.new)
         (S.calls source.old) (S.calls source.new) }
-    ensures others { let old : Streams = record {
-      left = S.left source.old;
-      read_faults = S.faults source.old;
-      reads = S.calls source.old;
-      taken = K.taken sink.old;
-      write_faults = K.faults sink.old;
-    } in
-        let new : Streams = record {
-          left = S.left source.new;
-          read_faults = S.faults source.new;
-          reads = S.calls source.new;
-          taken = K.taken sink.new;
-          write_faults = K.faults sink.new;
-        } in
+    ensures others { let seen = seen_of S.left S.faults S.calls K.taken K.faults in
         asks_race (map string_bytes words.now) ≡ false
-        → IsRun (map (λ w. behaviour w) watchers.items) (map string_bytes words.now) old new
-        result.status result.kept }
+        → IsRun (map (λ w. behaviour w) watchers.items) (map string_bytes words.now)
+        (seen source.old sink.old) (seen source.new sink.new) result.status result.kept }
 {
     if asks_race(words) {
         run_race(rt, alloc, source, sink, gate)

@@ -4,7 +4,7 @@
 ghost use Rattle.std.specs.Prelude.{◌≡◌, ◌+◌, ◌<◌, ◌≤◌, ◌^◌, [], ◌∷◌, IfSome, length};
 ghost use Rattle.std.specs.List.{AllByRecursion};
 ghost use Rattle.link_ring.specs.Ends.{sent_of, room_of, misses_of};
-ghost use Rattle.copy_workers.specs.Sending.{HasRoom};
+ghost use Rattle.copy_workers.specs.Sending.{MaySend};
 
 use super::counting_game::{LastCommand, OPENING};
 use super::memory_post::{MemoryPost, SmallMirror};
@@ -100,7 +100,7 @@ fn fed(
     budget: u16,
     due: &[Event],
 ) -> Option<Outcome>
-    requires room { AllByRecursion (HasRoom 5) links.0.items }
+    requires room { AllByRecursion (MaySend 5) links.0.items }
     requires misses { AllByRecursion (λ r. misses_of r < 2 ^ 63) links.1.items }
     requires one { length links.1.items ≤ 1 }
     requires budget { budget ≤ 1000 }
@@ -126,9 +126,9 @@ fn fed(
 
 // One link each way.
 fn both_ways(alloc: Global, send: LinkSend, receive: LinkReceive) -> Option<Links>
-    requires room { HasRoom 5 send }
+    requires room { MaySend 5 send }
     requires misses { misses_of receive ≡ 0 }
-    ensures room { IfSome result (λ links. AllByRecursion (HasRoom 5) links.0.items) }
+    ensures room { IfSome result (λ links. AllByRecursion (MaySend 5) links.0.items) }
     ensures misses { IfSome result
         (λ links. AllByRecursion (λ r. misses_of r < 2 ^ 63) links.1.items) }
     ensures one { IfSome result (λ links. length links.1.items ≡ 1) }

@@ -1,6 +1,6 @@
 use Rattle.std.proofs.Common.{[], ◌∷◌, subst, sym, arith}
 use Rattle.link_ring.specs.declared.send.LinkSend.{LinkSend}
-use Rattle.copy_workers.specs.Sending.{HasRoom, IsSent}
+use Rattle.copy_workers.specs.Sending.{MaySend, IsSent}
 use Rattle.copy_workers.proofs.Along.{up_to-start, up_to-same, up_to-more, up_to-end, up_to-length, all-get}
 use Rattle.copy_workers.proofs.sends.send_all.Goals as goal
 
@@ -11,8 +11,8 @@ pub send-requires : goal.send-requires
 send-requires c =
     let same = up_to-same (IsSent (c.args.x.now ∷ [])) c.loop-send.send-index c.args.sends.now c.loop-send.sends c.send-item.result c.loop-send.invariant in
     let long = up_to-length (IsSent (c.args.x.now ∷ [])) c.loop-send.send-index c.args.sends.now c.loop-send.sends c.loop-send.invariant in
-    let here = all-get (HasRoom 1) c.loop-send.send-index c.args.sends.now c.send-item.result c.requires (omega arith) in
-    let room = subst (HasRoom 1) same here in
+    let here = all-get (MaySend 1) c.loop-send.send-index c.args.sends.now c.send-item.result c.requires (omega arith) in
+    let room = subst (MaySend 1) same here in
     let r = room.room in omega arith
 
 pub loop-send-preserved : goal.loop-send-preserved

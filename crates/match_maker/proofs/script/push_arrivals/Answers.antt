@@ -1,14 +1,14 @@
 use Rattle.std.proofs.Common.{◌≡◌, ◌++◌, ◌*◌, ap, ◌∙◌, arith}
 use Rattle.match_maker.specs.Below.{joined_below}
-use Rattle.match_maker.specs.Generator.{arrival}
+use Rattle.match_maker.specs.Generator.{arrival_lines}
 use Rattle.match_maker.proofs.Lists.{joined_next, joined_first}
 use Rattle.match_maker.proofs.Window.{arrivals-front, arrivals-end}
 use Rattle.match_maker.proofs.script.push_arrivals.Goals as goal
 
 pub loop-place-init : goal.loop-place-init
 loop-place-init c =
-    joined_first (arrival c.args.lags.now c.args.tick c.args.mirror) _ c.args.script.now
-    (ap (λ n. joined_below (arrival c.args.lags.now c.args.tick c.args.mirror) (8 * n)) c.saturating_sub-first.ensures
+    joined_first (arrival_lines c.args.lags.now c.args.tick c.args.mirror) _ c.args.script.now
+    (ap (λ n. joined_below (arrival_lines c.args.lags.now c.args.tick c.args.mirror) (8 * n)) c.saturating_sub-first.ensures
     ∙ arrivals-front c.args.lags.now c.args.tick c.args.mirror)
 
 pub loop-place-preserved : goal.loop-place-preserved
@@ -21,5 +21,5 @@ returns c =
     let last : c.loop-place.place ≡ c.min-end.result = omega (arith, range, c.loop-place-test.false) in
     c.loop-place.invariant
     ∙ ap (λ lines. c.args.script.now ++ lines)
-    (ap (joined_below (arrival c.args.lags.now c.args.tick c.args.mirror)) last
+    (ap (joined_below (arrival_lines c.args.lags.now c.args.tick c.args.mirror)) last
     ∙ arrivals-end c.args.lags.now c.args.tick c.args.mirror c.min-end.result c.min-end.ensures)

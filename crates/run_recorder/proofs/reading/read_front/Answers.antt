@@ -2,7 +2,7 @@ use Rattle.std.proofs.Common.{refl, ap, ◌∙◌, List, ℕ, ◌++◌}
 use Rattle.std.proofs.lemmas.Result.{err_from_is_err_and}
 use Rattle.tss_io.specs.Lines.{as_line}
 use Rattle.match_file.specs.Text.{match_text}
-use Rattle.run_recorder.specs.Text.{head_line}
+use Rattle.run_recorder.specs.Text.{record_head}
 use Rattle.run_recorder.proofs.TopLaws.{head_takes, head_fault, no_head_fault, behind_head, match_fault}
 use Rattle.run_recorder.proofs.WholeLaws.{head_fails, match_fails}
 use Rattle.run_recorder.proofs.reading.read_front.Goals as goal
@@ -29,7 +29,7 @@ returns-clause-found c =
     let whole = f.1 ∙ rw c.rest-behind.ensures refl in
     record {
       sound = f.0;
-      whole = head_takes c.args.text.now c.in-Ok.rest.now c.in-Ok.ensures.read ∙ ap (λ (t : List ℕ). as_line head_line ++ t) whole;
+      whole = head_takes c.args.text.now c.in-Ok.rest.now c.in-Ok.ensures.read ∙ ap (λ (t : List ℕ). as_line record_head ++ t) whole;
       counted = c.line_behind-line.ensures.number (match_text c.in_ok-game.game) whole;
     }
 

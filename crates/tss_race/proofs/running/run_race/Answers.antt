@@ -6,7 +6,7 @@ use Rattle.report_text.specs.Ends.{refused_text}
 use Rattle.tss_program.specs.declared.status.Status.TheVariants.{Complete, Refusal}
 use Rattle.tss_program.specs.Due.{arena_shown, refusal_due}
 use Rattle.tss_program.specs.Run.{WhyStopped}
-use Rattle.tss_race.specs.Run.{IsRaceOf, IsRefusedRace, raced, refused, answered}
+use Rattle.tss_race.specs.Run.{IsRecordOfRace, IsRefusedRace, raced, refused, answered}
 use Rattle.tss_race.proofs.Puts.{put-as}
 use Rattle.tss_race.proofs.running.run_race.Goals as goal
 
@@ -17,7 +17,7 @@ returns-in-Ok-race_match-clause-run g c =
     let ended = c.in-Ok-race_match.ensures in
     answered (match_text m) (record { status = Complete; text = c.in-Ok-race_match.field-0.text; kept = c.in-Ok-race_match.field-0.kept }) found.1
     (raced m ended.0 found.0 refl found.2 refl
-    (subst (λ o. IsRaceOf (arena_shown m) o m ended.0 c.in-Ok-race_match.field-0.text c.in-Ok-race_match.field-0.kept)
+    (subst (λ o. IsRecordOfRace (arena_shown m) o m ended.0 c.in-Ok-race_match.field-0.text c.in-Ok-race_match.field-0.kept)
     (c.start-opening.ensures.opening ∙ ap (λ (d : MatchData). opening_world d.layout) c.m.view_is) ended.1))
     (put-as Complete c.as_slice.result.now c.in-Ok-race_match.field-0.text c.in-Ok-race_match.field-0.kept c.in-Ok-race_match.field-0.kept _ _ _ _ _ _ c.as_slice.ensures refl c.put.ensures)
 

@@ -6,7 +6,7 @@ use Rattle.game_trait.specs.Ordered.{due_at}
 use Rattle.link_ring.specs.declared.send.LinkSend.{LinkSend}
 use Rattle.copy_workers.specs.Asking.{HasArrivals}
 use Rattle.copy_workers.specs.Messages.{tick_messages}
-use Rattle.copy_workers.specs.Sending.{HasRoom, IsSent, IsFrom}
+use Rattle.copy_workers.specs.Sending.{MaySend, IsSent, IsFrom}
 use Rattle.copy_workers.proofs.Standings.{issue-room, issue-stands}
 use Rattle.copy_workers.proofs.feeder.Feeder.issue.Goals as goal
 
@@ -15,8 +15,8 @@ issue_tick-self-requires-clause-room g c =
     let plan = c.deref.ensures.value in
     let sends = c.deref_mut.ensures.value in
     let room = issue-room c.requires.stands.0 c.args.self.now _ _ _ c.requires.stands.1.stands c.if-self.true c.if-self-2.true in
-    subst (λ (l : List LinkSend). AllByRecursion (HasRoom (length c.deref.result.now - c.args.self.now.issued + 1)) l) (sym sends)
-    (subst (λ (l : List Command). AllByRecursion (HasRoom (length l - c.args.self.now.issued + 1)) c.args.self.now.sends.items) (sym plan) room)
+    subst (λ (l : List LinkSend). AllByRecursion (MaySend (length c.deref.result.now - c.args.self.now.issued + 1)) l) (sym sends)
+    (subst (λ (l : List Command). AllByRecursion (MaySend (length l - c.args.self.now.issued + 1)) c.args.self.now.sends.items) (sym plan) room)
 
 pub returns-then-self-2-clause-stands : goal.returns-then-self-2-clause-stands
 returns-then-self-2-clause-stands g c s h =

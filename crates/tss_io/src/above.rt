@@ -2,7 +2,7 @@
 
 ghost use Rattle.std.specs.Prelude.{◌≡◌};
 ghost use Rattle.std.specs.List.{list_all};
-ghost use Rattle.tss_io.specs.Forms.{is_digit, is_canonical, is_over};
+ghost use Rattle.tss_io.specs.Forms.{is_digit, is_canonical, is_above};
 
 use crate::decimals::decimal;
 
@@ -24,9 +24,9 @@ fn is_canonical(word: &[u8]) -> bool
 }
 
 /// Whether the word is a number of any length above this one.
-#[tactic(auto, unfolding(crate::specs::Forms::is_over))]
-pub fn is_over(most: u32, word: &[u8]) -> bool
-    ensures { result ≡ is_over most word.now }
+#[tactic(auto, unfolding(crate::specs::Forms::is_above))]
+pub fn is_above(most: u32, word: &[u8]) -> bool
+    ensures { result ≡ is_above most word.now }
 {
     is_canonical(word) && decimal(word, u64::from(most)).is_none()
 }
