@@ -25,9 +25,9 @@ pub arrivals-append : (x : Command) (a b : List Asked) → arrivals_of x (a ++ b
 arrivals-append x a b = times-append _ a b
 
 -- what is counted of one
-pub one : {X : Type 0} (p : X → Bool) (x : X) → times p (x ∷ []) ≡ cond (p x) 1 0
+pub times-one : {X : Type 0} (p : X → Bool) (x : X) → times p (x ∷ []) ≡ cond (p x) 1 0
 unfolding times
-one p x = omega arith
+times-one p x = omega arith
 
 -- an arrival stays where it is
 pub at-later : (asked more : List Asked) (x : Command) (clock : ℕ) → ArrivesAt asked x clock → ArrivesAt (asked ++ more) x clock
@@ -116,6 +116,6 @@ arrivals-each asked clock (x ∷ xs) [] here due h = absurd h
 arrivals-each asked clock (x ∷ xs) (p ∷ ps) here due h =
     let first : ArrivesAt (asked ++ p ∷ ps) x x.time =
     record { front = asked; reply = p.reply; back = ps; whole = ap (λ (q : Asked). asked ++ q ∷ ps) h.0; here = here ∙ sym due.0 } in
-    let still : moves_in (asked ++ p ∷ []) ≡ clock = moves-append asked (p ∷ []) ∙ (let e : moves_in (p ∷ []) ≡ 0 = one (λ q. is_moved q.reply) p ∙ rw (h.1) refl in omega arith) in
+    let still : moves_in (asked ++ p ∷ []) ≡ clock = moves-append asked (p ∷ []) ∙ (let e : moves_in (p ∷ []) ≡ 0 = times-one (λ q. is_moved q.reply) p ∙ rw (h.1) refl in omega arith) in
     let rest = arrivals-each (asked ++ p ∷ []) clock xs ps still due.1 h.2 in
     (first, subst (λ (a : List Asked). AllByRecursion (λ y. ArrivesAt a y y.time) xs) (append_assoc asked (p ∷ []) ps) rest)

@@ -18,7 +18,7 @@ use Rattle.copy_workers.specs.declared.post.Asked.{Asked}
 use Rattle.copy_workers.specs.Asking.{is_moved, arrival, AreArrivals, HasArrival, HasArrivals}
 use Rattle.copy_workers.specs.Sending.{MaySend, IsSent, IsFrom, Issuing}
 use Rattle.game_trait.proofs.Lists.{all-append, all-second}
-use Rattle.std.proofs.lemmas.List.{take-append-drop}
+use Rattle.std.proofs.lemmas.List.{take-append-drop, map-append}
 use Rattle.std.proofs.lemmas.List.Elements.{filter-append}
 use Rattle.link_ring.proofs.Later.{same_send-trans}
 use Rattle.game_trait.proofs.Due.{none-due}
@@ -66,11 +66,6 @@ arrivals-push [] (p ∷ ps) x reply h still = absurd h
 arrivals-push (y ∷ xs) [] x reply h still = absurd h
 arrivals-push (y ∷ xs) (p ∷ ps) x reply h still = (h.0, h.1, arrivals-push xs ps x reply h.2 still)
 
--- one more command is sent
-map-push : (xs : List Command) (x : Command) → map Cmd (xs ++ x ∷ []) ≡ map Cmd xs ++ Cmd x ∷ []
-map-push [] x = refl
-map-push (y ∷ xs) x = ap (λ (l : List Message). Cmd y ∷ l) (map-push xs x)
-
 -- nothing of the tick is issued yet
 pub issuing-start : (plan : List Command) (issued t : ℕ) (asked : List Asked) (sends : List LinkSend) → issued ≤ length plan → Issuing plan issued t issued asked asked sends sends
 unfolding AreArrivals
@@ -104,7 +99,7 @@ issuing-more plan issued t next asked asked_now asked_then sends sends_now sends
         asked = arrives.asked ∙ ap (λ (l : List Asked). l ++ arrival x arrives.reply ∷ []) h.arrive.asked ∙ append_assoc asked h.arrive.pairs (arrival x arrives.reply ∷ []);
         arrivals = arrivals-push h.some h.arrive.pairs x arrives.reply h.arrive.arrivals arrives.still;
       };
-      sent = subst (λ (l : List Message). AllZip (IsSent l) sends sends_then) (sym (map-push h.some x)) (sent-both (map Cmd h.some) (Cmd x ∷ []) sends sends_now sends_then h.sent sent);
+      sent = subst (λ (l : List Message). AllZip (IsSent l) sends sends_then) (sym (map-append Cmd h.some (x ∷ []))) (sent-both (map Cmd h.some) (Cmd x ∷ []) sends sends_now sends_then h.sent sent);
     }
 
 -- what is left behind once none is due
@@ -203,11 +198,6 @@ issuing-from plan issued t next asked asked_now sends sends_now from behind h =
           (all-weaker (λ x. x.time ≡ t) (λ x. x.time < t + 1) h.some (λ x e. omega arith) h.due) h.parts refl from.within);
       behind = behind;
     }
-
--- a message for each command
-pub map-length : (xs : List Command) → length (map Cmd xs) ≡ length xs
-map-length [] = refl
-map-length (x ∷ xs) = omega (arith, map-length xs)
 
 -- what an index of commands falls back on
 abbrev pub blank : Command

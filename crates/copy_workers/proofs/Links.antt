@@ -1,9 +1,9 @@
 -- One link: what it keeps, and what is fair.
 use Rattle.std.proofs.Common.{◌≡◌, ℕ, ◌+◌, ◌<◌, ◌≤◌, min, List, [], ◌∷◌, ◌++◌, length, ap, sym, ◌∙◌, arith, length-append}
 use Rattle.std.specs.List.{AllByRecursion}
+use Rattle.std.proofs.lemmas.List.{length_push}
 use Rattle.game_trait.specs.declared.command.Command.{Command}
 use Rattle.game_trait.proofs.KeyOrder.{all-weaker}
-use Rattle.link_ring.specs.declared.message.Message.{Message}
 use Rattle.link_ring.specs.declared.message.Message.TheVariants.{Cmd, Mark}
 use Rattle.copy_workers.specs.Messages.{commands_in, IsOrderly}
 use Rattle.tss_io.specs.Totals.{total}
@@ -17,14 +17,10 @@ pub hears-missed : (h : Hearing) (known : ℕ) → h.known ≡ 0 → Hears h →
 hears-missed h known none hears =
     record { kept = hears.kept; each = omega (arith, hears.each); known = omega (arith, hears.known); least = omega (arith, hears.known) }
 
--- one message more
-one-more : (got : List Message) (x : Message) → length (got ++ x ∷ []) ≡ length got + 1
-one-more got x = length-append got (x ∷ [])
-
 -- a mark came
 pub hears-mark : (h : Hearing) (n known : ℕ) → h.known ≤ known + 1 → Hears h → Hears (with_mark h n known)
 hears-mark h n known fewer hears =
-    let longer = one-more h.got (Mark n) in
+    let longer = length_push h.got (Mark n) in
     record {
       kept = sym (mark_after-mark 0 h.got n);
       each = omega (arith, longer, hears.each);
@@ -35,7 +31,7 @@ hears-mark h n known fewer hears =
 -- a command came
 pub hears-command : (h : Hearing) (x : Command) (known : ℕ) → h.known ≤ known + 1 → Hears h → Hears (with_command h x known)
 hears-command h x known fewer hears =
-    let longer = one-more h.got (Cmd x) in
+    let longer = length_push h.got (Cmd x) in
     record {
       kept = hears.kept ∙ sym (mark_after-command 0 h.got x);
       each = omega (arith, longer, hears.each);

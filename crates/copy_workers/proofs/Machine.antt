@@ -18,7 +18,7 @@ use Rattle.copy_workers.specs.Feed.{Task, Hearing, Feed, issued, missed, with_ma
 use Rattle.copy_workers.specs.Feeding.{Turns, Hears, IsFair, InTime, IsBound, Keeps, IsFed}
 use Rattle.copy_workers.proofs.Lists.{all-at, all-changed, total-at, joined-more}
 use Rattle.copy_workers.proofs.MessageLists.{messages-more, commands_in-tick, commands_in-mark, commands_in-command, orderly-mark, orderly-command}
-use Rattle.copy_workers.proofs.Arrivals.{moves-append, ticks-append, arrivals-append, one, at-later, in_time-later, in_time-mark, in_time-command, arrivals-moves, arrivals-ticks, arrivals-count, arrivals-feeding, arrivals-each}
+use Rattle.copy_workers.proofs.Arrivals.{moves-append, ticks-append, arrivals-append, at-later, in_time-later, in_time-mark, in_time-command, arrivals-moves, arrivals-ticks, arrivals-count, arrivals-feeding, arrivals-each, times-one}
 use Rattle.copy_workers.proofs.Links.{hears-missed, hears-mark, hears-command, heard_commands, commands-mark, commands-command, fair-missed, fair-mark, fair-command}
 use Rattle.game_trait.proofs.Lists.{all-append}
 
@@ -191,8 +191,8 @@ fed-command job s front h back x known reply place fewer still f =
     let before = subst (λ (l : List Hearing). IsFair job l → Keeps job (heard s l)) place f.keeps in
     let taken = subst (λ (l : List Hearing). s.taken ≤ total heard_commands l) place f.feeds.taken in
     let turns = turns-heard job s front h k back place f.feeds.turns in
-    let unmoved : moves_in more ≡ 0 = one (λ q. is_moved q.reply) pair ∙ rw still refl in
-    let no_tick : ticks_in more ≡ 0 = one (λ q. is_tick q.event) pair in
+    let unmoved : moves_in more ≡ 0 = times-one (λ q. is_moved q.reply) pair ∙ rw still refl in
+    let no_tick : ticks_in more ≡ 0 = times-one (λ q. is_tick q.event) pair in
     record {
       feeds = record {
         sends = record { sent = f.feeds.sends.sent; least = f.feeds.sends.least; most = f.feeds.sends.most };
@@ -234,8 +234,8 @@ fed-command job s front h back x known reply place fewer still f =
                 let b = total-at (λ g. times (same_command y) (commands_in g.got)) front k back in
                 let c : times (same_command y) (commands_in (h.got ++ Cmd x ∷ [])) ≡ times (same_command y) (commands_in h.got) + times (same_command y) (x ∷ []) =
                 ap (times (same_command y)) (commands_in-command h.got x) ∙ times-append (same_command y) (commands_in h.got) (x ∷ []) in
-                let d = one (same_command y) x in
-                let e : arrivals_of y more ≡ cond (same_command y x) 1 0 = one (λ q. is_arrival_of y q.event) pair in
+                let d = times-one (same_command y) x in
+                let e : arrivals_of y more ≡ cond (same_command y x) 1 0 = times-one (λ q. is_arrival_of y q.event) pair in
                 omega (arith, keeps.counts y, arrivals-append y s.asked more);
             bounds =
                 all-changed (IsBound job s.clock) (IsBound job s.clock) front h k back (λ g e. e)

@@ -15,7 +15,7 @@ use Rattle.copy_workers.specs.Feed.{Task, Hearing, Feed, ending_clock, least_mar
 use Rattle.copy_workers.specs.Feeding.{Hears, InTime, IsBound, IsFed, IsBetween, GoesOn, joined}
 use Rattle.copy_workers.proofs.Lists.{joined-end, joined-rest, push-last}
 use Rattle.copy_workers.proofs.MessageLists.{orderly-most}
-use Rattle.copy_workers.proofs.Arrivals.{moves-append, ticks-append, arrivals-append, one, at-later, in_time-later}
+use Rattle.copy_workers.proofs.Arrivals.{moves-append, ticks-append, arrivals-append, at-later, in_time-later, times-one}
 use Rattle.copy_workers.proofs.Links.{least-all, least-tries}
 use Rattle.game_trait.proofs.Lists.{all-append, all-both}
 use Rattle.game_trait.proofs.Counts.{times-nothing}
@@ -44,7 +44,7 @@ goes_on-push last clock (t ∷ turns) turn h below =
 
 -- a tick is never more than one move
 move-most : (reply : Reply) → moves_in (ticking reply ∷ []) ≤ 1
-move-most reply = (let e = one (λ q. is_moved q.reply) (ticking reply) in elim (is_moved reply) as (λ v. moves_in (ticking reply ∷ []) ≡ cond v 1 0 → moves_in (ticking reply ∷ []) ≤ 1) [ true ↦ λ h. omega arith | false ↦ λ h. omega arith ] e)
+move-most reply = (let e = times-one (λ q. is_moved q.reply) (ticking reply) in elim (is_moved reply) as (λ v. moves_in (ticking reply ∷ []) ≡ cond v 1 0 → moves_in (ticking reply ∷ []) ≤ 1) [ true ↦ λ h. omega arith | false ↦ λ h. omega arith ] e)
 
 -- where the clock isn't held, every mark holds it also after a tick
 bound-tick :
@@ -68,8 +68,8 @@ fed-ticked job s reply below free marked f =
     let sends = f.feeds.sends in
     let pair = ticking reply in
     let more = pair ∷ [] in
-    let tick : ticks_in more ≡ 1 = one (λ q. is_tick q.event) pair in
-    let move : moves_in more ≡ cond (is_moved reply) 1 0 = one (λ q. is_moved q.reply) pair in
+    let tick : ticks_in more ≡ 1 = times-one (λ q. is_tick q.event) pair in
+    let move : moves_in more ≡ cond (is_moved reply) 1 0 = times-one (λ q. is_moved q.reply) pair in
     let most = move-most reply in
     record {
       feeds = record {
@@ -100,7 +100,7 @@ fed-ticked job s reply below free marked f =
           let keeps = f.keeps fair in
           record {
             in_time = all-weaker (λ h. InTime s.asked job.pace 0 h.got) (λ h. InTime (s.asked ++ more) job.pace 0 h.got) s.hearings (λ h t. in_time-later s.asked more job.pace 0 h.got t) keeps.in_time;
-            counts = λ x. (let e : arrivals_of x more ≡ 0 = one (λ q. is_arrival_of x q.event) pair in omega (arith, arrivals-append x s.asked more, keeps.counts x));
+            counts = λ x. (let e : arrivals_of x more ≡ 0 = times-one (λ q. is_arrival_of x q.event) pair in omega (arith, arrivals-append x s.asked more, keeps.counts x));
             bounds =
                 all-weaker (λ h. (least_mark job.length s.hearings ≤ h.kept) × (h.kept ≤ job.length)) (IsBound job (s.clock + cond (is_moved reply) 1 0)) s.hearings
                 (λ h k. bound-tick job s.clock (cond (is_moved reply) 1 0) (least_mark job.length s.hearings) h (omega arith) free k)
@@ -159,7 +159,7 @@ between-ticked job s reply tries none =
       held = λ front turn last no_tick below. absurd (
           let same : s.here ++ ticking reply ∷ [] ≡ turn = push-last s.turns front (s.here ++ ticking reply ∷ []) turn last in
           let count : ticks_in (s.here ++ ticking reply ∷ []) ≡ 0 = ap (λ (l : List Asked). ticks_in l) same ∙ no_tick in
-          let a = ticks-append s.here (ticking reply ∷ []) in let b : ticks_in (ticking reply ∷ []) ≡ 1 = one (λ q. is_tick q.event) (ticking reply) in omega arith);
+          let a = ticks-append s.here (ticking reply ∷ []) in let b : ticks_in (ticking reply ∷ []) ≡ 1 = times-one (λ q. is_tick q.event) (ticking reply) in omega arith);
     }
 
 -- between two turns, where the marks held

@@ -37,8 +37,8 @@ turned : (x : Command) (from number : ℕ) → same_pair (x.from, x.number) (fro
 turned x from number = grind (arith, nat_tests)
 
 -- two commands of different names aren't found under one
-apart : (x y : Command) (from number : ℕ) → is_named x.from x.number y ≡ false → is_named from number y ≡ true → is_named from number x ≡ false
-apart x y from number other here = grind (arith, nat_tests)
+other-name : (x y : Command) (from number : ℕ) → is_named x.from x.number y ≡ false → is_named from number y ≡ true → is_named from number x ≡ false
+other-name x y from number other here = grind (arith, nat_tests)
 
 -- one more command, of a new name, is found under it, and the others as before
 pub found-push :
@@ -48,7 +48,7 @@ found-push [] x from number new = rw (turned x from number) refl
 found-push (y ∷ ys) x from number new =
     let parts = or_parts (is_named x.from x.number y) (has_command ys x.from x.number) new in
     elim (is_named from number y) as (λ v. is_named from number y ≡ v → cond v (Some y) (command_named (ys ++ x ∷ []) from number) ≡ cond (same_pair (x.from, x.number) (from, number)) (Some x) (cond v (Some y) (command_named ys from number))) [
-      | true ↦ λ here. rw (turned x from number, apart x y from number parts.0 here) refl
+      | true ↦ λ here. rw (turned x from number, other-name x y from number parts.0 here) refl
       | false ↦ λ other. found-push ys x from number parts.1
     ]
     refl

@@ -127,15 +127,15 @@ by_word_fault o small b word words =
     (fault_if (bytes_eq word (codes "player")) _ _ _ _ (step_fault (player_exact o) b words)
     (fault_if (bytes_eq word (codes "plan")) _ _ _ _ (step_fault (plan_exact o small) b words) refl)))))))))))
 
-front_fault : (o : Opening) → IsSmall o → (b : Body) (words : List (List ℕ)) (r : Result (List ℕ × List (List ℕ)) Cause) → front_at words ≡ r → fault_of (r >>= λ front. by_word o b front.0 front.1) ≡ first_failing (behind_checks o b r)
-front_fault o small b words (Ok front) e = by_word_fault o small b front.0 front.1
-front_fault o small b words (Err c) e = ap Some (front_err words c e)
+by_word-fault : (o : Opening) → IsSmall o → (b : Body) (words : List (List ℕ)) (r : Result (List ℕ × List (List ℕ)) Cause) → front_at words ≡ r → fault_of (r >>= λ front. by_word o b front.0 front.1) ≡ first_failing (behind_checks o b r)
+by_word-fault o small b words (Ok front) e = by_word_fault o small b front.0 front.1
+by_word-fault o small b words (Err c) e = ap Some (front_err words c e)
 
 take_fault : (o : Opening) → IsSmall o → (b : Body) (l : List ℕ) → fault_of (take o b l) ≡ first_failing (body_checks o b l)
 unfolding take
 take_fault o small b l =
     fault_if (bytes_eq l (codes "script")) _ _ _ _ (one_test (may_open b) _ Shape)
-    (fault_if (bytes_eq l (codes "end")) _ _ _ _ (one_test (may_end b) _ Shape) (front_fault o small b (words_of l) (front_at (words_of l)) refl))
+    (fault_if (bytes_eq l (codes "end")) _ _ _ _ (one_test (may_end b) _ Shape) (by_word-fault o small b (words_of l) (front_at (words_of l)) refl))
 
 -- ---- what is known of each line that is due
 

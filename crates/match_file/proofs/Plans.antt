@@ -3,7 +3,7 @@ use Rattle.std.proofs.Common.{◌≡◌, length, map, ℕ, ◌≤◌, List, [], 
 use Rattle.std.specs.List.{AllByRecursion}
 use Rattle.std.proofs.lemmas.List.{length-map}
 use Rattle.game_trait.specs.declared.limits.TheConstants.{MOST_PLANS}
-use Rattle.sync_model.specs.Schedule.{Schedule, IsSchedule, delays_of_each, ticks_of_first, copies_of_first}
+use Rattle.sync_model.specs.Schedule.{IsSchedule, delays_of_each, ticks_of_first, copies_of_first}
 use Rattle.match_file.specs.Data.{MatchData, IsMatch, schedule_of, all_plans, schedules}
 
 of-plans :

@@ -281,11 +281,11 @@ walls_in_grid g is = let r = walls_rise g g.width g.height is.width.1 in in_grid
 pub in_columns : (width height : ℕ) (cells : List Cell) → width ≤ 64 → InGrid width height cells → InColumns cells
 in_columns width height cells le h = all_to (λ c. (c.x < width) × (c.y < height)) (λ c. c.x < 64) (λ c k. let low = k.0 in omega arith) cells h
 
-nothing : (a b : Bool) → (a && (b && false)) ≡ false
-nothing true true = refl
-nothing true false = refl
-nothing false true = refl
-nothing false false = refl
+and_and_false : (a b : Bool) → (a && (b && false)) ≡ false
+and_and_false true true = refl
+and_and_false true false = refl
+and_and_false false true = refl
+and_and_false false false = refl
 
 or_false : (b : Bool) → (b || false) ≡ b
 or_false true = refl
@@ -296,7 +296,7 @@ pub grid_has : (g : Grid) (x y : ℕ) → IsGrid g → has_wall x y (walls_of g 
 grid_has g x y is =
     walls_has g g.width x y g.height ∙ elim (is_walled g x y) as (λ b. is_walled g x y ≡ b → (ltb y g.height && (ltb x g.width && b)) ≡ b) [
       | true ↦ λ e. let in_it = is.walls x y e in let s : ltb x g.width ≡ true = lt-ltb _ _ in_it.0 in let t : ltb y g.height ≡ true = lt-ltb _ _ in_it.1 in rw (s, t) refl
-      | false ↦ λ e. nothing (ltb y g.height) (ltb x g.width)
+      | false ↦ λ e. and_and_false (ltb y g.height) (ltb x g.width)
     ] refl
 
 -- the walls of a grid made of rising cells are those cells

@@ -1,11 +1,12 @@
 -- Delivering commands one by one.
-use Rattle.std.proofs.Common.{◌≡◌, ℕ, zero, suc, ◌+◌, ◌-◌, ◌<◌, ◌≤◌, List, [], ◌∷◌, ◌++◌, map, drop, length, get_or, refl, sym, ap, ◌∙◌, subst, append_assoc, arith}
+use Rattle.std.proofs.Common.{◌≡◌, ℕ, ◌+◌, ◌-◌, ◌<◌, ◌≤◌, List, [], ◌∷◌, ◌++◌, map, drop, length, get_or, refl, sym, ap, ◌∙◌, subst, arith}
 use Rattle.std.specs.List.{AllByRecursion}
 use Rattle.std.proofs.Math.ListN.{length-append}
+use Rattle.std.proofs.lemmas.List.{map-append, append-nil, drop_more, drop_all, nil_from_length}
 use mathlib.Core.List.{IsPrefix}
 use Rattle.game_trait.specs.declared.command.Command.{Command}
-use Rattle.game_trait.specs.declared.event.Event.{Event}
 use Rattle.game_trait.specs.declared.event.Event.TheVariants.{Arrive}
+use Rattle.game_trait.proofs.Lists.{all-first, all-second}
 use Rattle.link_ring.specs.declared.message.Message.{Message}
 use Rattle.link_ring.specs.declared.message.Message.TheVariants.{Cmd, Mark}
 use Rattle.sync_model.specs.State.{MirrorState}
@@ -15,7 +16,6 @@ use Rattle.sync_model.proofs.History.{after-append}
 use Rattle.copy_workers.specs.Messages.{commands_in}
 use Rattle.copy_workers.proofs.MessageLists.{commands_in-append}
 use Rattle.race_hall.specs.Finish.{delivered, CanTake, HasNext, Taking}
-use Rattle.race_hall.proofs.Lists.{same-head, same-tail}
 
 pub deliver-none : {W : Type 0} (s : MirrorState W) → s ≡ delivered s []
 unfolding after
@@ -25,12 +25,8 @@ pub deliver-one : {W : Type 0} (s t : MirrorState W) (x : Command) (xs : List Co
 unfolding after
 deliver-one {W} s t x xs e = ap (λ (u : MirrorState W). delivered u xs) e
 
-arrivals-append : (xs ys : List Command) → map Arrive (xs ++ ys) ≡ map Arrive xs ++ map Arrive ys
-arrivals-append [] ys = refl
-arrivals-append (x ∷ xs) ys = ap (λ (es : List Event). Arrive x ∷ es) (arrivals-append xs ys)
-
 pub deliver-append : {W : Type 0} (s : MirrorState W) (xs ys : List Command) → delivered s (xs ++ ys) ≡ delivered (delivered s xs) ys
-deliver-append s xs ys = ap (after s) (arrivals-append xs ys) ∙ after-append s (map Arrive xs) (map Arrive ys)
+deliver-append s xs ys = ap (after s) (map-append Arrive xs ys) ∙ after-append s (map Arrive xs) (map Arrive ys)
 
 arrival-spare : {W : Type 0} (s : MirrorState W) (x : Command) → s.spare ≤ (next s (Arrive x)).spare + 1
 arrival-spare s x = arrive-cases s x (λ t r. s.spare ≤ t.spare + 1) (λ e. omega arith) (λ e l. omega arith) (λ e l. omega arith)
@@ -40,24 +36,16 @@ unfolding after
 deliver-spare [] s = omega arith
 deliver-spare (x ∷ xs) s = (let a = arrival-spare s x in let b = deliver-spare xs (next s (Arrive x)) in omega arith)
 
-all-two : {X : Type 0} (P : X → Type 0) (xs ys : List X) → AllByRecursion P (xs ++ ys) → AllByRecursion P xs × AllByRecursion P ys
-all-two P [] ys h = (tt, h)
-all-two P (x ∷ xs) ys h = (let more = all-two P xs ys h.1 in ((h.0, more.0), more.1))
-
 pub can-first : {W : Type 0} (s : MirrorState W) (xs ys : List Command) → CanTake s (xs ++ ys) → CanTake s xs
-can-first s xs ys can = record { within = (all-two (λ x. x.time < s.length) xs ys can.within).0; room = (let a = can.room in let b = length-append xs ys in omega arith) }
+can-first s xs ys can = record { within = all-first (λ x. x.time < s.length) xs ys can.within; room = (let a = can.room in let b = length-append xs ys in omega arith) }
 
 pub can-later : {W : Type 0} (s : MirrorState W) (xs ys : List Command) → CanTake s (xs ++ ys) → CanTake (delivered s xs) ys
 can-later s xs ys can =
     let fixed : (delivered s xs).length ≡ s.length = (after-fixed (map Arrive xs) s).length in
     record {
-      within = subst (λ (n : ℕ). AllByRecursion (λ x. x.time < n) ys) (sym fixed) (all-two (λ x. x.time < s.length) xs ys can.within).1;
+      within = subst (λ (n : ℕ). AllByRecursion (λ x. x.time < n) ys) (sym fixed) (all-second (λ x. x.time < s.length) xs ys can.within);
       room = (let a = can.room in let b = length-append xs ys in let d = deliver-spare xs s in omega arith);
     }
-
-append-none : {X : Type 0} (l : List X) → l ++ [] ≡ l
-append-none [] = refl
-append-none {X} (x ∷ xs) = ap (λ (m : List X). x ∷ m) (append-none xs)
 
 -- what a message brings
 pub cmd-can : {W : Type 0} (s : MirrorState W) (m : Message) (x : Command) → m ≡ Cmd x → CanTake s (commands_in (m ∷ [])) → (x.time < s.length) × (0 < s.spare)
@@ -73,33 +61,9 @@ pub mark-takes : {W : Type 0} (s : MirrorState W) (m : Message) (n : ℕ) → m 
 unfolding commands_in
 mark-takes s m n e = deliver-none s ∙ ap (λ (k : Message). delivered s (commands_in (k ∷ []))) (sym e)
 
-pub prefix-same : (m : Message) (more : List Message) (n : Message) (rest : List Message) → IsPrefix (m ∷ more) (n ∷ rest) → (m ≡ n) × IsPrefix more rest
-prefix-same m more n rest p = (same-head m n (more ++ p.0) rest p.1, (p.0, same-tail m n (more ++ p.0) rest p.1))
-
--- a prefix of a prefix
-pub prefix-trans : (a b c : List Message) → IsPrefix a b → IsPrefix b c → IsPrefix a c
-prefix-trans a b c p q = (p.0 ++ q.0, sym (append_assoc a p.0 q.0) ∙ ap (λ (l : List Message). l ++ q.0) p.1 ∙ q.1)
-
-pub next-can : {W : Type 0} (s : MirrorState W) (waiting rest : List Message) (n : Message) → HasNext s waiting → IsPrefix waiting (n ∷ rest) → CanTake s (commands_in (n ∷ []))
-next-can s waiting rest n h p =
-    let same = prefix-same h.message h.more n rest (prefix-trans (h.message ∷ h.more) waiting (n ∷ rest) h.ahead p) in
-    subst (λ (k : Message). CanTake s (commands_in (k ∷ []))) same.0 h.can
-
-pub next-takes : {W : Type 0} (s t : MirrorState W) (waiting rest : List Message) (n : Message) → IsPrefix waiting (n ∷ rest) → t ≡ delivered s (commands_in (n ∷ []))
-    → (m : Message) (more : List Message) → IsPrefix (m ∷ more) waiting → (t ≡ delivered s (commands_in (m ∷ []))) × IsPrefix more rest
-next-takes s t waiting rest n p new m more ahead =
-    let same = prefix-same m more n rest (prefix-trans (m ∷ more) waiting (n ∷ rest) ahead p) in
-    (new ∙ ap (λ (k : Message). delivered s (commands_in (k ∷ []))) (sym same.0), same.1)
-
-pub next-none : {W : Type 0} (s t : MirrorState W) (waiting rest : List Message) → waiting ≡ [] → HasNext s waiting → ⊥
-next-none s t waiting rest e h = (let a = ap (λ (l : List Message). length l) h.ahead.1 in let b = ap (λ (l : List Message). length l) e in let d = length-append h.more h.ahead.0 in omega arith)
-
 -- the next message
-one-more : (m : Message) (more : List Message) → commands_in (m ∷ more) ≡ commands_in (m ∷ []) ++ commands_in more
-one-more m more = commands_in-append (m ∷ []) more
-
 pub take-begins : {W : Type 0} (s : MirrorState W) (waiting : List Message) (n : ℕ) → n ≡ length waiting → CanTake s (commands_in waiting) → Taking s s waiting waiting (n - 0)
-take-begins s waiting n e can = record { still = waiting; count_of = omega arith; ahead = ([], append-none waiting); can = can; state = refl }
+take-begins s waiting n e can = record { still = waiting; count_of = omega arith; ahead = ([], append-nil waiting); can = can; state = refl }
 
 pub take-has : {W : Type 0} (first now : MirrorState W) (all waiting : List Message) (n i : ℕ) → i < n → Taking first now all waiting (n - i) → HasNext now waiting
 take-has {W} first now all waiting n i below t =
@@ -108,7 +72,7 @@ take-has {W} first now all waiting n i below t =
     cases : (still : List Message) → t.still ≡ still → HasNext now waiting
     cases [] e = absurd (let a = t.count_of in let b = ap (λ (l : List Message). length l) e in omega arith)
     cases (m ∷ more) e =
-        let parts = ap (λ (l : List Message). commands_in l) e ∙ one-more m more in
+        let parts = ap (λ (l : List Message). commands_in l) e ∙ commands_in-append (m ∷ []) more in
         record { message = m; more = more; ahead = subst (λ (l : List Message). IsPrefix l waiting) e t.ahead; can = can-first now (commands_in (m ∷ [])) (commands_in more) (subst (CanTake now) parts t.can) }
 
 pub take-goes : {W : Type 0} (first now then : MirrorState W) (all waiting waiting_then : List Message) (n i : ℕ) → i < n
@@ -121,7 +85,7 @@ take-goes {W} first now then all waiting waiting_then n i below step t =
     cases [] e = absurd (let a = t.count_of in let b = ap (λ (l : List Message). length l) e in omega arith)
     cases (m ∷ more) e =
         let one = step m more (subst (λ (l : List Message). IsPrefix l waiting) e t.ahead) in
-        let parts = ap (λ (l : List Message). commands_in l) e ∙ one-more m more in
+        let parts = ap (λ (l : List Message). commands_in l) e ∙ commands_in-append (m ∷ []) more in
         let can = subst (CanTake now) parts t.can in
         record {
           still = more;
@@ -133,33 +97,18 @@ take-goes {W} first now then all waiting waiting_then n i below step t =
 
 pub take-ends : {W : Type 0} (first now : MirrorState W) (all waiting : List Message) (n i : ℕ) → n ≤ i → Taking first now all waiting (n - i) → now ≡ delivered first (commands_in all)
 unfolding commands_in
-take-ends {W} first now all waiting n i end t = deliver-none now ∙ ap (λ (l : List Message). delivered now (commands_in l)) (sym (none t.still (omega (arith, t.count_of)))) ∙ t.state
-  where
-    none : (l : List Message) → length l ≡ 0 → l ≡ []
-    none [] e = refl
-    none (m ∷ l) e = absurd (omega arith)
+take-ends {W} first now all waiting n i end t = deliver-none now ∙ ap (λ (l : List Message). delivered now (commands_in l)) (sym (nil_from_length t.still (omega (arith, t.count_of)))) ∙ t.state
 
 -- along a plan
-drop-here : (items : List Command) (i : ℕ) (d : Command) → i < length items → drop i items ≡ get_or items i d ∷ drop (i + 1) items
-drop-here [] i d below = absurd (omega arith)
-drop-here (y ∷ items) zero d below = refl
-drop-here (y ∷ items) (suc i) d below = drop-here items i d (omega arith) ∙ (let n : suc (i + 1) ≡ suc i + 1 = omega arith in ap (λ (k : ℕ). get_or items i d ∷ drop k (y ∷ items)) n)
-
 pub plan-goes : {W : Type 0} (s t : MirrorState W) (items : List Command) (i : ℕ) (d : Command) → i < length items → t ≡ next s (Arrive (get_or items i d))
     → CanTake s (drop i items) → CanTake t (drop (i + 1) items) × (delivered t (drop (i + 1) items) ≡ delivered s (drop i items))
 plan-goes {W} s t items i d below new can =
     let x = get_or items i d in
-    let parts = drop-here items i d below in
+    let parts = drop_more items i d below in
     let one : t ≡ delivered s (get_or items i d ∷ []) = deliver-none t ∙ deliver-one s t (get_or items i d) [] new in (
       subst (λ (u : MirrorState W). CanTake u (drop (i + 1) items)) (sym one) (can-later s (get_or items i d ∷ []) (drop (i + 1) items) (subst (CanTake s) parts can)),
       deliver-one s t (get_or items i d) (drop (i + 1) items) new ∙ ap (λ (l : List Command). delivered s l) (sym parts),
     )
 
 pub plan-ends : {W : Type 0} (s : MirrorState W) (items : List Command) (i : ℕ) → length items ≤ i → s ≡ delivered s (drop i items)
-plan-ends s items i end = deliver-none s ∙ ap (λ (l : List Command). delivered s l) (sym (none items i end))
-  where
-    none : (xs : List Command) (k : ℕ) → length xs ≤ k → drop k xs ≡ []
-    none [] zero h = refl
-    none [] (suc k) h = refl
-    none (x ∷ xs) zero h = absurd (omega arith)
-    none (x ∷ xs) (suc k) h = none xs k (omega arith)
+plan-ends s items i end = deliver-none s ∙ ap (λ (l : List Command). delivered s l) (sym (drop_all i items end))

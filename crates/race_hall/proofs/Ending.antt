@@ -1,8 +1,7 @@
 -- From the closed locks to the finish, and from the jobs that were done to the close.
-use Rattle.std.proofs.Common.{◌≡◌, ◌≢◌, ℕ, zero, suc, ◌+◌, ◌*◌, ◌<◌, ◌≤◌, List, [], ◌∷◌, map, length, get_or, refl, ap, sym, ◌∙◌, subst, arith}
+use Rattle.std.proofs.Common.{◌≡◌, ◌≢◌, ℕ, zero, suc, ◌+◌, ◌<◌, List, [], ◌∷◌, map, length, get_or, refl, ap, sym, ◌∙◌, subst, arith}
 use Rattle.std.specs.Prelude.{Option, Some, None, slice_get}
 use Rattle.std.specs.List.{AllByRecursion, AllZip}
-use Rattle.std.proofs.Math.ListN.{length-append}
 use Rattle.std.proofs.lemmas.List.{get_or_default}
 use Rattle.atomic_table.specs.Seated.{TableId}
 use Rattle.atomic_table.specs.declared.shared.Seat.{Seat}
@@ -28,8 +27,10 @@ use Rattle.race_hall.specs.Posting.{asked_by}
 use Rattle.race_hall.specs.Jobs.{Asks, Ends, CanDo}
 use Rattle.race_hall.specs.Crews.{ByMirror, IsFeederOf, IsManned, IsCrew, IsWorkOf, IsDone, IsCrewDone, AllClosed, IsRaceOf}
 use Rattle.race_hall.proofs.Started.{HoldLinks, ends-links, ends-linked}
-use Rattle.race_hall.proofs.Linings.{map-at}
-use Rattle.race_hall.proofs.Manning.{zip-all, zip-through, zip-get, zip-count-length, by_mirror-all}
+use Rattle.race_hall.proofs.Lining.{map-at}
+use Rattle.race_hall.proofs.Numbered.{numbered-length, numbered-get}
+use Rattle.race_hall.proofs.Zips.{zip-all, zip-through}
+use Rattle.race_hall.proofs.ByMirror.{by_mirror-all}
 
 module _ {W : Type 0} (c : Course) (opening : W) (spare : ℕ) where
   histories_of : (jobs : List FeederJob) (ends : List FeederEnd) (mirrors : List (MirrorState W)) → AllClosed c opening spare jobs ends mirrors → List (List Entry)
@@ -98,14 +99,14 @@ module _ {W : Type 0} (c : Course) (opening : W) (budget copies : ℕ) (jobs : L
 
   job-of : (dj : FeederJob) → IsRaceOf c budget copies jobs → (k : ℕ) → k < c.mirrors → IsJobOf c k (get_or jobs k dj)
   job-of dj race k low =
-      let long = zip-count-length (IsFeederOf c budget) 0 c.mirrors jobs race.feeders.each in
+      let long = numbered-length (IsFeederOf c budget) 0 c.mirrors jobs race.feeders.each in
       let at : 0 + k ≡ k = omega arith in
       let here = get_or_default jobs k dj (get_or jobs k dj) (omega arith) in
-      (subst (λ (i : ℕ). IsFeederOf c budget i (get_or jobs k dj)) at (zip-get (IsFeederOf c budget) 0 c.mirrors jobs k (get_or jobs k dj) race.feeders.each low here)).of
+      (subst (λ (i : ℕ). IsFeederOf c budget i (get_or jobs k dj)) at (numbered-get (IsFeederOf c budget) 0 c.mirrors jobs k (get_or jobs k dj) race.feeders.each low here)).of
 
   hold-links : (dj : FeederJob) (race : IsRaceOf c budget copies jobs) → HoldLinks (length race.feeders.hold.rooms) (λ k. get_or jobs k dj) race.feeders.hold.sends race.feeders.hold.rows
   hold-links dj race =
-      let long = zip-count-length (IsFeederOf c budget) 0 c.mirrors jobs race.feeders.each in
+      let long = numbered-length (IsFeederOf c budget) 0 c.mirrors jobs race.feeders.each in
       let count = race.feeders.hold.count in
       record {
         sends_of = λ k low.
@@ -117,7 +118,7 @@ module _ {W : Type 0} (c : Course) (opening : W) (budget copies : ℕ) (jobs : L
   joined-of : (dj : FeederJob) (de : FeederEnd) (race : IsRaceOf c budget copies jobs) (h : AllClosed c opening (length c.commands) jobs ends mirrors) → AreJoined (holding_of dj de h) mirrors ends
   unfolding holding_of
   joined-of dj de race h =
-      let long = zip-count-length (IsFeederOf c budget) 0 c.mirrors jobs race.feeders.each in
+      let long = numbered-length (IsFeederOf c budget) 0 c.mirrors jobs race.feeders.each in
       let ends_count = ends-long c opening (length c.commands) jobs ends mirrors h in
       let mirrors_count = mirrors-long c opening (length c.commands) jobs ends mirrors h in
       let count = race.feeders.hold.count in
@@ -147,40 +148,20 @@ module _ {W : Type 0} (c : Course) (opening : W) (budget copies : ℕ) (jobs : L
     where
       with_defaults : (js : List FeederJob) (es : List FeederEnd) → jobs ≡ js → ends ≡ es → Ready c opening mirrors ends
       with_defaults [] es e f =
-          absurd (let long = zip-count-length (IsFeederOf c budget) 0 c.mirrors jobs race.feeders.each in let a = ap (λ (l : List FeederJob). length l) e in let some = race.some in omega arith)
+          absurd (let long = numbered-length (IsFeederOf c budget) 0 c.mirrors jobs race.feeders.each in let a = ap (λ (l : List FeederJob). length l) e in let some = race.some in omega arith)
       with_defaults (j ∷ js) [] e f =
           absurd (let long = ends-long c opening (length c.commands) jobs ends mirrors h in let a = ap (λ (l : List FeederJob). length l) e in let b = ap (λ (l : List FeederEnd). length l) f in omega arith)
       with_defaults (j ∷ js) (x ∷ es) e f = record { holding = holding_of j x h; joined = joined-of j x race h; course_is = refl; opening_is = refl }
 
   pub closed-count : IsRaceOf c budget copies jobs → AllClosed c opening (length c.commands) jobs ends mirrors → length mirrors ≡ c.mirrors
-  closed-count race h = mirrors-long c opening (length c.commands) jobs ends mirrors h ∙ zip-count-length (IsFeederOf c budget) 0 c.mirrors jobs race.feeders.each
+  closed-count race h = mirrors-long c opening (length c.commands) jobs ends mirrors h ∙ numbered-length (IsFeederOf c budget) 0 c.mirrors jobs race.feeders.each
 
   pub ends-count : IsRaceOf c budget copies jobs → AllClosed c opening (length c.commands) jobs ends mirrors → length ends ≡ c.mirrors
-  ends-count race h = ends-long c opening (length c.commands) jobs ends mirrors h ∙ zip-count-length (IsFeederOf c budget) 0 c.mirrors jobs race.feeders.each
+  ends-count race h = ends-long c opening (length c.commands) jobs ends mirrors h ∙ numbered-length (IsFeederOf c budget) 0 c.mirrors jobs race.feeders.each
 
 pub each-index : {X : Type 0} (P : X → Type 0) (xs : List X) → ((k : ℕ) (x : X) → k < length xs → x ≡ get_or xs k x → P x) → AllByRecursion P xs
 each-index P [] h = tt
 each-index P (x ∷ xs) h = (h 0 x (omega arith) refl, each-index P xs (λ k y low here. h (suc k) y (omega arith) here))
-
--- what else is known of each mirror's feeder
-pub by_mirror-with : {X Y Z : Type 0} (P : ℕ → Z → Type 0) (Is : ℕ → Y → Z → List X → Type 0) (k n : ℕ) (ys : List Y) (zs : List Z) (xs : List X)
-    → AllZip P (count_from k n) zs → ByMirror Is k ys zs xs → ByMirror (λ i y z piece. P i z × Is i y z piece) k ys zs xs
-unfolding ByMirror count_from
-by_mirror-with P Is k n [] [] xs a h = h
-by_mirror-with P Is k n [] (z ∷ zs) xs a h = absurd h
-by_mirror-with P Is k n (y ∷ ys) [] xs a h = absurd h
-by_mirror-with P Is k zero (y ∷ ys) (z ∷ zs) xs a h = absurd a
-by_mirror-with P Is k (suc n) (y ∷ ys) (z ∷ zs) xs a h = (h.0, h.1, h.2, (a.0, h.3), by_mirror-with P Is (k + 1) n ys zs h.1 a.1 h.4)
-
--- how many jobs there are
-pub by_mirror-few : {X Y Z : Type 0} (Is : ℕ → Y → Z → List X → Type 0) (k : ℕ) (ys : List Y) (zs : List Z) (xs : List X)
-    → ((i : ℕ) (y : Y) (z : Z) (piece : List X) → Is i y z piece → length piece ≤ 9) → ByMirror Is k ys zs xs → length xs ≤ 9 * length ys
-unfolding ByMirror
-by_mirror-few {X} Is k [] [] xs step h = (let a = ap (λ (l : List X). length l) h in omega arith)
-by_mirror-few Is k [] (z ∷ zs) xs step h = absurd h
-by_mirror-few Is k (y ∷ ys) [] xs step h = absurd h
-by_mirror-few {X} Is k (y ∷ ys) (z ∷ zs) xs step h =
-    (let a = ap (λ (l : List X). length l) h.2 in let b = length-append h.0 h.1 in let d = step k y z h.0 h.3 in let e = by_mirror-few Is (k + 1) ys zs h.1 step h.4 in omega arith)
 
 module _ {T S W : Type 0} (game : GameRules W) (seat_of : T → Seat S (View (MirrorState W) (LockCall W) (LockReply W))) where
   -- a crew's jobs may be done

@@ -7,7 +7,6 @@ use Rattle.game_trait.specs.declared.event.Event.{Event}
 use Rattle.game_trait.specs.declared.event.Event.TheVariants.{Tick, Arrive, Step, Restagger}
 use Rattle.game_trait.specs.declared.event.Reply.{Reply}
 use Rattle.game_trait.specs.Count.{times}
-use Rattle.game_trait.specs.Keys.{same_name, NamesDiffer}
 use Rattle.game_trait.specs.Run.{same_command}
 use Rattle.game_trait.proofs.Items.{same_command-Decides}
 use Rattle.game_trait.proofs.KeyOrder.{all-weaker}
@@ -25,7 +24,6 @@ use Rattle.copy_workers.specs.declared.post.Asked.{Asked}
 use Rattle.copy_workers.specs.Asking.{moves_in}
 use Rattle.copy_workers.proofs.Lists.{all-append}
 use Rattle.race_hall.specs.Entries.{events_asked, AreAnswersOf, commands_asked, IsInTime, AllInTime}
-use Rattle.race_hall.proofs.Lists.{all-first}
 use Rattle.race_hall.proofs.Counting.{StandsIn, stands-in}
 use Rattle.sync_model.specs.Schedule.{longest_delay}
 use Rattle.game_trait.specs.Events.{is_restagger, is_moved}
@@ -139,11 +137,6 @@ all-stand (x ∷ xs) ys fewer =
 
 pub stands-contains : (x : Command) (xs : List Command) → StandsIn x xs → Contains xs x
 stands-contains x xs h = subst (λ (l : List Command). Contains l x) (sym h.parts) (Contains-append_right h.front (x ∷ h.back) x (0, omega arith, refl))
-
-pub names-first : (xs ys : List Command) → NamesDiffer (xs ++ ys) → NamesDiffer xs
-unfolding NamesDiffer
-names-first [] ys h = tt
-names-first (x ∷ xs) ys h = (all-first (λ y. same_name x y ≡ false) xs ys h.0, names-first xs ys h.1)
 
 -- a history of events that name what is there is legal
 pub named-all : {W : Type 0} (commands : List Command) (s : MirrorState W) (es : List Event)

@@ -8,6 +8,7 @@ use Rattle.game_trait.specs.Count.{times}
 use Rattle.game_trait.specs.Run.{same_command}
 use Rattle.game_trait.proofs.Items.{same_command-Decides}
 use Rattle.game_trait.proofs.KeyOrder.{counted}
+use Rattle.game_trait.proofs.Lists.{all-both, all-from_map, all-to_map, all-weaker}
 use Rattle.link_ring.specs.declared.message.Message.{Message}
 use Rattle.link_ring.specs.declared.message.Message.TheVariants.{Cmd, Mark}
 use Rattle.sync_model.specs.State.{MirrorState}
@@ -18,8 +19,8 @@ use Rattle.copy_workers.specs.Fed.{ArriveInTime}
 use Rattle.copy_workers.proofs.Races.{orderly-received, few-received, mark-before}
 use Rattle.race_hall.specs.Entries.{Entry, own}
 use Rattle.race_hall.specs.Race.{Course, IsCourse, plan_of, others, IsFairlyFed, Raced}
-use Rattle.race_hall.proofs.Lists.{all-with, all-from_map, all-to_map, total-map, total-most, total-some}
-use Rattle.race_hall.proofs.Plans.{weaker, others-all}
+use Rattle.race_hall.proofs.Lists.{total-map, total-most, total-some}
+use Rattle.race_hall.proofs.Plans.{others-all}
 
 pub times-fewer : {X : Type 0} (p q : X → Bool) (xs : List X) → times (λ x. p x && q x) xs ≤ times p xs
 unfolding times
@@ -45,7 +46,7 @@ unfolding times NamesDiffer
 once x [] names = omega arith
 once x (y ∷ xs) names =
     elim (same_command x y) as (λ v. same_command x y ≡ v → cond v 1 0 + times (same_command x) xs ≤ 1) [
-      | true ↦ λ e. omega (arith, none-same (same_command x) xs (weaker (λ z. same_name y z ≡ false) (λ z. same_command x z ≡ false) xs (λ z h. other-named x y z e h) names.0))
+      | true ↦ λ e. omega (arith, none-same (same_command x) xs (all-weaker (λ z. same_name y z ≡ false) (λ z. same_command x z ≡ false) xs (λ z h. other-named x y z e h) names.0))
       | false ↦ λ e. omega (arith, once x xs names.1)
     ]
     refl
@@ -58,11 +59,11 @@ pub fairly :
 fairly c opening spare m marked got left seat H s course there r =
     r.fed.fair
     (all-to_map (IsOrderly c.length) got (others c.mirrors m)
-    (weaker (λ k. (k < c.mirrors) × (k ≢ m)) (λ k. IsOrderly c.length (got k)) (others c.mirrors m)
+    (all-weaker (λ k. (k < c.mirrors) × (k ≢ m)) (λ k. IsOrderly c.length (got k)) (others c.mirrors m)
     (λ k h. orderly-received c.length (plan_of c k) (marked k) (got k) (left k) (r.below k h.0) (r.links k h.0 h.1)) (others-all c.mirrors m there)))
     (let a = total-map (λ (g : List Message). length (commands_in g)) got (others c.mirrors m) in
     let b = total-most (λ k. length (commands_in (got k))) (λ k. length (plan_of c k)) (others c.mirrors m)
-    (weaker (λ k. (k < c.mirrors) × (k ≢ m)) (λ k. length (commands_in (got k)) ≤ length (plan_of c k)) (others c.mirrors m)
+    (all-weaker (λ k. (k < c.mirrors) × (k ≢ m)) (λ k. length (commands_in (got k)) ≤ length (plan_of c k)) (others c.mirrors m)
     (λ k h. few-received (plan_of c k) (marked k) (got k) (left k) (r.links k h.0 h.1)) (others-all c.mirrors m there)) in
     omega arith)
 
@@ -92,7 +93,7 @@ arrives-by c opening spare m marked got left seat H s course there r x some =
     let count = fair.counts x in
     let sum = total-map (λ (g : List Message). times (same_command x) (commands_in g)) got (others n m) in
     let each : AllByRecursion (λ k. AllByRecursion (λ y. ArrivesBy (own seat H) y (y.time + c.pace)) (commands_in (got k))) (others n m) =
-    all-with (λ k. (k < n) × (k ≢ m)) (λ k. ArriveInTime (own seat H) c.pace (got k)) (λ k. AllByRecursion (λ y. ArrivesBy (own seat H) y (y.time + c.pace)) (commands_in (got k))) (others n m)
+    all-both (λ k. (k < n) × (k ≢ m)) (λ k. ArriveInTime (own seat H) c.pace (got k)) (λ k. AllByRecursion (λ y. ArrivesBy (own seat H) y (y.time + c.pace)) (commands_in (got k))) (others n m)
     (λ k h t. received-places (plan_of c k) (marked k) (got k) (left k) (own seat H) c.pace (r.links k h.0 h.1) t (got k) [] refl)
     (others-all n m there) (all-from_map (ArriveInTime (own seat H) c.pace) got (others n m) fair.in_time) in
     cases (times (same_command x) (commands_in (messages (plan_of c m) (marked m)))) refl

@@ -1,6 +1,7 @@
 -- The end of a race: nothing was late, each command was accepted once, and each copy's world is the time-ordered execution.
-use Rattle.std.proofs.Common.{◌≡◌, ℕ, ◌+◌, ◌-◌, ◌<◌, ◌≤◌, Bool, true, List, [], ◌∷◌, ◌++◌, map, length, refl, ap, sym, ◌∙◌, subst, arith}
+use Rattle.std.proofs.Common.{◌≡◌, ℕ, ◌+◌, ◌-◌, ◌<◌, ◌≤◌, Bool, true, List, [], ◌∷◌, ◌++◌, map, length, refl, ap, sym, ◌∙◌, subst, arith, append-nil}
 use Rattle.std.specs.List.{AllByRecursion, Contains}
+use Rattle.std.proofs.lemmas.List.{length-map}
 use Rattle.game_trait.specs.declared.command.Command.{Command}
 use Rattle.game_trait.specs.declared.command.Item.{Item}
 use Rattle.game_trait.specs.declared.event.Event.{Event}
@@ -10,7 +11,7 @@ use Rattle.game_trait.specs.Count.{times}
 use Rattle.game_trait.specs.Keys.{NamesDiffer}
 use Rattle.game_trait.specs.Run.{same_command, world_of}
 use Rattle.game_trait.specs.Ordered.{time_ordered}
-use Rattle.game_trait.proofs.Counts.{times-append}
+use Rattle.game_trait.proofs.Counts.{times-append, times-all}
 use Rattle.game_trait.proofs.KeyOrder.{all-weaker, NamesDiffer-same}
 use Rattle.game_trait.proofs.OrderedParts.{ticks-same}
 use Rattle.link_ring.specs.declared.message.Message.{Message}
@@ -27,7 +28,7 @@ use Rattle.sync_model.proofs.Drain.{draining_ends, draining_is_turns, drained_wo
 use Rattle.sync_model.proofs.History.{after-append, history_grows}
 use Rattle.copy_workers.specs.declared.post.Asked.{Asked}
 use Rattle.copy_workers.specs.Asking.{moves_in}
-use Rattle.copy_workers.proofs.Lists.{all-append}
+use Rattle.copy_workers.proofs.Lists.{all-append, all-at}
 use Rattle.race_hall.specs.Entries.{Entry, pairs_of, own, events_asked, commands_asked, AllInTime, AllTaken}
 use Rattle.race_hall.specs.Race.{Course, IsCourse, Raced, race_opening, first_plan}
 use Rattle.race_hall.specs.Finish.{left_over, never_issued, to_deliver, delivered, finished, EndsAtFold}
@@ -39,15 +40,6 @@ use Rattle.race_hall.proofs.Left.{left-in_time}
 use Rattle.race_hall.proofs.Events.{asked-append, asked-arrivals, in_time-append, in_time-arrivals, clock-sound, turns-turning, in_time-turning, asked-turning, fits-turning, fits-arrivals, all-stand, stands-contains, named-all, legal-changing, opening_of-after, IsTurning, in_time-delays}
 use Rattle.sync_model.specs.Schedule.{DelaysRise, longest_delay}
 use Rattle.sync_model.proofs.Room.{from_history-after, opening_from_history}
-
-pub times-true : {X : Type 0} (xs : List X) → times (λ x. true) xs ≡ length xs
-unfolding times
-times-true [] = refl
-times-true (x ∷ xs) = omega (arith, times-true xs)
-
-append-none : {X : Type 0} (l : List X) → l ++ [] ≡ l
-append-none [] = refl
-append-none {X} (x ∷ xs) = ap (λ (m : List X). x ∷ m) (append-none xs)
 
 -- what a race's mirror goes through in all: the lock's history, the finish, and draining
 pub record Runs {W : Type 0} (c : Course) (start : MirrorState W) (es : List Event) (t : MirrorState W) : Type 0 where
@@ -90,7 +82,7 @@ delivers {W} c opening spare m marked got left seat H s course there r =
           (sound-fits (pairs_of H) (race_opening c opening spare) r.sound)
           (fits-arrivals (race_opening c opening spare) (to_deliver c m marked left)
           (all-weaker (λ x. StandsIn x c.commands) (λ x. x.time < c.length) (to_deliver c m marked left)
-          (λ x h. all-there (λ y. y.time < c.length) h.front x h.back (subst (AllByRecursion (λ y. y.time < c.length)) h.parts course.within)) stand));
+          (λ x h. all-at (λ y. y.time < c.length) h.front x h.back (subst (AllByRecursion (λ y. y.time < c.length)) h.parts course.within)) stand));
       in_time = in_time-append (events_asked (pairs_of H)) (map Arrive (to_deliver c m marked left)) (race_opening c opening spare)
           (history-in_time c opening spare m marked got left seat H s course there r)
           (in_time-arrivals (to_deliver c m marked left) (after (race_opening c opening spare) (events_asked (pairs_of H)))
@@ -99,10 +91,6 @@ delivers {W} c opening spare m marked got left seat H s course there r =
           (to_deliver c m marked left) (λ x low. omega arith) late));
       counts = counts;
     }
-  where
-    all-there : (P : Command → Type 0) (front : List Command) (x : Command) (back : List Command) → AllByRecursion P (front ++ x ∷ back) → P x
-    all-there P [] x back h = h.0
-    all-there P (y ∷ front) x back h = all-there P front x back h.1
 
 -- draining adds turns alone
 pub drains : {W : Type 0} (c : Course) (start : MirrorState W) (es : List Event) (t : MirrorState W) → Runs c start es t → Runs c start (es ++ turns_of (length t.runs) (draining_is_turns t).0) (drain t)
@@ -116,12 +104,11 @@ drains {W} c start es t r =
       fit = all-append (Fits start) es (turns_of (length t.runs) turns.0) r.fit
           (all-weaker (IsTurning (length t.runs)) (Fits start) (turns_of (length t.runs) turns.0) (λ e h. fits-turning start (length t.runs) e fixed h) own);
       in_time = in_time-append es (turns_of (length t.runs) turns.0) start r.in_time (in_time-turning (length t.runs) (turns_of (length t.runs) turns.0) (after start es) own);
-      counts = λ p. ap (λ (l : List Command). times p l) (asked-append es (turns_of (length t.runs) turns.0) ∙ ap (λ (l : List Command). commands_asked es ++ l) (asked-turning (length t.runs) (turns_of (length t.runs) turns.0) own) ∙ append-none (commands_asked es)) ∙ r.counts p;
+      counts = λ p. ap (λ (l : List Command). times p l) (asked-append es (turns_of (length t.runs) turns.0) ∙ ap (λ (l : List Command). commands_asked es ++ l) (asked-turning (length t.runs) (turns_of (length t.runs) turns.0) own) ∙ append-nil (commands_asked es)) ∙ r.counts p;
     }
 
 map-some : {X Y : Type 0} (f : X → Y) (xs : List X) → 0 < length xs → 0 < length (map f xs)
-map-some f [] some = absurd (omega arith)
-map-some f (x ∷ xs) some = omega arith
+map-some f xs some = (let same = length-map xs f in omega arith)
 
 pub opening-runs : {W : Type 0} (c : Course) (opening : W) (spare : ℕ) → 0 < length (first_plan c) → 0 < length (race_opening c opening spare).runs
 opening-runs c opening spare some = map-some _ (first_plan c) some
@@ -137,7 +124,7 @@ pub runs-take :
 runs-take c opening spare es t course room r =
     takes es (race_opening c opening spare) (opening_staggered opening c.length c.plans spare 0) refl (opening-runs c opening spare course.some_copy) r.fit r.in_time
     (NamesDiffer-same c.commands (commands_asked es) (λ p. sym (r.counts p)) course.names)
-    (let a = r.counts (λ x. true) in let b = times-true c.commands in let d = times-true (commands_asked es) in omega arith)
+    (let a = r.counts (λ x. true) in let b = times-all c.commands in let d = times-all (commands_asked es) in omega arith)
 
 -- and a drained one ends at the fold
 pub ends-at_fold :

@@ -1,5 +1,5 @@
 -- What the caller holds is what is to be delivered.
-use Rattle.std.proofs.Common.{◌≡◌, ℕ, suc, ◌+◌, ◌≤◌, Bool, true, false, cond, ◌&&◌, List, [], ◌∷◌, ◌++◌, map, filter, drop, length, refl, ap, sym, ◌∙◌, arith}
+use Rattle.std.proofs.Common.{◌≡◌, ℕ, suc, ◌+◌, ◌≤◌, true, false, cond, ◌&&◌, List, [], ◌∷◌, ◌++◌, map, filter, drop, length, refl, ap, sym, ◌∙◌, arith}
 use Rattle.std.specs.Prelude.{◌==◌, nat_lt, nat_le}
 use Rattle.std.specs.List.{AllByRecursion, AllZip}
 use Rattle.std.proofs.lemmas.Bool.Decides.{nat_tests}
@@ -7,6 +7,7 @@ use Rattle.game_trait.specs.declared.command.Command.{Command}
 use Rattle.game_trait.specs.Keys.{before, KeysRise, NamesDiffer}
 use Rattle.game_trait.specs.Count.{times}
 use Rattle.game_trait.proofs.KeyOrder.{all-weaker, before-time, KeysRise-in_key_order, NamesDiffer-filter}
+use Rattle.game_trait.proofs.Counts.{times-all, times-most}
 use Rattle.link_ring.specs.declared.message.Message.{Message}
 use Rattle.link_ring.specs.declared.receive.LinkReceive.{LinkReceive}
 use Rattle.link_ring.specs.Ends.{waiting_of}
@@ -45,19 +46,9 @@ drop-early n (x ∷ plan) rise =
     ]
     refl
 
-times-true : {X : Type 0} (xs : List X) → times (λ x. true) xs ≡ length xs
-unfolding times
-times-true [] = refl
-times-true (x ∷ xs) = omega (arith, times-true xs)
-
-times-most : {X : Type 0} (p : X → Bool) (xs : List X) → times p xs ≤ length xs
-unfolding times
-times-most p [] = omega arith
-times-most p (x ∷ xs) = elim (p x) as (λ v. cond v 1 0 + times p xs ≤ suc (length xs)) [ true ↦ omega (arith, times-most p xs) | false ↦ omega (arith, times-most p xs) ]
-
 pub drop-unissued : (plan : List Command) (n : ℕ) → KeysRise plan → drop (length (commands_in (messages plan n))) plan ≡ unissued plan n
 drop-unissued plan n rise =
-    ap (λ (k : ℕ). drop k plan) (sym (times-true (commands_in (messages plan n))) ∙ times-messages (λ x. true) plan n) ∙ drop-early n plan rise
+    ap (λ (k : ℕ). drop k plan) (sym (times-all (commands_in (messages plan n))) ∙ times-messages (λ x. true) plan n) ∙ drop-early n plan rise
 
 plan-rises : (c : Course) (k : ℕ) → NamesDiffer c.commands → KeysRise (plan_of c k)
 plan-rises c k names = KeysRise-in_key_order (filter (λ x. x.from == k) c.commands) (NamesDiffer-filter (λ x. x.from == k) c.commands names)
@@ -93,7 +84,7 @@ places-held c marked [] (one ∷ senders) h = absurd h
 places-held c marked (k ∷ ks) [] h = absurd h
 places-held c marked (k ∷ ks) (one ∷ senders) h = (
   let a = h.0.issued in let b = ap (λ (l : List Command). length l) h.0.plan in
-      let d = times-true (commands_in (messages (plan_of c k) (marked k))) in let e = times-messages (λ x. true) (plan_of c k) (marked k) in
+      let d = times-all (commands_in (messages (plan_of c k) (marked k))) in let e = times-messages (λ x. true) (plan_of c k) (marked k) in
       let f = times-most (λ x. true && nat_lt x.time (marked k)) (plan_of c k) in omega arith,
   places-held c marked ks senders h.1,
 )

@@ -1,5 +1,5 @@
 -- From what the feeders, the locks and the links promise to what the race's argument needs.
-use Rattle.std.proofs.Common.{◌≡◌, ◌≢◌, ℕ, ◌+◌, ◌-◌, ◌<◌, ◌≤◌, ◌⊎◌, List, [], ◌∷◌, ◌++◌, map, take, length, refl, ap, sym, ◌∙◌, subst, arith}
+use Rattle.std.proofs.Common.{◌≡◌, ◌≢◌, ℕ, ◌+◌, ◌-◌, ◌<◌, ◌≤◌, ◌⊎◌, List, [], ◌∷◌, ◌++◌, map, take, length, ap, sym, ◌∙◌, subst, arith}
 use Rattle.std.specs.List.{AllByRecursion, AllZip}
 use Rattle.std.proofs.Math.ListN.{length-append}
 use Rattle.std.proofs.Math.Seq.{take-append_seam}
@@ -20,44 +20,25 @@ use Rattle.race_hall.specs.Entries.{Entry, own}
 use Rattle.race_hall.specs.Race.{Course, plan_of, foreign_of, others, IsFedBy, Raced}
 use Rattle.race_hall.specs.Joined.{IsJobOf, IsLeftOf, Fed, Closed, AllFed, IsLeftAt}
 use Rattle.race_hall.proofs.Plans.{others-all, others-each}
+use Rattle.race_hall.proofs.Lists.{all-of}
+use Rattle.race_hall.proofs.Zips.{zip-all, zip-through, zip-with_all, zip-is_map, zip-turned}
 
 -- each end was sent these messages
-all-sent : (more : List Message) (first now : List LinkSend) → AllByRecursion (λ s. sent_of s ≡ []) first → AllZip (IsSent more) first now → AllByRecursion (λ s. sent_of s ≡ more) now
-all-sent more [] [] new h = tt
-all-sent more [] (b ∷ now) new h = absurd h
-all-sent more (a ∷ first) [] new h = absurd h
-all-sent more (a ∷ first) (b ∷ now) new h = (h.0.sent ∙ ap (λ (l : List Message). l ++ more) new.0, all-sent more first now new.1 h.1)
+sends-sent : (more : List Message) (first now : List LinkSend) → AllByRecursion (λ s. sent_of s ≡ []) first → AllZip (IsSent more) first now → AllByRecursion (λ s. sent_of s ≡ more) now
+sends-sent more [] [] new h = tt
+sends-sent more [] (b ∷ now) new h = absurd h
+sends-sent more (a ∷ first) [] new h = absurd h
+sends-sent more (a ∷ first) (b ∷ now) new h = (h.0.sent ∙ ap (λ (l : List Message). l ++ more) new.0, sends-sent more first now new.1 h.1)
 
 -- what each link received
-all-got : (turns : ℕ) (first now : List LinkReceive) (gots : List (List Message)) → AllByRecursion (λ r. received_of r ≡ []) first → AllReceive turns first now gots → AllZip (λ r got. received_of r ≡ got) now gots
+receives-got : (turns : ℕ) (first now : List LinkReceive) (gots : List (List Message)) → AllByRecursion (λ r. received_of r ≡ []) first → AllReceive turns first now gots → AllZip (λ r got. received_of r ≡ got) now gots
 unfolding AllReceive
-all-got turns [] [] [] new h = tt
-all-got turns [] [] (g ∷ gots) new h = absurd h
-all-got turns [] (b ∷ now) gots new h = absurd h
-all-got turns (a ∷ first) [] gots new h = absurd h
-all-got turns (a ∷ first) (b ∷ now) [] new h = absurd h
-all-got turns (a ∷ first) (b ∷ now) (g ∷ gots) new h = (h.0.received ∙ ap (λ (l : List Message). l ++ g) new.0, all-got turns first now gots new.1 h.1)
-
-pub zip-through : {X Y Z : Type 0} (P : X → Y → Type 0) (Q : Y → Z → Type 0) (R : X → Z → Type 0) → ((x : X) (y : Y) (z : Z) → P x y → Q y z → R x z)
-    → (xs : List X) (ys : List Y) (zs : List Z) → AllZip P xs ys → AllZip Q ys zs → AllZip R xs zs
-zip-through P Q R step [] [] [] h k = tt
-zip-through P Q R step [] [] (z ∷ zs) h k = absurd k
-zip-through P Q R step [] (y ∷ ys) zs h k = absurd h
-zip-through P Q R step (x ∷ xs) [] zs h k = absurd h
-zip-through P Q R step (x ∷ xs) (y ∷ ys) [] h k = absurd k
-zip-through P Q R step (x ∷ xs) (y ∷ ys) (z ∷ zs) h k = (step x y z h.0 k.0, zip-through P Q R step xs ys zs h.1 k.1)
-
-zip-with_all : {X Y : Type 0} (A : X → Type 0) (P Q : X → Y → Type 0) → ((x : X) (y : Y) → A x → P x y → Q x y) → (xs : List X) (ys : List Y) → AllByRecursion A xs → AllZip P xs ys → AllZip Q xs ys
-zip-with_all A P Q step [] [] a h = tt
-zip-with_all A P Q step [] (y ∷ ys) a h = absurd h
-zip-with_all A P Q step (x ∷ xs) [] a h = absurd h
-zip-with_all A P Q step (x ∷ xs) (y ∷ ys) a h = (step x y a.0 h.0, zip-with_all A P Q step xs ys a.1 h.1)
-
-zip-to_map : {X Y : Type 0} (f : X → Y) (xs : List X) (ys : List Y) → AllZip (λ x y. y ≡ f x) xs ys → ys ≡ map f xs
-zip-to_map f [] [] h = refl
-zip-to_map f [] (y ∷ ys) h = absurd h
-zip-to_map f (x ∷ xs) [] h = absurd h
-zip-to_map f (x ∷ xs) (y ∷ ys) h = (λ i. h.0 i ∷ zip-to_map f xs ys h.1 i)
+receives-got turns [] [] [] new h = tt
+receives-got turns [] [] (g ∷ gots) new h = absurd h
+receives-got turns [] (b ∷ now) gots new h = absurd h
+receives-got turns (a ∷ first) [] gots new h = absurd h
+receives-got turns (a ∷ first) (b ∷ now) [] new h = absurd h
+receives-got turns (a ∷ first) (b ∷ now) (g ∷ gots) new h = (h.0.received ∙ ap (λ (l : List Message). l ++ g) new.0, receives-got turns first now gots new.1 h.1)
 
 -- the front of a list, by the length of what is left
 pub front_of : {X : Type 0} → List X → List X → List X
@@ -89,21 +70,12 @@ fed-by c m job end after gots of e same =
           record { in_time = k.in_time; counts = k.counts; bounds = subst (λ (n : ℕ). AllByRecursion (λ got. (n ≤ last_mark got + job.pace) ⊎ (last_mark got ≡ job.stagger.length)) e.gots) t k.bounds }));
     }
 
-zip-all : {X Y : Type 0} (P : X → Y → Type 0) (Q : X → Type 0) → ((x : X) (y : Y) → P x y → Q x) → (xs : List X) (ys : List Y) → AllZip P xs ys → AllByRecursion Q xs
-zip-all P Q step [] ys h = tt
-zip-all P Q step (x ∷ xs) [] h = absurd h
-zip-all P Q step (x ∷ xs) (y ∷ ys) h = (step x y h.0, zip-all P Q step xs ys h.1)
-
-units : {X : Type 0} (xs : List X) → AllByRecursion (λ (x : X). Unit {0}) xs
-units [] = tt
-units (x ∷ xs) = (tt, units xs)
-
 -- each link's parts
 pub fed-sent :
     (c : Course) (k : ℕ) (job : FeederJob) (end : FeederEnd) (asked : List Asked) → Fed c k job end asked → AllByRecursion (λ s. sent_of s ≡ messages (plan_of c k) end.marked) end.sends.items
 fed-sent c k job end asked f =
     subst (λ (plan : List Command). AllByRecursion (λ s. sent_of s ≡ messages plan end.marked) end.sends.items) f.of.plan
-    (all-sent (messages job.plan.items end.marked) job.sends.items end.sends.items f.of.sends f.ends.sent)
+    (sends-sent (messages job.plan.items end.marked) job.sends.items end.sends.items f.of.sends f.ends.sent)
 
 pub left-whole :
     (c : Course) (job : ℕ → FeederJob) (end : ℕ → FeederEnd) (seat : ℕ → ℕ) (history : ℕ → List Entry) (m : ℕ) (left : ℕ → List Message)
@@ -125,21 +97,20 @@ joined-raced c opening spare job end seat history m s left all there closed link
     let here = all m there in
     let parts : AllZip (λ k got. messages (plan_of c k) (end k).marked ≡ got ++ left k) (others c.mirrors m) here.ends.gots =
     zip-through (λ k r. messages (plan_of c k) (end k).marked ≡ received_of r ++ left k) (λ r got. received_of r ≡ got) (λ k got. messages (plan_of c k) (end k).marked ≡ got ++ left k)
-    (λ k r got h e. h ∙ ap (λ (l : List Message). l ++ left k) e)
-    (others c.mirrors m) (end m).receives.items here.ends.gots links (all-got (end m).turns (job m).receives.items (end m).receives.items here.ends.gots here.of.receives here.ends.receives) in
+    (others c.mirrors m) (end m).receives.items here.ends.gots (λ k r got h e. h ∙ ap (λ (l : List Message). l ++ left k) e) links (receives-got (end m).turns (job m).receives.items (end m).receives.items here.ends.gots here.of.receives here.ends.receives) in
     let fronts : AllZip (λ k got. got ≡ front_of (messages (plan_of c k) (end k).marked) (left k)) (others c.mirrors m) here.ends.gots =
     zip-with_all (λ (k : ℕ). Unit {0}) (λ k got. messages (plan_of c k) (end k).marked ≡ got ++ left k) (λ k got. got ≡ front_of (messages (plan_of c k) (end k).marked) (left k))
     (λ k got u h. front_of-is (messages (plan_of c k) (end k).marked) got (left k) h)
-    (others c.mirrors m) here.ends.gots (units (others c.mirrors m)) parts in
+    (others c.mirrors m) here.ends.gots (all-of (λ (k : ℕ). Unit {0}) (others c.mirrors m) (λ k. tt)) parts in
     record {
       sound = closed.sound;
       state = closed.state;
       workers = closed.workers;
       fed = fed-by c m (job m) (end m) (own (seat m) (history m)) (map (λ k. front_of (messages (plan_of c k) (end k).marked) (left k)) (others c.mirrors m)) here.of here.ends
-          (zip-to_map (λ (k : ℕ). front_of (messages (plan_of c k) (end k).marked) (left k)) (others c.mirrors m) here.ends.gots fronts);
+          (zip-is_map (λ (k : ℕ). front_of (messages (plan_of c k) (end k).marked) (left k)) (others c.mirrors m) here.ends.gots fronts);
       below = λ k h. (let most = (all k h).ends.most in let same = (all k h).of.length in omega arith);
       links = λ k below differ. others-each (λ i. messages (plan_of c i) (end i).marked ≡ front_of (messages (plan_of c i) (end i).marked) (left i) ++ left i) c.mirrors m k there below differ
-          (zip-all (λ k got. messages (plan_of c k) (end k).marked ≡ got ++ left k) (λ i. messages (plan_of c i) (end i).marked ≡ front_of (messages (plan_of c i) (end i).marked) (left i) ++ left i)
-          (λ k got h. h ∙ ap (λ (l : List Message). l ++ left k) (front_of-is (messages (plan_of c k) (end k).marked) got (left k) h))
-          (others c.mirrors m) here.ends.gots parts);
+          (zip-all (λ got k. messages (plan_of c k) (end k).marked ≡ got ++ left k) (λ i. messages (plan_of c i) (end i).marked ≡ front_of (messages (plan_of c i) (end i).marked) (left i) ++ left i)
+          here.ends.gots (others c.mirrors m) (λ got k h. h ∙ ap (λ (l : List Message). l ++ left k) (front_of-is (messages (plan_of c k) (end k).marked) got (left k) h))
+          (zip-turned (λ k got. messages (plan_of c k) (end k).marked ≡ got ++ left k) (others c.mirrors m) here.ends.gots parts));
     }

@@ -2,6 +2,7 @@
 use Rattle.std.proofs.Common.{◌≡◌, ◌≢◌, ℕ, ◌+◌, ◌<◌, ◌≤◌, Bool, true, ◌&&◌, List, [], ◌∷◌, ◌++◌, map, refl, ap, sym, ◌∙◌, subst, arith}
 use Rattle.std.specs.Prelude.{nat_lt}
 use Rattle.std.specs.List.{AllByRecursion}
+use Rattle.std.proofs.lemmas.List.Elements.{filter-append}
 use Rattle.game_trait.specs.declared.command.Command.{Command}
 use Rattle.game_trait.specs.declared.event.Reply.{Reply}
 use Rattle.game_trait.specs.Count.{times}
@@ -19,13 +20,14 @@ use Rattle.copy_workers.proofs.Races.{times-messages, times-received}
 use Rattle.race_hall.specs.Entries.{Entry, pairs_of, own, events_asked, is_feeding, feeding_of, commands_asked, AllInTime}
 use Rattle.race_hall.specs.Race.{Course, IsCourse, plan_of, count_from, others, Raced, race_opening, first_plan}
 use Rattle.race_hall.specs.Finish.{unissued, left_over, never_issued}
-use Rattle.race_hall.proofs.Lists.{all-first, total-map, total-plus, total-same, total-most, times-joined, filter-append, one-place}
+use Rattle.race_hall.proofs.Lists.{total-map, total-plus, total-same, total-most, times-joined, one-place}
 use Rattle.race_hall.proofs.Counting.{counts-all}
 use Rattle.race_hall.proofs.Entries.{sound-kinds, seat-feeds, moves-feeding, asked-feeding, arrivals-asked, in_time-places, all-keep}
-use Rattle.race_hall.proofs.Plans.{weaker, others-all, total-others, everyone, plans-count, times-unissued}
+use Rattle.race_hall.proofs.Plans.{others-all, total-others, everyone, plans-count, times-unissued}
 use Rattle.race_hall.proofs.Fed.{once, fairly, arrives-by, times-fewer}
 use Rattle.sync_model.specs.Schedule.{longest_delay}
 use Rattle.game_trait.specs.Events.{IsOfKind}
+use Rattle.game_trait.proofs.Lists.{all-first, all-weaker}
 
 -- a command arrives at most once
 pub arrives-once :
@@ -38,7 +40,7 @@ arrives-once c opening spare m marked got left seat H s course there r x =
     (let a = fair.counts x in
     let b = total-map (λ (g : List Message). times (same_command x) (commands_in g)) got (others n m) in
     let d = total-most (λ k. times (same_command x) (commands_in (got k))) (λ k. times (same_command x) (plan_of c k)) (others n m)
-    (weaker (λ k. (k < n) × (k ≢ m)) (λ k. times (same_command x) (commands_in (got k)) ≤ times (same_command x) (plan_of c k)) (others n m)
+    (all-weaker (λ k. (k < n) × (k ≢ m)) (λ k. times (same_command x) (commands_in (got k)) ≤ times (same_command x) (plan_of c k)) (others n m)
     (λ k h. omega (arith, times-received (same_command x) (plan_of c k) (marked k) (got k) (left k) (r.links k h.0 h.1), times-fewer (same_command x) (λ y. nat_lt y.time (marked k)) (plan_of c k)))
     (others-all n m there)) in
     let e = times-messages (same_command x) (plan_of c m) (marked m) in
@@ -121,7 +123,7 @@ shared-out c opening spare m marked got left seat H s course there r p =
     let d = times-joined p (λ (k : ℕ). unissued (plan_of c k) (marked k)) (count_from 0 n) in
     let e = total-plus (λ k. times p (commands_in (got k))) (λ k. times p (commands_in (left k))) (others n m) in
     let f = total-same (λ k. times p (commands_in (got k)) + times p (commands_in (left k))) (λ k. times (λ x. p x && nat_lt x.time (marked k)) (plan_of c k)) (others n m)
-    (weaker (λ k. (k < n) × (k ≢ m)) (λ k. times p (commands_in (got k)) + times p (commands_in (left k)) ≡ times (λ x. p x && nat_lt x.time (marked k)) (plan_of c k)) (others n m)
+    (all-weaker (λ k. (k < n) × (k ≢ m)) (λ k. times p (commands_in (got k)) + times p (commands_in (left k)) ≡ times (λ x. p x && nat_lt x.time (marked k)) (plan_of c k)) (others n m)
     (λ k h. times-received p (plan_of c k) (marked k) (got k) (left k) (r.links k h.0 h.1)) (others-all n m there)) in
     let g = times-messages p (plan_of c m) (marked m) in
     let h = total-others (λ k. times (λ x. p x && nat_lt x.time (marked k)) (plan_of c k)) n m there in

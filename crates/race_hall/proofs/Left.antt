@@ -16,10 +16,10 @@ use Rattle.copy_workers.proofs.Races.{mark-waiting, mark-unissued}
 use Rattle.race_hall.specs.Entries.{Entry, own}
 use Rattle.race_hall.specs.Race.{Course, IsCourse, plan_of, count_from, others, Raced}
 use Rattle.race_hall.specs.Finish.{unissued, left_over, never_issued, to_deliver}
-use Rattle.race_hall.proofs.Lists.{all-with, all-from_map, all-joined}
-use Rattle.race_hall.proofs.Plans.{weaker, others-all, everyone-of, all-plan, all-unissued}
+use Rattle.race_hall.proofs.Lists.{all-joined}
+use Rattle.race_hall.proofs.Plans.{others-all, everyone-of, all-plan, all-unissued}
 use Rattle.race_hall.proofs.Fed.{fairly}
-use Rattle.game_trait.proofs.Lists.{all-filter}
+use Rattle.game_trait.proofs.Lists.{all-filter, all-both, all-from_map, all-weaker, all-second}
 
 -- what holds of a plan's commands holds of those that are sent, and of those that are left
 all-sent : (P : Command → Type 0) (plan : List Command) (n : ℕ) → AllByRecursion P plan → AllByRecursion P (commands_in (messages plan n))
@@ -30,13 +30,9 @@ all-sent P plan (suc n) h =
     (all-append P (commands_in (messages plan n)) (due_at plan n) (all-sent P plan n h)
     (all-in_key_order P (filter (λ x. x.time == n) plan) (all-filter P (λ x. x.time == n) plan h)))
 
-all-last : {X : Type 0} (P : X → Type 0) (xs ys : List X) → AllByRecursion P (xs ++ ys) → AllByRecursion P ys
-all-last P [] ys h = h
-all-last P (x ∷ xs) ys h = all-last P xs ys h.1
-
 all-left : (P : Command → Type 0) (plan : List Command) (n : ℕ) (got left : List Message) → messages plan n ≡ got ++ left → AllByRecursion P plan → AllByRecursion P (commands_in left)
 all-left P plan n got left parts h =
-    all-last P (commands_in got) (commands_in left)
+    all-second P (commands_in got) (commands_in left)
     (subst (AllByRecursion P) (commands_in-append got left) (subst (λ (l : List Message). AllByRecursion P (commands_in l)) parts (all-sent P plan n h)))
 
 -- a command still on its way
@@ -68,21 +64,21 @@ left-in_time c opening spare m marked got left seat H s course there r =
     let P : Command → Type 0 = λ x. moves_in (own seat H) ≤ x.time + c.pace in
     let bounds = all-from_map (λ (g : List Message). (moves_in (own seat H) ≤ last_mark g + c.pace) ⊎ (last_mark g ≡ c.length)) got (others n m) fair.bounds in
     let waiting : AllByRecursion (λ k. AllByRecursion P (commands_in (left k))) (others n m) =
-    all-with (λ k. (k < n) × (k ≢ m)) (λ k. (moves_in (own seat H) ≤ last_mark (got k) + c.pace) ⊎ (last_mark (got k) ≡ c.length)) (λ k. AllByRecursion P (commands_in (left k))) (others n m)
-    (λ k h b. all-with (λ x. last_mark (got k) ≤ x.time) (λ x. x.time < c.length) P (commands_in (left k))
+    all-both (λ k. (k < n) × (k ≢ m)) (λ k. (moves_in (own seat H) ≤ last_mark (got k) + c.pace) ⊎ (last_mark (got k) ≡ c.length)) (λ k. AllByRecursion P (commands_in (left k))) (others n m)
+    (λ k h b. all-both (λ x. last_mark (got k) ≤ x.time) (λ x. x.time < c.length) P (commands_in (left k))
     (λ x low below. bound (moves_in (own seat H)) c.pace c.length (last_mark (got k)) x.time b low below)
     (left-marks c.length (plan_of c k) (marked k) (got k) (left k) (r.below k h.0) (r.links k h.0 h.1) (left k) [] refl)
     (all-left (λ x. x.time < c.length) (plan_of c k) (marked k) (got k) (left k) (r.links k h.0 h.1) (all-plan (λ x. x.time < c.length) c k course.within)))
     (others-all n m there) bounds in
     let foreign : AllByRecursion (λ k. AllByRecursion P (unissued (plan_of c k) (marked k))) (others n m) =
-    all-with (λ k. (k < n) × (k ≢ m)) (λ k. (moves_in (own seat H) ≤ last_mark (got k) + c.pace) ⊎ (last_mark (got k) ≡ c.length)) (λ k. AllByRecursion P (unissued (plan_of c k) (marked k))) (others n m)
-    (λ k h b. weaker (λ x. (marked k ≤ x.time) × (x.time < c.length)) P (unissued (plan_of c k) (marked k))
+    all-both (λ k. (k < n) × (k ≢ m)) (λ k. (moves_in (own seat H) ≤ last_mark (got k) + c.pace) ⊎ (last_mark (got k) ≡ c.length)) (λ k. AllByRecursion P (unissued (plan_of c k) (marked k))) (others n m)
+    (λ k h b. all-weaker (λ x. (marked k ≤ x.time) × (x.time < c.length)) P (unissued (plan_of c k) (marked k))
     (λ x low. bound (moves_in (own seat H)) c.pace c.length (last_mark (got k)) x.time b
     (mark-unissued c.length (plan_of c k) (marked k) (got k) (left k) x (r.below k h.0) (r.links k h.0 h.1) low.0) low.1)
     (all-unissued c.length (plan_of c k) (marked k) (all-plan (λ x. x.time < c.length) c k course.within)))
     (others-all n m there) bounds in
     let mine : AllByRecursion P (unissued (plan_of c m) (marked m)) =
-    weaker (λ x. (marked m ≤ x.time) × (x.time < c.length)) P (unissued (plan_of c m) (marked m))
+    all-weaker (λ x. (marked m ≤ x.time) × (x.time < c.length)) P (unissued (plan_of c m) (marked m))
     (λ x low. (let a = low.0 in let b = low.1 in let least : min c.length (moves_in (own seat H)) ≤ marked m = r.fed.least in omega arith))
     (all-unissued c.length (plan_of c m) (marked m) (all-plan (λ x. x.time < c.length) c m course.within)) in
     all-append P (left_over c m left) (never_issued c marked)

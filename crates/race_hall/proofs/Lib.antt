@@ -1,33 +1,40 @@
-pub mod Lists
-pub mod Counting
-pub mod Taking
-pub mod Entries
-pub mod Plans
-pub mod Fed
-pub mod Late
-pub mod Left
-pub mod Events
-pub mod Fold
-pub mod Joined
-pub mod Known
-pub mod Steps
-pub mod Deliveries
-pub mod Pieces
-pub mod Held
-pub mod Looks
-pub mod Holdings
-pub mod Seats
-pub mod Worked
-pub mod Joins
-pub mod Made
-pub mod Started
-mod Posts
-mod Closings
+-- lists
+mod Lists
+mod Zips
+mod Numbered
+mod ByMirror
 mod Passing
-mod Copies
-mod Manning
-mod Closes
-mod Linings
+mod Counting
+-- the argument: nothing is late, each command is taken once, and the copies end at the fold
+mod Plans
+mod Entries
+mod Events
+mod Taking
+mod Fed
+mod Late
+mod Left
+mod Fold
+mod NothingLate
+mod Worked
+-- links and the feeders' jobs, locks and crews, as they are made
+mod MadeLinks
+mod Lining
+mod CrewSeats
+mod Manned
+-- jobs, and the close of the locks
 mod Posting
-mod Crewing
+mod Copies
+mod Seats
+mod ClosedLock
+mod ClosedCrews
+mod Started
 mod Ending
+-- the joins, and the finish
+mod Joined
+mod JoinedHeld
+mod Held
+mod Looks
+mod Holding
+mod Deliveries
+mod Pieces
+mod Steps

@@ -1,5 +1,5 @@
 -- Looking at links: both ends stay the ends that they were, and nothing more is sent or received.
-use Rattle.std.proofs.Common.{◌≡◌, ◌≢◌, ℕ, zero, suc, ◌+◌, ◌<◌, true, false, cond, List, [], ◌∷◌, ◌++◌, length, get_or, set, refl, ap, sym, ◌∙◌, subst, Vec, arith}
+use Rattle.std.proofs.Common.{◌≡◌, ◌≢◌, ℕ, ◌+◌, ◌<◌, true, false, cond, List, [], ◌∷◌, ◌++◌, length, get_or, set, refl, ap, sym, ◌∙◌, subst, Vec, arith}
 use Rattle.std.specs.Prelude.{nat_lt}
 use Rattle.std.specs.declared.alloc.Global.{Global}
 use Rattle.std.specs.List.{AllByRecursion, AllZip}
@@ -11,8 +11,10 @@ use Rattle.link_ring.specs.declared.receive.LinkReceive.{LinkReceive}
 use Rattle.link_ring.specs.Ends.{sent_of, received_of, waiting_of, IsLink, SameSend, SameReceive}
 use Rattle.copy_workers.specs.Sending.{UpTo}
 use Rattle.copy_workers.proofs.Along.{up_to-same, up_to-length}
-use Rattle.link_ring.proofs.Later.{link-later}
+use Rattle.link_ring.proofs.Later.{link-later, same_send-trans}
 use Rattle.race_hall.specs.Looking.{sender_at, place_at, SameSent, SameReceived, SameSends, IsLinkedAt, IsRowLinked, AllSent, IsWholeTo}
+use Rattle.race_hall.proofs.Zips.{zip-same, zip-through, zip-change, zip-get}
+use Rattle.sync_model.proofs.Lists.{zip-length}
 
 same_send-same : (a : LinkSend) → SameSend a a
 same_send-same a = ((refl, refl, refl, refl), refl)
@@ -20,50 +22,14 @@ same_send-same a = ((refl, refl, refl, refl), refl)
 same_receive-same : (a : LinkReceive) → SameReceive a a
 same_receive-same a = ((refl, refl, refl, refl), refl)
 
-same_send-trans : (a b c : LinkSend) → SameSend a b → SameSend b c → SameSend a c
-same_send-trans a b c h k = ((k.0.0 ∙ h.0.0, k.0.1 ∙ h.0.1, k.0.2 ∙ h.0.2, k.0.3 ∙ h.0.3), k.1 ∙ h.1)
-
 pub sent-same : (a : LinkSend) → SameSent a a
 sent-same a = record { sent = refl; same = same_send-same a }
 
 sent-trans : (a b c : LinkSend) → SameSent a b → SameSent b c → SameSent a c
 sent-trans a b c h k = record { sent = k.sent ∙ h.sent; same = same_send-trans a b c h.same k.same }
 
-pub zip-same : {X : Type 0} (R : X → X → Type 0) → ((x : X) → R x x) → (xs : List X) → AllZip R xs xs
-zip-same R same [] = tt
-zip-same R same (x ∷ xs) = (same x, zip-same R same xs)
-
-pub zip-trans : {X : Type 0} (R : X → X → Type 0) → ((x y z : X) → R x y → R y z → R x z) → (xs ys zs : List X) → AllZip R xs ys → AllZip R ys zs → AllZip R xs zs
-zip-trans R trans [] [] [] h k = tt
-zip-trans R trans [] [] (z ∷ zs) h k = absurd k
-zip-trans R trans [] (y ∷ ys) zs h k = absurd h
-zip-trans R trans (x ∷ xs) [] zs h k = absurd h
-zip-trans R trans (x ∷ xs) (y ∷ ys) [] h k = absurd k
-zip-trans R trans (x ∷ xs) (y ∷ ys) (z ∷ zs) h k = (trans x y z h.0 k.0, zip-trans R trans xs ys zs h.1 k.1)
-
--- one element changes
-pub zip-change : {X : Type 0} (R : X → X → Type 0) → ((x y z : X) → R x y → R y z → R x z) → (xs ys : List X) (i : ℕ) (d y : X) → AllZip R xs ys → R (get_or ys i d) y → AllZip R xs (set ys i y)
-zip-change R trans [] [] i d y h k = tt
-zip-change R trans [] (b ∷ ys) i d y h k = absurd h
-zip-change R trans (a ∷ xs) [] i d y h k = absurd h
-zip-change R trans (a ∷ xs) (b ∷ ys) zero d y h k = (trans a b y h.0 k, h.1)
-zip-change R trans (a ∷ xs) (b ∷ ys) (suc i) d y h k = (h.0, zip-change R trans xs ys i d y h.1 k)
-
-pub zip-long : {X : Type 0} (R : X → X → Type 0) (xs ys : List X) → AllZip R xs ys → length xs ≡ length ys
-zip-long R [] [] h = refl
-zip-long R [] (y ∷ ys) h = absurd h
-zip-long R (x ∷ xs) [] h = absurd h
-zip-long R (x ∷ xs) (y ∷ ys) h = ap suc (zip-long R xs ys h.1)
-
-pub zip-get : {X : Type 0} (R : X → X → Type 0) (xs ys : List X) (i : ℕ) (d : X) → AllZip R xs ys → i < length ys → R (get_or xs i d) (get_or ys i d)
-zip-get R [] [] i d h below = absurd (omega arith)
-zip-get R [] (y ∷ ys) i d h below = absurd h
-zip-get R (x ∷ xs) [] i d h below = absurd h
-zip-get R (x ∷ xs) (y ∷ ys) zero d h below = h.0
-zip-get R (x ∷ xs) (y ∷ ys) (suc i) d h below = zip-get R xs ys i d h.1 (omega arith)
-
 sends-trans : (a b c : Vec LinkSend Global) → SameSends a b → SameSends b c → SameSends a c
-sends-trans a b c h k = zip-trans SameSent sent-trans a.items b.items c.items h k
+sends-trans a b c h k = zip-through SameSent SameSent SameSent a.items b.items c.items sent-trans h k
 
 sends-same : (a : Vec LinkSend Global) → SameSends a a
 sends-same a = zip-same SameSent sent-same a.items
@@ -72,7 +38,7 @@ pub all-sends-same : (sends : List (Vec LinkSend Global)) → AllZip SameSends s
 all-sends-same sends = zip-same SameSends sends-same sends
 
 pub all-sends-trans : (a b c : List (Vec LinkSend Global)) → AllZip SameSends a b → AllZip SameSends b c → AllZip SameSends a c
-all-sends-trans a b c h k = zip-trans SameSends sends-trans a b c h k
+all-sends-trans a b c h k = zip-through SameSends SameSends SameSends a b c sends-trans h k
 
 pub sends-change : (first now : List (Vec LinkSend Global)) (i : ℕ) (d v : Vec LinkSend Global) → AllZip SameSends first now → SameSends (get_or now i d) v → AllZip SameSends first (set now i v)
 sends-change first now i d v h k = zip-change SameSends sends-trans first now i d v h k
@@ -90,7 +56,7 @@ all-sent-later more (x ∷ xs) (y ∷ ys) h k = (k.0.sent ∙ h.0, all-sent-late
 -- two ends of a link go on being that
 pub linked-later : (place : ℕ) (xs ys : List LinkSend) (r : LinkReceive) → IsLinkedAt place xs r → AllZip SameSent xs ys → IsLinkedAt place ys r
 linked-later place xs ys r h k =
-    let long = zip-long SameSent xs ys k in
+    let long = zip-length SameSent xs ys k in
     record {
       below = (let a = h.below in omega arith);
       linked = λ s e.
@@ -108,7 +74,7 @@ pub row-linked :
 row-linked m j sends0 sends row0 row d e k place items linked same upto below there which where_ is =
     let same_row = up_to-same SameReceived j row0 row d upto in
     let long = up_to-length SameReceived j row0 row upto in
-    let long_sends = zip-long SameSends sends0 sends same in
+    let long_sends = zip-length SameSends sends0 sends same in
     let r = get_or row0 j d in
     let v = get_or sends0 (sender_at m j) e in
     let there0 : sender_at m j < length sends0 = omega arith in
@@ -127,7 +93,7 @@ pub row-whole :
     → ((sent : ℕ → List Message) → AllSent sent sends0 → IsWholeTo sent m j row)
     → (sent : ℕ → List Message) → AllSent sent sends0 → IsWholeTo sent m (j + 1) (set row j new)
 row-whole m j sends0 sends row e k items new same below there which is one before sent all i r low here =
-    let long_sends = zip-long SameSends sends0 sends same in
+    let long_sends = zip-length SameSends sends0 sends same in
     elim (nat_lt i j) as (λ v. nat_lt i j ≡ v → received_of r ++ waiting_of r ≡ sent (sender_at m i)) [
       | true ↦ λ t.
           (let less : i < j = grind (arith, nat_tests) in

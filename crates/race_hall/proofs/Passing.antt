@@ -1,40 +1,20 @@
 -- A list that goes with another, of which each element is replaced in turn.
 use Rattle.std.proofs.Math.ListN.{length-append}
-use Rattle.std.proofs.Common.{◌≡◌, ℕ, suc, ◌+◌, ◌<◌, ◌≤◌, List, [], ◌∷◌, ◌++◌, length, refl, ap, sym, ◌∙◌, subst, append_assoc, arith}
+use Rattle.std.proofs.Common.{◌≡◌, ℕ, ◌+◌, ◌<◌, ◌≤◌, List, [], ◌∷◌, ◌++◌, length, refl, ap, sym, ◌∙◌, subst, append_assoc, arith, append-nil}
 use Rattle.std.specs.List.{AllByRecursion, AllZip}
-
-zip-push : {X Z : Type 0} (Q : X → Z → Type 0) (xs : List X) (zs : List Z) (x : X) (z : Z) → AllZip Q xs zs → Q x z → AllZip Q (xs ++ x ∷ []) (zs ++ z ∷ [])
-zip-push Q [] [] x z h k = (k, tt)
-zip-push Q [] (w ∷ zs) x z h k = absurd h
-zip-push Q (y ∷ xs) [] x z h k = absurd h
-zip-push Q (y ∷ xs) (w ∷ zs) x z h k = (h.0, zip-push Q xs zs x z h.1 k)
-
-all-back : {X : Type 0} (C : X → Type 0) (front back : List X) → AllByRecursion C (front ++ back) → AllByRecursion C back
-all-back C [] back h = h
-all-back C (x ∷ front) back h = all-back C front back h.1
+use Rattle.game_trait.proofs.Lists.{all-second}
+use Rattle.sync_model.proofs.Lists.{zip-length}
+use Rattle.race_hall.proofs.Zips.{zip-push}
 
 none-left : {X Y : Type 0} (R : X → Y → Type 0) (xs : List X) → AllZip R xs [] → xs ≡ []
 none-left R [] h = refl
 none-left R (x ∷ xs) h = absurd h
-
-pub append-none : {X : Type 0} (xs : List X) → xs ++ [] ≡ xs
-append-none [] = refl
-append-none {X} (x ∷ xs) = ap (λ (l : List X). x ∷ l) (append-none xs)
 
 -- the next one goes with one of xs, of which all holds that holds of each
 pub record Next {X Y : Type 0} (R : X → Y → Type 0) (C : X → Type 0) (y : Y) : Type 0 where
   pub with : X
   pub is : R with y
   pub can : C with
-
--- a list of length 0, and what holds of anything
-pub none-of : {X : Type 0} (xs : List X) → length xs ≡ 0 → xs ≡ []
-none-of [] h = refl
-none-of (x ∷ xs) h = absurd (omega arith)
-
-pub every : {X : Type 0} (xs : List X) → AllByRecursion (λ (x : X). Unit {0}) xs
-every [] = tt
-every (x ∷ xs) = (tt, every xs)
 
 module _ {X Y Z : Type 0} where
   -- of the list ys that goes with xs, the first are replaced by `done`, and the rest is left
@@ -71,7 +51,7 @@ module _ {X Y Z : Type 0} where
       (R : X → Y → Type 0) (Q : X → Z → Type 0) (C : X → Type 0) (xs : List X) (done : List Z) (y : Y) (rest all : List Y)
       → all ≡ y ∷ rest → AllByRecursion C xs → Passed R Q xs done all → Next R C y
   passed-next R Q C xs done y rest all is can p =
-      cases p.back (all-back C p.front p.back (subst (AllByRecursion C) p.parts can)) (subst (AllZip R p.back) is p.left)
+      cases p.back (all-second C p.front p.back (subst (AllByRecursion C) p.parts can)) (subst (AllZip R p.back) is p.left)
     where
       cases : (back : List X) → AllByRecursion C back → AllZip R back (y ∷ rest) → Next R C y
       cases [] k h = absurd h
@@ -81,7 +61,7 @@ module _ {X Y Z : Type 0} where
   pub passed-end : (R : X → Y → Type 0) (Q : X → Z → Type 0) (xs : List X) (done : List Z) (all : List Y) → all ≡ [] → Passed R Q xs done all → AllZip Q xs done
   passed-end R Q xs done all none p =
       let e = none-left R p.back (subst (AllZip R p.back) none p.left) in
-      subst (λ (l : List X). AllZip Q l done) (sym (p.parts ∙ ap (λ (l : List X). p.front ++ l) e ∙ append-none p.front)) p.went
+      subst (λ (l : List X). AllZip Q l done) (sym (p.parts ∙ ap (λ (l : List X). p.front ++ l) e ∙ append-nil p.front)) p.went
 
   -- before any is replaced, whatever the lists are called
   pub passed-begin :
@@ -90,23 +70,12 @@ module _ {X Y Z : Type 0} where
   passed-begin R Q xs ys all done none same h =
       subst (λ (l : List Z). Passed R Q xs l all) (sym none) (subst (λ (l : List Y). Passed R Q xs [] l) (sym same) (passed-start R Q xs ys h))
 
--- lists that go together are equally long
-pub zip-length : {X Y : Type 0} (R : X → Y → Type 0) (xs : List X) (ys : List Y) → AllZip R xs ys → length xs ≡ length ys
-zip-length R [] [] h = refl
-zip-length R [] (y ∷ ys) h = absurd h
-zip-length R (x ∷ xs) [] h = absurd h
-zip-length R (x ∷ xs) (y ∷ ys) h = ap suc (zip-length R xs ys h.1)
-
 -- a list of which some elements were gone through: there is room for one more, and of the next holds what holds of all
 pub more-room :
     {X Y : Type 0} (R : X → Y → Type 0) (whole gone rest more : List X) (x : X) (made : List Y) (room : ℕ)
     → whole ≡ gone ++ rest → rest ≡ x ∷ more → AllZip R gone made → length whole ≤ room → length made < room
 more-room R whole gone rest more x made room parts is zip low =
     (let a = ap (λ l. length l) parts in let b = ap (λ l. length l) is in let d = length-append gone rest in let e = zip-length R gone made zip in omega arith)
-
-pub can-here : {X : Type 0} (C : X → Type 0) (all whole gone rest more : List X) (x : X) → AllByRecursion C all → whole ≡ all → whole ≡ gone ++ rest → rest ≡ x ∷ more → C x
-can-here C all whole gone rest more x can same parts is =
-    (subst (AllByRecursion C) is (all-back C gone rest (subst (AllByRecursion C) (sym same ∙ parts) can))).0
 
 pub parts-more : {X : Type 0} (whole gone rest more : List X) (x : X) → whole ≡ gone ++ rest → rest ≡ x ∷ more → whole ≡ (gone ++ x ∷ []) ++ more
 parts-more whole gone rest more x parts is = parts ∙ ap (λ l. gone ++ l) is ∙ sym (append_assoc gone (x ∷ []) more)

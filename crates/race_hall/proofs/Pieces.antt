@@ -1,5 +1,6 @@
 -- Delivering what several links or senders hold, one after the other, and finishing.
-use Rattle.std.proofs.Common.{◌≡◌, ℕ, zero, suc, ◌+◌, ◌<◌, ◌≤◌, List, [], ◌∷◌, ◌++◌, map, drop, length, get_or, refl, sym, ap, ◌∙◌, subst, arith}
+use Rattle.std.proofs.Common.{◌≡◌, ℕ, ◌+◌, ◌<◌, ◌≤◌, List, ◌++◌, map, drop, length, get_or, sym, ap, ◌∙◌, subst}
+use Rattle.std.proofs.lemmas.List.{drop_more, drop_all}
 use Rattle.game_trait.specs.declared.command.Command.{Command}
 use Rattle.sync_model.specs.State.{MirrorState}
 use Rattle.sync_model.specs.Turns.{drain_within, drain_bound}
@@ -7,21 +8,9 @@ use Rattle.copy_workers.specs.Feeding.{joined}
 use Rattle.race_hall.specs.Finish.{delivered, finished, CanTake}
 use Rattle.race_hall.proofs.Deliveries.{deliver-none, deliver-append, can-first, can-later}
 
--- a list from place i on
-pub drop-at : {X : Type 0} (xs : List X) (i : ℕ) (d : X) → i < length xs → drop i xs ≡ get_or xs i d ∷ drop (i + 1) xs
-drop-at [] i d below = absurd (omega arith)
-drop-at (y ∷ xs) zero d below = refl
-drop-at {X} (y ∷ xs) (suc i) d below = drop-at xs i d (omega arith) ∙ (let n : suc (i + 1) ≡ suc i + 1 = omega arith in ap (λ (k : ℕ). get_or xs i d ∷ drop k (y ∷ xs)) n)
-
-pub drop-end : {X : Type 0} (xs : List X) (i : ℕ) → length xs ≤ i → drop i xs ≡ []
-drop-end [] zero h = refl
-drop-end [] (suc k) h = refl
-drop-end (x ∷ xs) zero h = absurd (omega arith)
-drop-end (x ∷ xs) (suc k) h = drop-end xs k (omega arith)
-
 piece : {X : Type 0} (f : X → List Command) (xs : List X) (i : ℕ) (d : X) → i < length xs → joined (map f (drop i xs)) ≡ f (get_or xs i d) ++ joined (map f (drop (i + 1) xs))
 unfolding joined
-piece {X} f xs i d below = ap (λ (l : List X). joined (map f l)) (drop-at xs i d below)
+piece {X} f xs i d below = ap (λ (l : List X). joined (map f l)) (drop_more xs i d below)
 
 pub piece-can : {W X : Type 0} (f : X → List Command) (s : MirrorState W) (xs : List X) (i : ℕ) (d : X) → i < length xs → CanTake s (joined (map f (drop i xs))) → CanTake s (f (get_or xs i d))
 piece-can f s xs i d below can = can-first s (f (get_or xs i d)) (joined (map f (drop (i + 1) xs))) (subst (CanTake s) (piece f xs i d below) can)
@@ -41,7 +30,7 @@ piece-goes {W} f s t xs i d below new can =
 
 pub piece-ends : {W X : Type 0} (f : X → List Command) (s : MirrorState W) (xs : List X) (i : ℕ) → length xs ≤ i → s ≡ delivered s (joined (map f (drop i xs)))
 unfolding joined
-piece-ends {W} {X} f s xs i end = deliver-none s ∙ ap (λ (l : List X). delivered s (joined (map f l))) (sym (drop-end xs i end))
+piece-ends {W} {X} f s xs i end = deliver-none s ∙ ap (λ (l : List X). delivered s (joined (map f l))) (sym (drop_all i xs end))
 
 pub finish-state : {W : Type 0} (s t u v : MirrorState W) (L U : List Command) (turns : ℕ) → t ≡ delivered s L → u ≡ delivered t U → turns ≡ drain_bound u → v ≡ drain_within turns u → v ≡ finished s (L ++ U)
 finish-state {W} s t u v L U turns a b d e =

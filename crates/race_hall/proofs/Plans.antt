@@ -5,19 +5,15 @@ use Rattle.std.specs.List.{AllByRecursion}
 use Rattle.std.proofs.lemmas.Bool.Decides.{nat_tests}
 use Rattle.game_trait.specs.declared.command.Command.{Command}
 use Rattle.game_trait.specs.Count.{times}
-use Rattle.game_trait.proofs.Counts.{times-in_key_order, times-filter}
+use Rattle.game_trait.proofs.Counts.{times-in_key_order, times-filter, times-apart}
 use Rattle.game_trait.proofs.KeyOrder.{all-in_key_order}
 use Rattle.tss_io.specs.Totals.{total}
 use Rattle.copy_workers.proofs.Lists.{all-append}
 use Rattle.race_hall.specs.Race.{Course, plan_of, count_from, others}
 use Rattle.race_hall.specs.Finish.{unissued}
 use Rattle.race_hall.proofs.Lists.{total-append}
-use Rattle.game_trait.proofs.Lists.{all-filter}
-
-pub count-push : (i n : ℕ) → count_from i (suc n) ≡ count_from i n ++ (i + n) ∷ []
-unfolding count_from
-count-push i zero = ap (λ (k : ℕ). k ∷ []) (omega arith)
-count-push i (suc n) = ap (λ (l : List ℕ). i ∷ l) (count-push (i + 1) n ∙ ap (λ (k : ℕ). count_from (i + 1) n ++ k ∷ []) (omega arith))
+use Rattle.race_hall.proofs.Numbered.{count-push}
+use Rattle.game_trait.proofs.Lists.{all-filter, all-weaker, all-first, all-second}
 
 count-split : (i m n : ℕ) → m < n → count_from i n ≡ count_from i m ++ (i + m) ∷ count_from (i + m + 1) (n - (m + 1))
 unfolding count_from
@@ -40,16 +36,12 @@ count-all i (suc n) = ((omega arith, omega arith), more (count_from (i + 1) n) (
     more [] h = tt
     more (k ∷ ks) h = ((let a = h.0.0 in omega arith, let b = h.0.1 in omega arith), more ks h.1)
 
-pub weaker : {X : Type 0} (P Q : X → Type 0) (xs : List X) → ((x : X) → P x → Q x) → AllByRecursion P xs → AllByRecursion Q xs
-weaker P Q [] step h = tt
-weaker P Q (x ∷ xs) step h = (step x h.0, weaker P Q xs step h.1)
-
 -- the others are there, and are others
 pub others-all : (n m : ℕ) → m < n → AllByRecursion (λ k. (k < n) × (k ≢ m)) (others n m)
 others-all n m below =
     all-append (λ k. (k < n) × (k ≢ m)) (count_from 0 m) (count_from (m + 1) (n - (m + 1)))
-    (weaker (λ k. (0 ≤ k) × (k < 0 + m)) (λ k. (k < n) × (k ≢ m)) (count_from 0 m) (λ k h. (let a = h.1 in omega arith, λ e. let a = h.1 in omega arith)) (count-all 0 m))
-    (weaker (λ k. (m + 1 ≤ k) × (k < m + 1 + (n - (m + 1)))) (λ k. (k < n) × (k ≢ m)) (count_from (m + 1) (n - (m + 1)))
+    (all-weaker (λ k. (0 ≤ k) × (k < 0 + m)) (λ k. (k < n) × (k ≢ m)) (count_from 0 m) (λ k h. (let a = h.1 in omega arith, λ e. let a = h.1 in omega arith)) (count-all 0 m))
+    (all-weaker (λ k. (m + 1 ≤ k) × (k < m + 1 + (n - (m + 1)))) (λ k. (k < n) × (k ≢ m)) (count_from (m + 1) (n - (m + 1)))
     (λ k h. (let a = h.1 in omega arith, λ e. let a = h.0 in omega arith)) (count-all (m + 1) (n - (m + 1))))
 
 -- every mirror, as a sum and for each
@@ -63,7 +55,7 @@ total-others f n m below =
     omega arith)
 
 pub everyone : (P : ℕ → Type 0) (n : ℕ) → ((k : ℕ) → k < n → P k) → AllByRecursion P (count_from 0 n)
-everyone P n each = weaker (λ k. (0 ≤ k) × (k < 0 + n)) P (count_from 0 n) (λ k h. each k (let a = h.1 in omega arith)) (count-all 0 n)
+everyone P n each = all-weaker (λ k. (0 ≤ k) × (k < 0 + n)) P (count_from 0 n) (λ k h. each k (let a = h.1 in omega arith)) (count-all 0 n)
 
 -- a plan holds the commands of its mirror
 pub times-plan : (p : Command → Bool) (c : Course) (k : ℕ) → times p (plan_of c k) ≡ times (λ x. p x && (x.from == k)) c.commands
@@ -71,11 +63,6 @@ times-plan p c k = times-in_key_order p (filter (λ x. x.from == k) c.commands) 
 
 pub all-plan : (P : Command → Type 0) (c : Course) (k : ℕ) → AllByRecursion P c.commands → AllByRecursion P (plan_of c k)
 all-plan P c k h = all-in_key_order P (filter (λ x. x.from == k) c.commands) (all-filter P (λ x. x.from == k) c.commands h)
-
-times-apart : {X : Type 0} (p q r : X → Bool) (xs : List X) → ((x : X) → cond {A = ℕ} (r x) 1 0 ≡ cond {A = ℕ} (p x) 1 0 + cond {A = ℕ} (q x) 1 0) → times r xs ≡ times p xs + times q xs
-unfolding times
-times-apart p q r [] apart = omega arith
-times-apart p q r (x ∷ xs) apart = omega (arith, apart x, times-apart p q r xs apart)
 
 split-from : (p : Command → Bool) (n : ℕ) (x : Command) →
     cond {A = ℕ} (p x && nat_lt x.from (suc n)) 1 0 ≡ cond {A = ℕ} (p x && nat_lt x.from n) 1 0 + cond {A = ℕ} (p x && (x.from == n)) 1 0
@@ -153,16 +140,11 @@ count-each P i (suc n) k h low high =
     ]
     refl
 
-all-two : {X : Type 0} (P : X → Type 0) (xs ys : List X) → AllByRecursion P (xs ++ ys) → AllByRecursion P xs × AllByRecursion P ys
-all-two P [] ys h = (tt, h)
-all-two P (x ∷ xs) ys h = (let more = all-two P xs ys h.1 in ((h.0, more.0), more.1))
-
 -- what holds of the others holds of each other
 pub others-each : (P : ℕ → Type 0) (n m k : ℕ) → m < n → k < n → k ≢ m → AllByRecursion P (others n m) → P k
 others-each P n m k there below differ h =
-    let parts = all-two P (count_from 0 m) (count_from (m + 1) (n - (m + 1))) h in
     elim (nat_lt k m) as (λ v. nat_lt k m ≡ v → P k) [
-      | true ↦ λ e. (let low : k < m = grind (arith, nat_tests) in count-each P 0 m k parts.0 (omega arith) (omega arith))
-      | false ↦ λ e. (let high : m ≤ k = grind (arith, nat_tests) in count-each P (m + 1) (n - (m + 1)) k parts.1 (omega arith) (omega arith))
+      | true ↦ λ e. (let low : k < m = grind (arith, nat_tests) in count-each P 0 m k (all-first P (count_from 0 m) (count_from (m + 1) (n - (m + 1))) h) (omega arith) (omega arith))
+      | false ↦ λ e. (let high : m ≤ k = grind (arith, nat_tests) in count-each P (m + 1) (n - (m + 1)) k (all-second P (count_from 0 m) (count_from (m + 1) (n - (m + 1))) h) (omega arith) (omega arith))
     ]
     refl

@@ -1,97 +1,93 @@
--- Putting a crew's jobs over its seats, and taking the seats back.
-use Rattle.std.proofs.Common.{◌≡◌, ℕ, suc, ◌+◌, ◌<◌, ◌≤◌, List, [], ◌∷◌, ◌++◌, map, length, get_or, refl, ap, sym, ◌∙◌, subst, append_assoc, arith}
-use Rattle.std.specs.Prelude.{Option, None, remove}
-use Rattle.std.specs.List.{AllZip}
-use Rattle.std.proofs.Math.ListN.{length-append}
-use Rattle.copy_workers.specs.declared.feeder_job.FeederJob.{FeederJob}
-use Rattle.copy_workers.specs.declared.feeder_job.FeederEnd.{FeederEnd}
-use Rattle.race_hall.specs.declared.job.JobOver.{JobOver}
-use Rattle.race_hall.specs.declared.job.EndOver.{EndOver}
-use Rattle.race_hall.specs.Race.{count_from}
-use Rattle.race_hall.specs.Crews.{IsPosted, IsTakenBack, last_feeder}
-use Rattle.race_hall.proofs.Manning.{zip-count-length}
-use Rattle.race_hall.proofs.Passing.{none-of, append-none}
-use Rattle.race_hall.proofs.Linings.{zip-none, zip-one-more, front-more, front-left, off-front}
+-- What a call of a lock tells of the seat's own entries.
+use Rattle.std.proofs.Common.{◌≡◌, ℕ, true, false, cond, List, [], ◌∷◌, ◌++◌, refl, ap, sym, ◌∙◌, subst}
+use Rattle.std.specs.Prelude.{Option, Some, None, IfSome, is_some, nat_lt}
+use Rattle.game_trait.specs.Game.{Rules as GameRules}
+use Rattle.game_trait.specs.declared.event.Event.{Event as AnEvent}
+use Rattle.game_trait.specs.declared.event.Event.TheVariants.{Step}
+use Rattle.game_trait.specs.declared.event.Reply.{Reply}
+use Rattle.game_trait.specs.Events.{IsOfKind}
+use Rattle.sync_model.specs.State.{MirrorState}
+use Rattle.sync_model.specs.Change.{is_idle}
+use Rattle.sync_model.specs.Drafts.{DraftTick, ready_of, draft_of}
+use Rattle.sync_model.proofs.History.{answers_in_kind}
+use Rattle.mirror_core.specs.declared.drafts.TheConstants.{MOST_DRAFTED}
+use Rattle.mirror_core.specs.declared.drafts.Drafted.{Drafted}
+use Rattle.mirror_core.specs.declared.drafts.Drafted.TheVariants.{Draft as ADraft, Idle, Wide}
+use Rattle.mirror_core.specs.Drafts.{due_len, drafted, IfDraft}
+use Rattle.mirror_lock.specs.declared.calls.LockCall.{LockCall}
+use Rattle.mirror_lock.specs.declared.calls.LockCall.TheVariants.{Event, Draft, Commit}
+use Rattle.mirror_lock.specs.declared.calls.LockReply.{LockReply}
+use Rattle.mirror_lock.specs.declared.calls.LockReply.TheVariants.{Event as ToEvent, Draft as ToDraft}
+use Rattle.mirror_lock.specs.Locked.{mirror_rules, FitsLocked}
+use Rattle.turn_lock.specs.declared.history.Entry.{Entry}
+use Rattle.turn_lock.specs.declared.view.View.{View}
+use Rattle.turn_lock.specs.Histories.{value, entry, own}
+use Rattle.turn_lock.specs.Views.{number_of, seen_of, FitsSeat}
+use Rattle.turn_lock.specs.Calls.{IsCall}
+use Rattle.turn_lock.proofs.Serving.{own_after_call, reply_is_said}
+use Rattle.copy_workers.specs.Trail.{draft_in}
+use Rattle.race_hall.specs.Posting.{event_told, draft_told, last_drawn, drawn_by, IsReadied}
 
--- the first so many jobs of a crew, over the first seats
-pub record Posted {T : Type 0} (feeder : FeederJob) (n : ℕ) (before jobs : List (JobOver T)) (seats left : List T) : Type 0 where
-  pub crew : List (JobOver T)
-  pub parts : jobs ≡ before ++ crew
-  pub seats_are : map (λ job. job.seat) crew ++ left ≡ seats
-  pub posted : AllZip (IsPosted feeder) (count_from 0 n) crew
-  pub within : n ≤ feeder.copies
+module _ {W : Type 0} (game : GameRules W) where
+  drawn-last : (log : List (Entry (LockCall W) (LockReply W))) (e : Entry (LockCall W) (LockReply W)) → last_drawn (log ++ e ∷ []) ≡ draft_in (draft_told e.reply)
+  unfolding last_drawn
+  drawn-last [] e = refl
+  drawn-last (f ∷ []) e = refl
+  drawn-last (f ∷ g ∷ log) e = drawn-last (g ∷ log) e
 
-module _ {T : Type 0} where
-  pub posted-none : (feeder : FeederJob) (jobs : List (JobOver T)) (seats : List T) → Posted feeder 0 jobs jobs seats seats
-  posted-none feeder jobs seats = record { crew = []; parts = sym (append-none jobs); seats_are = refl; posted = zip-none (IsPosted feeder) [] refl; within = omega arith }
+  pub drawn-more :
+      (v w : View (MirrorState W) (LockCall W) (LockReply W)) (q : LockCall W) (r : LockReply W) → IsCall (mirror_rules game) v q r w
+      → drawn_by w ≡ draft_in (draft_told r)
+  drawn-more v w q r call =
+      ap (λ (l : List (Entry (LockCall W) (LockReply W))). last_drawn l) (own_after_call (mirror_rules game) v w q r call)
+      ∙ drawn-last (own (number_of v) (seen_of v)) (entry (number_of v) q r)
 
-  -- how many seats are left
-  pub posted-left : (feeder : FeederJob) (n : ℕ) (before jobs : List (JobOver T)) (seats left : List T) → Posted feeder n before jobs seats left → n + length left ≡ length seats
-  posted-left feeder n before jobs seats left p =
-      (let a = front-left (λ (job : JobOver T). job.seat) p.crew left seats p.seats_are in let b = zip-count-length (IsPosted feeder) 0 n p.crew p.posted in omega arith)
+  -- an event is answered in its kind, and a draft that is answered is of the copy
+  pub kind-told :
+      (v w : View (MirrorState W) (LockCall W) (LockReply W)) (e : AnEvent) (r : Reply) → is_some v.opening ≡ true → IsCall (mirror_rules game) v (Event e) (ToEvent r) w
+      → IsOfKind e r
+  kind-told v w e r opened call =
+      let said = reply_is_said (mirror_rules game) v w (Event e) (ToEvent r) opened call in
+      subst (IsOfKind e) (sym (ap (λ (x : LockReply W). event_told x) said.1)) (answers_in_kind said.0 e)
 
-  push-assoc : (before crew jobs now : List (JobOver T)) (job : JobOver T) → jobs ≡ before ++ crew → now ≡ jobs ++ job ∷ [] → now ≡ before ++ (crew ++ job ∷ [])
-  push-assoc before crew jobs now job parts pushed = pushed ∙ ap (λ (l : List (JobOver T)). l ++ job ∷ []) parts ∙ append_assoc before crew (job ∷ [])
+  drafted-copy : (s : MirrorState W) (c : ℕ) → IfDraft (drafted game s c) (λ d. d.copy ≡ c)
+  drafted-copy s c =
+      elim (is_idle s c) as (λ v. IfDraft (cond v Idle (cond (nat_lt MOST_DRAFTED (due_len s c)) (Wide (due_len s c)) (ADraft (draft_of game s c)))) (λ d. d.copy ≡ c)) [
+        | true ↦ tt
+        | false ↦ elim (nat_lt MOST_DRAFTED (due_len s c)) as (λ v. IfDraft (cond v (Wide (due_len s c)) (ADraft (draft_of game s c))) (λ d. d.copy ≡ c)) [ true ↦ tt | false ↦ refl ]
+      ]
 
-  pub posted-more : (feeder : FeederJob) (n : ℕ) (before jobs now : List (JobOver T)) (seats left rest : List T) (job : JobOver T)
-      → Posted feeder n before jobs seats left → now ≡ jobs ++ job ∷ [] → 0 < length left → job.seat ≡ get_or left 0 job.seat → rest ≡ remove left 0
-      → IsPosted feeder n job → n < feeder.copies → Posted feeder (n + 1) before now seats rest
-  posted-more feeder n before jobs now seats left rest job p pushed some e off one low = record {
-    crew = p.crew ++ job ∷ [];
-    parts = push-assoc before p.crew jobs now job p.parts pushed;
-    seats_are = front-more (λ (j : JobOver T). j.seat) p.crew (p.crew ++ job ∷ []) left rest seats job p.seats_are some e off refl;
-    posted = zip-one-more (IsPosted feeder) n p.crew (p.crew ++ job ∷ []) job p.posted refl one;
-    within = omega arith;
-  }
+  pub copy-told :
+      (v w : View (MirrorState W) (LockCall W) (LockReply W)) (c : ℕ) (d : Drafted W) → is_some v.opening ≡ true → IsCall (mirror_rules game) v (Draft c) (ToDraft d) w
+      → IfDraft d (λ t. t.copy ≡ c)
+  copy-told v w c d opened call =
+      let said = reply_is_said (mirror_rules game) v w (Draft c) (ToDraft d) opened call in
+      subst (λ (x : Drafted W). IfDraft x (λ t. t.copy ≡ c)) (sym (ap (λ (x : LockReply W). draft_told x) said.1)) (drafted-copy said.0 c)
 
-  -- the whole crew
-  pub posted-whole : (feeder : FeederJob) (n : ℕ) (before jobs now : List (JobOver T)) (seats left : List T) (job : JobOver T)
-      → Posted feeder n before jobs seats left → now ≡ jobs ++ job ∷ [] → length left ≡ 1 → job.seat ≡ get_or left 0 job.seat
-      → IsPosted feeder n job → n ≡ feeder.copies
-      → (crew : List (JobOver T)) × (now ≡ before ++ crew) × (map (λ j. j.seat) crew ≡ seats) × AllZip (IsPosted feeder) (count_from 0 (feeder.copies + 1)) crew
-  posted-whole feeder n before jobs now seats left job p pushed one_left e one last =
-      let front = front-more (λ (j : JobOver T). j.seat) p.crew (p.crew ++ job ∷ []) left (remove left 0) seats job p.seats_are (omega arith) e refl refl in (
-        p.crew ++ job ∷ [],
-        push-assoc before p.crew jobs now job p.parts pushed,
-        sym (append-none (map (λ j. j.seat) (p.crew ++ job ∷ []))) ∙ ap (λ (l : List T). map (λ j. j.seat) (p.crew ++ job ∷ []) ++ l) (sym (rest-none left one_left)) ∙ front,
-        subst (λ (k : ℕ). AllZip (IsPosted feeder) (count_from 0 (k + 1)) (p.crew ++ job ∷ [])) last (zip-one-more (IsPosted feeder) n p.crew (p.crew ++ job ∷ []) job p.posted refl one),
-      )
+  -- where a copy's step fits a seat, so does its draft
+  pub draft-fits : (v : View (MirrorState W) (LockCall W) (LockReply W)) (c : ℕ) → FitsSeat (mirror_rules game) v (Event (Step c)) → FitsSeat (mirror_rules game) v (Draft c)
+  draft-fits v c fits = by_opening v.opening fits
     where
-      rest-none : (l : List T) → length l ≡ 1 → remove l 0 ≡ []
-      rest-none [] h = refl
-      rest-none (x ∷ l) h = none-of l (omega arith)
+      by_opening : (x : Option (MirrorState W)) → IfSome x (λ o. FitsLocked game (value (mirror_rules game) o (seen_of v)) (Event (Step c)))
+          → IfSome x (λ o. FitsLocked game (value (mirror_rules game) o (seen_of v)) (Draft c))
+      by_opening None h = tt
+      by_opening (Some o) h = (h.0, h.1.1)
 
-  -- taking back
-  pub last-of-push : (gone : List (EndOver T)) (e : EndOver T) → last_feeder (gone ++ e ∷ []) ≡ e.feeder
-  unfolding last_feeder
-  last-of-push [] e = refl
-  last-of-push (f ∷ []) e = refl
-  last-of-push (f ∷ g ∷ gone) e = last-of-push (g ∷ gone) e
+  -- the draft that was answered last may be committed
+  pub readied-none :
+      (v w : View (MirrorState W) (LockCall W) (LockReply W)) (q : LockCall W) (r : LockReply W) → IsCall (mirror_rules game) v q r w
+      → draft_in (draft_told r) ≡ None → IsReadied game w
+  readied-none v w q r call none d some = absurd (let k = sym (drawn-more v w q r call ∙ none) ∙ some in cc)
 
-  pub taken-none : (ends : List (EndOver T)) (seats : List T) → seats ≡ [] → IsTakenBack 0 ends ends seats None
-  unfolding last_feeder
-  taken-none ends seats none = record { gone = []; parts = refl; count_is = refl; seats_are = none; given_is = refl }
-
-  pub taken-left : (n : ℕ) (before left : List (EndOver T)) (seats : List T) (given : Option FeederEnd) → IsTakenBack n before left seats given → n + length left ≡ length before
-  taken-left n before left seats given t = (let a = ap (λ (l : List (EndOver T)). length l) t.parts in let b = length-append t.gone left in let d = t.count_is in omega arith)
-
-  pub taken-seats : (n : ℕ) (before left : List (EndOver T)) (seats : List T) (given : Option FeederEnd) → IsTakenBack n before left seats given → length seats ≡ n
-  taken-seats n before left seats given t = ap (λ (l : List T). length l) t.seats_are ∙ long t.gone ∙ t.count_is
+  pub readied-draft :
+      (v w : View (MirrorState W) (LockCall W) (LockReply W)) (c : ℕ) (a : Drafted W) → IsCall (mirror_rules game) v (Draft c) (ToDraft a) w
+      → IfDraft a (λ d. FitsSeat (mirror_rules game) w (Commit (ready_of game d))) → IsReadied game w
+  readied-draft v w c a call ready d some = by a (sym (drawn-more v w (Draft c) (ToDraft a) call) ∙ some) ready
     where
-      long : (l : List (EndOver T)) → length (map (λ e. e.seat) l) ≡ length l
-      long [] = refl
-      long (x ∷ l) = ap suc (long l)
+      inner : (x y : DraftTick W) → Some x ≡ Some y → x ≡ y
+      inner x y e = cc
 
-  map-more : (gone : List (EndOver T)) (e : EndOver T) → map (λ (x : EndOver T). x.seat) (gone ++ e ∷ []) ≡ map (λ x. x.seat) gone ++ e.seat ∷ []
-  map-more [] e = refl
-  map-more (f ∷ gone) e = ap (λ (l : List T). f.seat ∷ l) (map-more gone e)
-
-  pub taken-more : (n : ℕ) (before left rest : List (EndOver T)) (seats now : List T) (given : Option FeederEnd) (e : EndOver T)
-      → IsTakenBack n before left seats given → 0 < length left → e ≡ get_or left 0 e → rest ≡ remove left 0 → now ≡ seats ++ e.seat ∷ [] → IsTakenBack (n + 1) before rest now e.feeder
-  taken-more n before left rest seats now given e t some here off pushed = record {
-    gone = t.gone ++ e ∷ [];
-    parts = sym (off-front t.gone left rest before e (sym t.parts) some here off);
-    count_is = (let a = length-append t.gone (e ∷ []) in let b = t.count_is in omega arith);
-    seats_are = pushed ∙ ap (λ (l : List T). l ++ e.seat ∷ []) t.seats_are ∙ sym (map-more t.gone e);
-    given_is = sym (last-of-push t.gone e);
-  }
+      by : (x : Drafted W) → draft_in x ≡ Some d → IfDraft x (λ t. FitsSeat (mirror_rules game) w (Commit (ready_of game t))) → FitsSeat (mirror_rules game) w (Commit (ready_of game d))
+      by (ADraft t) e h = subst (λ (u : DraftTick W). FitsSeat (mirror_rules game) w (Commit (ready_of game u))) (inner t d e) h
+      by Idle e h = absurd cc
+      by (Wide n) e h = absurd cc

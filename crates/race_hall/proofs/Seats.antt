@@ -1,5 +1,5 @@
 -- From the seats of a lock, and from the links before the race.
-use Rattle.std.proofs.Common.{◌≡◌, ◌≢◌, ℕ, zero, suc, ◌<◌, ◌⊎◌, inl, inr, true, false, List, [], ◌∷◌, length, get_or, refl, ap, sym, subst, arith}
+use Rattle.std.proofs.Common.{◌≡◌, ◌≢◌, ℕ, zero, suc, ◌<◌, ◌⊎◌, inl, inr, true, false, List, [], ◌∷◌, length, get_or, refl, sym, subst, arith}
 use Rattle.std.specs.Prelude.{◌==◌}
 use Rattle.std.specs.List.{AllByRecursion, AllZip}
 use Rattle.std.proofs.lemmas.Bool.Decides.{nat_tests}
@@ -13,6 +13,8 @@ use Rattle.copy_workers.specs.Fed.{AllReceive}
 use Rattle.link_ring.proofs.Later.{link-later}
 use Rattle.race_hall.specs.Entries.{Entry, own, IsStepping}
 use Rattle.race_hall.specs.Looking.{IsLinkedAt}
+use Rattle.race_hall.proofs.Zips.{zip-get}
+use Rattle.sync_model.proofs.Lists.{zip-length}
 
 -- a seat that has no entry
 none-own : (i : ℕ) (H : List Entry) → AllByRecursion (λ e. e.seat ≢ i) H → own i H ≡ []
@@ -59,20 +61,6 @@ workers-of seat seats H here steps i differ = cases (is-in i seats)
     cases (inl h) = steps i h differ
     cases (inr out) = subst (AllByRecursion (λ p. IsStepping p.event)) (sym (none-own i H (all-others i seats H here out))) tt
 
--- the two ends of a link, as they were handed to the feeders, and as these gave them back
-sent-long : (more : List Message) (xs ys : List LinkSend) → AllZip (IsSent more) xs ys → length xs ≡ length ys
-sent-long more [] [] h = refl
-sent-long more [] (y ∷ ys) h = absurd h
-sent-long more (x ∷ xs) [] h = absurd h
-sent-long more (x ∷ xs) (y ∷ ys) h = ap suc (sent-long more xs ys h.1)
-
-sent-get : (more : List Message) (xs ys : List LinkSend) (i : ℕ) (d : LinkSend) → AllZip (IsSent more) xs ys → i < length ys → SameSend (get_or xs i d) (get_or ys i d)
-sent-get more [] [] i d h below = absurd (omega arith)
-sent-get more [] (y ∷ ys) i d h below = absurd h
-sent-get more (x ∷ xs) [] i d h below = absurd h
-sent-get more (x ∷ xs) (y ∷ ys) zero d h below = h.0.same
-sent-get more (x ∷ xs) (y ∷ ys) (suc i) d h below = sent-get more xs ys i d h.1 (omega arith)
-
 received-get : (turns : ℕ) (xs ys : List LinkReceive) (gots : List (List Message)) (i : ℕ) (d : LinkReceive) → AllReceive turns xs ys gots → i < length ys
     → (i < length xs) × SameReceive (get_or xs i d) (get_or ys i d)
 unfolding AllReceive
@@ -93,12 +81,12 @@ pub linked-joined :
 linked-joined more turns gots sends0 sends row0 row place j sent received before r below here =
     let first = received-get turns row0 row gots j r received below in
     let old = before (get_or row0 j r) first.0 (get_or_default row0 j r (get_or row0 j r) first.0) in
-    let long = sent-long more sends0 sends sent in
+    let long = zip-length (IsSent more) sends0 sends sent in
     let same_receive : SameReceive (get_or row0 j r) r = subst (λ (q : LinkReceive). SameReceive (get_or row0 j r) q) (sym here) first.1 in
     record {
       below = (let a = old.below in omega arith);
       linked = λ s e.
           let was = old.linked (get_or sends0 place s) (get_or_default sends0 place s (get_or sends0 place s) old.below) in
-          let same : SameSend (get_or sends0 place s) s = subst (λ (t : LinkSend). SameSend (get_or sends0 place s) t) (sym e) (sent-get more sends0 sends place s sent (let a = old.below in omega arith)) in
+          let same : SameSend (get_or sends0 place s) s = subst (λ (t : LinkSend). SameSend (get_or sends0 place s) t) (sym e) (zip-get (IsSent more) sends0 sends place s sent (let a = old.below in omega arith)).same in
           link-later (get_or sends0 place s) s (get_or row0 j r) r was same same_receive;
     }

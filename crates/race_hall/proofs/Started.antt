@@ -1,19 +1,16 @@
 -- From the links that were made, through the feeders, to what the finish asks of links.
 use Rattle.std.proofs.Common.{◌≡◌, ℕ, suc, ◌+◌, ◌<◌, List, [], ◌∷◌, length, get_or, refl, ap, Vec, arith}
 use Rattle.std.specs.declared.alloc.Global.{Global}
-use Rattle.std.specs.List.{AllByRecursion}
 use Rattle.link_ring.specs.declared.message.Message.{Message}
 use Rattle.link_ring.specs.declared.send.LinkSend.{LinkSend}
 use Rattle.link_ring.specs.declared.receive.LinkReceive.{LinkReceive}
-use Rattle.link_ring.specs.Ends.{sent_of, received_of}
 use Rattle.copy_workers.specs.declared.post.Asked.{Asked}
 use Rattle.copy_workers.specs.declared.feeder_job.FeederEnd.{FeederEnd}
 use Rattle.copy_workers.specs.declared.feeder_job.FeederJob.{FeederJob}
 use Rattle.copy_workers.specs.Messages.{messages}
 use Rattle.copy_workers.specs.Fed.{AllReceive, FeederEnds}
 use Rattle.race_hall.specs.Looking.{sender_at, place_at, IsLinkedAt}
-use Rattle.race_hall.specs.Making.{IsNewSend, IsNewReceive, AreLinksTo}
-use Rattle.race_hall.proofs.Plans.{weaker}
+use Rattle.race_hall.specs.Making.{AreLinksTo}
 use Rattle.race_hall.proofs.Looks.{sender-below}
 use Rattle.race_hall.proofs.Seats.{linked-joined}
 
@@ -30,18 +27,6 @@ receive-long turns [] (y ∷ ys) gots h = absurd h
 receive-long turns (x ∷ xs) [] gots h = absurd h
 receive-long turns (x ∷ xs) (y ∷ ys) [] h = absurd h
 receive-long turns (x ∷ xs) (y ∷ ys) (g ∷ gots) h = ap suc (receive-long turns xs ys gots h.1)
-
--- the jobs' links are new
-pub new-sends : (rooms : List ℕ) (job : ℕ → FeederJob) (sends : List (Vec LinkSend Global)) (rows : List (Vec LinkReceive Global)) (k : ℕ) → k < length rooms
-    → AreLinksTo (length rooms) rooms sends rows → HoldLinks (length rooms) job sends rows → AllByRecursion (λ s. sent_of s ≡ []) (job k).sends.items
-new-sends rooms job sends rows k below made hold =
-    let count = made.sends_count in
-    weaker (IsNewSend (get_or rooms k 0)) (λ s. sent_of s ≡ []) (job k).sends.items (λ s n. n.sent) (made.made.new k (job k).sends (omega arith) (hold.sends_of k below))
-
-pub new-receives : (rooms : List ℕ) (job : ℕ → FeederJob) (sends : List (Vec LinkSend Global)) (rows : List (Vec LinkReceive Global)) (m : ℕ) → m < length rooms
-    → AreLinksTo (length rooms) rooms sends rows → HoldLinks (length rooms) job sends rows → AllByRecursion (λ r. received_of r ≡ []) (job m).receives.items
-new-receives rooms job sends rows m below made hold =
-    weaker IsNewReceive (λ r. received_of r ≡ []) (job m).receives.items (λ r n. n.received) (made.each m (job m).receives below (hold.rows_of m below)).new
 
 -- after the feeders: how many links a mirror has, and where their other ends stand
 pub ends-links : (rooms : List ℕ) (job : ℕ → FeederJob) (end : ℕ → FeederEnd) (asked : ℕ → List Asked) (sends : List (Vec LinkSend Global)) (rows : List (Vec LinkReceive Global)) (m : ℕ) → m < length rooms

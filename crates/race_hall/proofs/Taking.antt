@@ -1,5 +1,5 @@
 -- A mirror that gets only commands that are new and in time takes each of them.
-use Rattle.std.proofs.Common.{Bool, true, cond, ◌||◌, ◌≡◌, ℕ, ◌+◌, ◌-◌, ◌<◌, ◌≤◌, false, List, [], ◌∷◌, ◌++◌, length, refl, ap, sym, ◌∙◌, subst, append_assoc, arith}
+use Rattle.std.proofs.Common.{Bool, true, cond, ◌||◌, ◌≡◌, ℕ, ◌+◌, ◌-◌, ◌<◌, ◌≤◌, false, List, [], ◌∷◌, ◌++◌, length, refl, ap, sym, ◌∙◌, subst, append_assoc, arith, append-nil}
 use Rattle.std.specs.List.{AllByRecursion, AllZip, list_any}
 use Rattle.std.proofs.lemmas.Bool.Decides.{nat_tests}
 use Rattle.game_trait.specs.declared.command.Command.{Command}
@@ -70,10 +70,6 @@ pub record Takes {W : Type 0} (s : MirrorState W) (es : List Event) : Type 0 whe
   pub room : HasRoomAlong s es
   pub taken : AllTaken s es
 
-append-none : {X : Type 0} (l : List X) → l ++ [] ≡ l
-append-none [] = refl
-append-none {X} (x ∷ xs) = ap (λ (m : List X). x ∷ m) (append-none xs)
-
 -- a tick and a step accept nothing and turn nothing away
 record SameTaken {W : Type 0} (s t : MirrorState W) (r : Reply) : Type 0 where
   pub accepted : t.accepted ≡ s.accepted
@@ -96,7 +92,7 @@ taken-same {W} s x new due =
 pub takes : {W : Type 0} (es : List Event) (s : MirrorState W) → IsStaggered s → IsUnchangedPlan s → 0 < length s.runs → AllByRecursion (Fits s) es → AllInTime s es
     → NamesDiffer (s.accepted ++ commands_asked es) → length (commands_asked es) ≤ s.spare → Takes s es
 unfolding after commands_asked AllInTime HasRoomAlong AllTaken
-takes [] s here kept some fit time names room = record { accepted = sym (append-none s.accepted); turned = refl; spare = omega arith; room = tt; taken = tt }
+takes [] s here kept some fit time names room = record { accepted = sym (append-nil s.accepted); turned = refl; spare = omega arith; room = tt; taken = tt }
 takes (Tick ∷ es) s here kept some fit time names room =
     let same = tick-same s in
     let fixed = next-fixed s Tick in

@@ -1,9 +1,9 @@
 //! The locks of a race's mirrors, and the jobs over their seats.
 
-ghost use Rattle.std.specs.Prelude.{◌≡◌, ◌≢◌, ℕ, ◌∷◌, ◌++◌, ◌≤◌, ◌<◌, ◌+◌, List, map, length};
+ghost use Rattle.std.specs.Prelude.{◌≡◌, ◌≢◌, ℕ, ◌++◌, ◌≤◌, ◌<◌, ◌+◌, List, map, length};
 ghost use Rattle.std.specs.Prelude.{vec_len, OnOk, IfOk};
 ghost use Rattle.std.specs.List.{AllByRecursion, AllZip};
-ghost use Rattle.match_file.specs.Data.{schedule_of};
+ghost use Rattle.match_file.specs.Data.{schedules};
 ghost use Rattle.race_hall.specs.Race.{count_from};
 ghost use Rattle.race_hall.specs.Raced.{course_of};
 ghost use Rattle.race_hall.specs.Crews.{ByMirror, IsFeederOf, IsCrew, IsManning, IsLockOf};
@@ -13,7 +13,7 @@ ghost use Rattle.race_hall.specs.declared.job.JobOver.{JobOver};
 use crate::job::{JobOver, Work};
 use copy_workers::{CopyJob, FeederJob};
 use game_trait::Game;
-use match_file::Match;
+use match_file::{Match, plans_of};
 use mirror_core::Mirror;
 use mirror_lock::{MirrorLock, MirrorSeat};
 use stagger_clock::Stagger;
@@ -85,7 +85,7 @@ fn man<G: Game>(
     feeder: FeederJob,
     jobs: &mut Vec<JobOver<MirrorSeat<G>>>,
 ) -> Result<MirrorLock<G>, NoMemory>
-    requires plans { plans.now ≡ map (schedule_of m.now) (m.now.delays ∷ m.now.plans) }
+    requires plans { plans.now ≡ schedules m.now }
     requires feeder { IsFeederOf (course_of m.now) feeder.budget feeder.mirror feeder }
     requires there { feeder.mirror < m.now.mirrors }
     requires budget { feeder.budget ≤ 1_048_576 }
@@ -104,19 +104,6 @@ fn man<G: Game>(
     Ok(lock)
 }
 
-// The plans of a match, plan 0 first.
-fn plans(alloc: Global, m: &Match) -> Result<Vec<Stagger>, NoMemory>
-    ensures { IfOk result (λ plans. plans.items
-        ≡ map (schedule_of m.now) (m.now.delays ∷ m.now.plans)) }
-{
-    let mut plans = Vec::new(alloc);
-    plans.push(Stagger::new(m.delays.as_slice(), m.length))?;
-    for delays in m.plans.as_slice() {
-        plans.push(Stagger::new(delays.as_slice(), m.length))?;
-    }
-    Ok(plans)
-}
-
 /// The locks of a match's mirrors, mirror 0 first, which begin with this world, and the jobs over
 /// their seats, mirror by mirror: a worker for each copy, and then the feeder.
 pub fn crews<G: Game>(
@@ -133,7 +120,7 @@ pub fn crews<G: Game>(
         lock.lock.table.shared.key.opening.value lock.lock.seats)
         0 r.0.items feeders.items r.1.items) }
 {
-    let plans = plans(alloc, m)?;
+    let plans = plans_of(alloc, m)?;
     let mut locks = Vec::new(alloc);
     let mut jobs = Vec::new(alloc);
     for feeder in feeders {

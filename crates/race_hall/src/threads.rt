@@ -6,7 +6,7 @@ ghost use Rattle.race_hall.specs.Begun.{IsBegun, IsGoing};
 
 use std::snapshot::Snapshot;
 use std::sync::Wait;
-use std::thread::{Promise, PromisedHandle, Threads, scope, scope_env};
+use std::thread::{Promise, PromisedHandle, Scope, Threads, scope, scope_env};
 
 /// What may be done, and comes to an end `E`.
 pub trait Task<E> {
@@ -49,7 +49,7 @@ pub enum Begun<H, J, E> {
 /// A task that was begun, which a thread may do.
 pub type InThread<J, E> = Begun<PromisedHandle<E, EndOf<J>>, J, E>;
 
-// Does a task that was kept. A thread goes on meanwhile.
+// Does a task that was kept.
 fn go_on<E: Drop, J: Task<E> + Drop, D: Doer<J, E>>(doer: &D, one: InThread<J, E>) -> InThread<J, E>
     requires { (task : J) × IsBegun (λ h. h.promise.task.value) J.ends task one
         × D.can doer.now task }
@@ -126,6 +126,73 @@ pub struct Rooms<H, J, E> {
     pub ends: Vec<E>,
 }
 
+// Begins a task in a thread of the scope, or does it where none can be made for it.
+fn begin<'s, S, E, J, D>(scope: &Scope<'s, S>, doer: &'s D, task: J) -> InThread<J, E>
+where
+    E: Drop + Send + 's,
+    J: Task<E> + Drop + Send + 's,
+    D: Doer<J, E> + Sync,
+    requires { D.can doer.now task }
+    ensures { IsBegun (λ h. h.promise.task.value) J.ends task result }
+{
+    let promise = EndOf {
+        task: Snapshot::of(&task),
+    };
+    let begun = scope.spawn_with(
+        promise,
+        move || -> E
+            requires { D.can doer.now task }
+            ensures { J.ends task result }
+        { doer.work(task) },
+    );
+    match begun {
+        Ok(handle) => Begun::Thread(handle),
+        Err(refused) => Begun::Done((refused.value)()),
+    }
+}
+
+// Begins all tasks, in order: those whose bit of `inline` is set are kept. All that threads do has
+// ended then.
+fn begin_all<R, E, J, D>(
+    rt: &R,
+    doer: &D,
+    tasks: Vec<J>,
+    inline: u128,
+    mut begun: Vec<InThread<J, E>>,
+) -> Vec<InThread<J, E>>
+where
+    R: Threads + Wait + Sync,
+    E: Drop + Send,
+    J: Task<E> + Drop + Send,
+    D: Doer<J, E> + Sync,
+    requires can { AllByRecursion (D.can doer.now) tasks.items }
+    requires few { vec_len tasks ≤ 128 }
+    requires room { (begun.items ≡ []) × (vec_len tasks ≤ vec_capacity begun) }
+    ensures { AllZip (IsBegun (λ h. h.promise.task.value) J.ends) tasks.items result.items }
+{
+    scope(
+        scope_env(),
+        rt,
+        move |scope| -> Vec<InThread<J, E>>
+            requires { AllByRecursion (D.can doer.now) tasks.items
+                × (vec_len tasks ≤ 128) × (begun.items ≡ [])
+                × (vec_len tasks ≤ vec_capacity begun) }
+            ensures { AllZip (IsBegun (λ h. h.promise.task.value) J.ends) tasks.items result.items }
+        {
+            let mut number = 0u32;
+            for task in tasks {
+                if (inline >> number) & 1 == 1 {
+                    begun.push_reserved(Begun::Kept(task));
+                } else {
+                    begun.push_reserved(begin(scope, doer, task));
+                }
+                number += 1;
+            }
+            begun
+        },
+    )
+}
+
 /// Does the tasks, of which there are at most 128, and gives an end of each, in order. A task is
 /// done by the caller where its bit of `inline` is set or where no thread can be made for it, and
 /// by a thread otherwise. It takes no memory, and waits for all threads.
@@ -149,45 +216,8 @@ where
         × (vec_len tasks ≤ vec_capacity rooms.ends) }
     ensures { AllZip J.ends tasks.items result.items }
 {
-    let Rooms {
-        mut begun,
-        going,
-        ends,
-    } = rooms;
-    let begun = scope(
-        scope_env(),
-        rt,
-        move |scope| -> Vec<InThread<J, E>>
-            requires { AllByRecursion (D.can doer.now) tasks.items
-                × (vec_len tasks ≤ 128) × (begun.items ≡ [])
-                × (vec_len tasks ≤ vec_capacity begun) }
-            ensures { AllZip (IsBegun (λ h. h.promise.task.value) J.ends) tasks.items result.items }
-        {
-            let mut number = 0u32;
-            for task in tasks {
-                if (inline >> number) & 1 == 1 {
-                    begun.push_reserved(Begun::Kept(task));
-                } else {
-                    let promise = EndOf {
-                        task: Snapshot::of(&task),
-                    };
-                    let next = match scope.spawn_with(
-                        promise,
-                        move || -> E
-                            requires { D.can doer.now task }
-                            ensures { J.ends task result }
-                        { doer.work(task) },
-                    ) {
-                        Ok(handle) => Begun::Thread(handle),
-                        Err(refused) => Begun::Done((refused.value)()),
-                    };
-                    begun.push_reserved(next);
-                }
-                number += 1;
-            }
-            begun
-        },
-    );
+    let Rooms { begun, going, ends } = rooms;
+    let begun = begin_all(rt, doer, tasks, inline, begun);
     let going = go_on_all(doer, begun, going);
     join_all(rt, going, ends)
 }

@@ -1,11 +1,12 @@
 -- The changing ones of any events that name what is there are a log of the mirror.
-use Rattle.std.proofs.Common.{ℕ, zero, suc, ◌<◌, true, false, cond, List, [], ◌∷◌, ◌++◌, take}
+use Rattle.std.proofs.Common.{ℕ, ◌<◌, true, false, cond, List, [], ◌∷◌, ◌++◌, take}
 use Rattle.std.specs.List.{AllByRecursion}
 use Rattle.std.proofs.lemmas.List.Elements.{All-from_recursion, All-contains}
 use Rattle.game_trait.specs.declared.command.Command.{Command}
 use Rattle.game_trait.specs.declared.event.Event.{Event}
 use Rattle.game_trait.specs.declared.event.Event.TheVariants.{Tick, Arrive, Step, Restagger}
 use Rattle.game_trait.proofs.KeyOrder.{all-weaker}
+use Rattle.game_trait.proofs.Lists.{all-take}
 use Rattle.sync_model.specs.State.{MirrorState}
 use Rattle.sync_model.specs.Change.{next, after, changes, Fits}
 use Rattle.sync_model.specs.Staggered.{IsStaggered}
@@ -22,11 +23,6 @@ all-changing P s (e ∷ es) h =
     let behind = all-changing P (next s e) es h.1 in
     elim (changes s e) as (λ v. AllByRecursion P (cond v (e ∷ []) [] ++ changing (next s e) es))
     [ true ↦ (h.0, behind) | false ↦ behind ]
-
-all-take : {X : Type 0} (P : X → Type 0) (n : ℕ) (xs : List X) → AllByRecursion P xs → AllByRecursion P (take n xs)
-all-take P zero xs h = tt
-all-take P (suc n) [] h = tt
-all-take P (suc n) (x ∷ xs) h = (h.0, all-take P n xs h.1)
 
 -- what names a command of the match, a copy of the mirror or a plan fits
 pub named-fits :

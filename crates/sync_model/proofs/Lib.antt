@@ -7,6 +7,7 @@ pub mod Cases
 mod Clocks
 pub mod Along
 pub mod Drain
+pub mod Turning
 mod Played
 pub mod History
 pub mod Room

@@ -14,7 +14,7 @@ use Rattle.trailing_copy.specs.Stack.{IsStack}
 use Rattle.game_trait.proofs.Runs.{world_of-none}
 use Rattle.std.proofs.lemmas.List.{length-replicate}
 
-empty-runs : (n : ℕ) → runs_at [] (replicate n 0) ≡ replicate n []
+pub empty-runs : (n : ℕ) → runs_at [] (replicate n 0) ≡ replicate n []
 empty-runs zero = refl
 empty-runs (suc n) = ap (λ (l : List (List Item)). [] ∷ l) (empty-runs n)
 
@@ -55,9 +55,6 @@ same-count {X} {Y} f (suc n) x y e =
 no-beats : 0 ≡ beats []
 unfolding beats
 no-beats = refl
-
-pub same-replicate : (n : ℕ) → runs_at [] (replicate n 0) ≡ replicate n []
-same-replicate n = empty-runs n
 
 empty-trailing : (n : ℕ) → IsTrailing [] (replicate n [])
 empty-trailing n =

@@ -1,7 +1,8 @@
 use Rattle.std.proofs.Common.{◌≢◌, ◌+◌, ◌-◌, ◌<◌, [], ◌∷◌, length, map, get_or, refl, arith}
+use Rattle.std.proofs.lemmas.List.{length-map}
 use Rattle.game_trait.specs.Ordered.{due_at}
 use Rattle.link_ring.specs.declared.message.Message.TheVariants.{Cmd, Mark}
-use Rattle.copy_workers.proofs.Issued.{issuing-start, issuing-more, issuing-end, room-left, sent-both, map-length, blank}
+use Rattle.copy_workers.proofs.Issued.{issuing-start, issuing-more, issuing-end, room-left, sent-both, blank}
 use Rattle.copy_workers.proofs.issues.issue_tick.Goals as goal
 use Rattle.copy_workers.proofs.issues.issue_tick.Goals.{then-loop-next-test+else-plan-next, else-loop-next-test}
 
@@ -17,7 +18,7 @@ loop-next-init g c = record {
 pub issue_one-requires-clause-room : goal.issue_one-requires-clause-room
 issue_one-requires-clause-room g c =
     room-left ((length c.args.plan.now - c.args.issued) + 1) 1 (map Cmd c.loop-next.invariant.issuing.some) c.args.sends.now c.loop-next.sends
-    (let a = c.loop-next.invariant.issuing.count in let b = map-length c.loop-next.invariant.issuing.some in let d = c.requires.from.within in omega arith)
+    (let a = c.loop-next.invariant.issuing.count in let b = length-map c.loop-next.invariant.issuing.some Cmd in let d = c.requires.from.within in omega arith)
     c.requires.room c.loop-next.invariant.issuing.sent
 
 pub loop-next-preserved : goal.loop-next-preserved
@@ -32,7 +33,7 @@ loop-next-preserved g c = record {
 pub send_all-requires : goal.send_all-requires
 send_all-requires g c =
     room-left ((length c.args.plan.now - c.args.issued) + 1) 1 (map Cmd c.loop-next.invariant.issuing.some) c.args.sends.now c.loop-next.sends
-    (let a = c.loop-next.invariant.issuing.count in let b = map-length c.loop-next.invariant.issuing.some in let d = c.loop-next.invariant.issuing.within in omega arith)
+    (let a = c.loop-next.invariant.issuing.count in let b = length-map c.loop-next.invariant.issuing.some Cmd in let d = c.loop-next.invariant.issuing.within in omega arith)
     c.requires.room c.loop-next.invariant.issuing.sent
 
 pub returns : goal.returns

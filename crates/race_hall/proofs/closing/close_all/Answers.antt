@@ -1,8 +1,8 @@
 use Rattle.std.proofs.Common.{length, ap, sym, rules, subst, arith, vec_capacity}
 use Rattle.std.specs.List.{AllByRecursion}
+use Rattle.std.proofs.lemmas.List.{nil_from_length}
 use Rattle.race_hall.specs.Crews.{AllClosed, IsRoomy}
-use Rattle.race_hall.proofs.Passing.{none-of}
-use Rattle.race_hall.proofs.Closes.{going-begins, going-next, going-more, going-ends, all-closed-more, none-closed, all-off}
+use Rattle.race_hall.proofs.ClosedCrews.{going-begins, going-next, going-more, going-ends, all-closed-more, none-closed, all-off}
 use Rattle.race_hall.proofs.closing.close_all.Goals as goal
 
 pub loop-lock-init : goal.loop-lock-init
@@ -62,4 +62,4 @@ loop-lock-preserved g c = (
 
 pub returns : goal.returns
 returns g c = λ course opening spare jobs count by.
-    going-ends _ (AllClosed course opening spare) jobs _ _ _ _ (c.loop-lock.invariant.2.going course opening spare jobs count by) (none-of c.loop-lock.lock-iterator.rest.items (search rules))
+    going-ends _ (AllClosed course opening spare) jobs _ _ _ _ (c.loop-lock.invariant.2.going course opening spare jobs count by) (nil_from_length c.loop-lock.lock-iterator.rest.items (search rules))

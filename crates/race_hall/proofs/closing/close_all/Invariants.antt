@@ -3,7 +3,7 @@ use Rattle.std.specs.List.{AllByRecursion}
 use Rattle.copy_workers.specs.declared.feeder_job.FeederJob.{FeederJob}
 use Rattle.race_hall.specs.Race.{Course, first_plan}
 use Rattle.race_hall.specs.Crews.{ByMirror, IsCrewDone, IsLockOf, AllClosed, IsRoomy}
-use Rattle.race_hall.proofs.Closes.{Going}
+use Rattle.race_hall.proofs.ClosedCrews.{Going}
 use Rattle.race_hall.proofs.closing.close_all.Given as goal
 
 abbrev pub invariant-loop-lock : goal.invariant-loop-lock

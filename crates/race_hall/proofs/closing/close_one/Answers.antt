@@ -1,5 +1,5 @@
 use Rattle.std.proofs.Common.{◌+◌, ℕ, ap, sym, ◌∙◌, arith}
-use Rattle.race_hall.proofs.Closes.{has-long, taken-crew, crew-own, never-none, closed-one}
+use Rattle.race_hall.proofs.ClosedCrews.{has-long, taken-crew, crew-own, never-none, closed-one}
 use Rattle.race_hall.proofs.closing.close_one.Goals as goal
 
 pub take_crew-seats-requires-clause-there : goal.take_crew-seats-requires-clause-there

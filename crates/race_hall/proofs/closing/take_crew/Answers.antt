@@ -1,5 +1,5 @@
 use Rattle.std.proofs.Common.{arith}
-use Rattle.race_hall.proofs.Posting.{taken-none, taken-left, taken-more}
+use Rattle.race_hall.proofs.CrewSeats.{taken-none, taken-left, taken-more}
 use Rattle.race_hall.proofs.closing.take_crew.Goals as goal
 
 pub loop-init : goal.loop-init

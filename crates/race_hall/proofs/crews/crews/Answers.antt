@@ -1,9 +1,11 @@
 use Rattle.std.proofs.Common.{◌≡◌, ◌+◌, ℕ, length, sym, rules, subst, arith}
+use Rattle.std.proofs.lemmas.List.{nil_from_length}
 use Rattle.race_hall.specs.Raced.{course_of}
 use Rattle.race_hall.specs.Crews.{IsFeederOf, IsCrew}
-use Rattle.race_hall.proofs.Passing.{parts-more, none-of}
-use Rattle.race_hall.proofs.Crewing.{zip-seam, by_mirror-long, by_mirror-none, by_mirror-pushed, by_mirror-whole}
+use Rattle.race_hall.proofs.Passing.{parts-more}
 use Rattle.race_hall.proofs.crews.crews.Goals as goal
+use Rattle.race_hall.proofs.Numbered.{numbered-at}
+use Rattle.race_hall.proofs.ByMirror.{by_mirror-long, by_mirror-none, by_mirror-pushed, by_mirror-whole}
 
 pub loop-feeder-init : goal.loop-feeder-init
 loop-feeder-init g c = (
@@ -16,7 +18,7 @@ loop-feeder-init g c = (
 pub man-requires-clause-feeder : goal.man-requires-clause-feeder
 man-requires-clause-feeder g c =
     let r = c.requires.feeders in
-    let at = zip-seam (IsFeederOf (course_of c.args.m.now) r.0) 0 c.args.m.now.mirrors c.args.feeders.items c.loop-feeder.yielded c.loop-feeder.feeder-iterator.rest.items c.next.new.self.rest.items c.in-Some.feeder
+    let at = numbered-at (IsFeederOf (course_of c.args.m.now) r.0) 0 c.args.m.now.mirrors c.args.feeders.items c.loop-feeder.yielded c.loop-feeder.feeder-iterator.rest.items c.next.new.self.rest.items c.in-Some.feeder
     r.2 c.loop-feeder.invariant.2 c.in-Some.ensures.steps.0 in
     subst (λ (n : ℕ). IsFeederOf (course_of c.args.m.now) n c.in-Some.feeder.mirror c.in-Some.feeder) (sym at.0.budget_is)
     (subst (λ (k : ℕ). IsFeederOf (course_of c.args.m.now) r.0 k c.in-Some.feeder) (sym at.0.mirror) at.0)
@@ -24,21 +26,21 @@ man-requires-clause-feeder g c =
 pub man-requires-clause-there : goal.man-requires-clause-there
 man-requires-clause-there g c =
     let r = c.requires.feeders in
-    let at = zip-seam (IsFeederOf (course_of c.args.m.now) r.0) 0 c.args.m.now.mirrors c.args.feeders.items c.loop-feeder.yielded c.loop-feeder.feeder-iterator.rest.items c.next.new.self.rest.items c.in-Some.feeder
+    let at = numbered-at (IsFeederOf (course_of c.args.m.now) r.0) 0 c.args.m.now.mirrors c.args.feeders.items c.loop-feeder.yielded c.loop-feeder.feeder-iterator.rest.items c.next.new.self.rest.items c.in-Some.feeder
     r.2 c.loop-feeder.invariant.2 c.in-Some.ensures.steps.0 in
     (let a = at.0.mirror in let b = at.1 in omega arith)
 
 pub man-requires-clause-budget : goal.man-requires-clause-budget
 man-requires-clause-budget g c =
     let r = c.requires.feeders in
-    let at = zip-seam (IsFeederOf (course_of c.args.m.now) r.0) 0 c.args.m.now.mirrors c.args.feeders.items c.loop-feeder.yielded c.loop-feeder.feeder-iterator.rest.items c.next.new.self.rest.items c.in-Some.feeder
+    let at = numbered-at (IsFeederOf (course_of c.args.m.now) r.0) 0 c.args.m.now.mirrors c.args.feeders.items c.loop-feeder.yielded c.loop-feeder.feeder-iterator.rest.items c.next.new.self.rest.items c.in-Some.feeder
     r.2 c.loop-feeder.invariant.2 c.in-Some.ensures.steps.0 in
     (let a = at.0.budget_is in let b = r.1 in omega arith)
 
 pub loop-feeder-preserved : goal.loop-feeder-preserved
 loop-feeder-preserved g c =
     let r = c.requires.feeders in
-    let at = zip-seam (IsFeederOf (course_of c.args.m.now) r.0) 0 c.args.m.now.mirrors c.args.feeders.items c.loop-feeder.yielded c.loop-feeder.feeder-iterator.rest.items c.next.new.self.rest.items c.in-Some.feeder
+    let at = numbered-at (IsFeederOf (course_of c.args.m.now) r.0) 0 c.args.m.now.mirrors c.args.feeders.items c.loop-feeder.yielded c.loop-feeder.feeder-iterator.rest.items c.next.new.self.rest.items c.in-Some.feeder
     r.2 c.loop-feeder.invariant.2 c.in-Some.ensures.steps.0 in
     let long = by_mirror-long _ 0 _ _ _ c.loop-feeder.invariant.3 in
     let manned = c.in_ok-lock.ensures.manned in
@@ -53,4 +55,4 @@ loop-feeder-preserved g c =
 pub returns : goal.returns
 returns g c =
     by_mirror-whole _ c.loop-feeder.locks.items c.args.feeders.items c.loop-feeder.yielded c.loop-feeder.feeder-iterator.rest.items _ c.loop-feeder.invariant.2
-    (none-of c.loop-feeder.feeder-iterator.rest.items (search rules)) c.loop-feeder.invariant.3
+    (nil_from_length c.loop-feeder.feeder-iterator.rest.items (search rules)) c.loop-feeder.invariant.3

@@ -1,18 +1,24 @@
-use Rattle.std.proofs.Common.{◌+◌, ℕ, List, length, ap, sym, ◌∙◌, subst, arith}
+use Rattle.std.proofs.Common.{◌+◌, ℕ, List, length, ap, sym, ◌∙◌, subst, arith, ◌≡◌}
+use Rattle.std.proofs.lemmas.List.{length-map}
+use Rattle.std.specs.List.{AllByRecursion}
 use Rattle.game_trait.specs.declared.command.Command.{Command}
 use Rattle.sync_model.specs.State.{MirrorState}
+use Rattle.sync_model.specs.Schedule.{Schedule, ticks_of_first, copies_of_first}
 use Rattle.match_file.specs.Data.{MatchData, IsMatch}
+use Rattle.match_file.proofs.Plans.{equal-ticks, equal-copies}
 use Rattle.race_hall.specs.Raced.{course_of}
 use Rattle.race_hall.specs.Crews.{shares_of}
-use Rattle.race_hall.proofs.Linings.{match-course, plan-short, few-commands, foreign-whole}
-use Rattle.race_hall.proofs.Crewing.{few-calls, few-grows, shares-long, equal-ticks, equal-copies, opens, manned-crew, runs-long}
+use Rattle.race_hall.proofs.Lining.{match-course, plan-short, few-commands, foreign-whole}
+use Rattle.race_hall.proofs.Manned.{few-calls, few-grows, shares-long, opens, manned-crew}
 use Rattle.race_hall.proofs.crews.man.Goals as goal
 
 pub new-requires-clause-equal_ticks : goal.new-requires-clause-equal_ticks
-new-requires-clause-equal_ticks g c = equal-ticks c.args.m.now c.args.plans.now c.requires.plans
+new-requires-clause-equal_ticks g c =
+    subst (λ (ps : List Schedule). AllByRecursion (λ plan. plan.length ≡ ticks_of_first ps) ps) (sym c.requires.plans) (equal-ticks c.args.m.now (subst IsMatch c.m.view_is c.m.invariant))
 
 pub new-requires-clause-equal_copies : goal.new-requires-clause-equal_copies
-new-requires-clause-equal_copies g c = equal-copies c.args.m.now c.args.plans.now (subst IsMatch c.m.view_is c.m.invariant) c.requires.plans
+new-requires-clause-equal_copies g c =
+    subst (λ (ps : List Schedule). AllByRecursion (λ plan. length plan.delays ≡ copies_of_first ps) ps) (sym c.requires.plans) (equal-copies c.args.m.now (subst IsMatch c.m.view_is c.m.invariant))
 
 pub shares-requires-clause-plan : goal.shares-requires-clause-plan
 shares-requires-clause-plan g c =
@@ -55,7 +61,7 @@ returns-clause-manned g c =
       manned =
           manned-crew g.G.Game.rules (λ s. s.seat) c.in_ok-mirror.mirror c.args.m.now _ c.args.feeder pushed.0 c.in_ok-lock.seats.items c.deref.result.now is c.requires.there c.requires.feeder c.requires.budget
           (ap (λ (s : MirrorState _). s.length) opened)
-          (ap (λ (s : MirrorState _). length s.runs) opened ∙ runs-long _ _ ∙ sym c.requires.feeder.copies)
+          (ap (λ (s : MirrorState _). length s.runs) opened ∙ length-map _ _ ∙ sym c.requires.feeder.copies)
           (c.deref.ensures.value ∙ c.in_ok-shares.ensures ∙ ap (λ (n : ℕ). shares_of c.args.feeder.copies c.args.feeder.budget n c.args.feeder.foreign) c.args.feeder.plan.ok.0)
           pushed.2 pushed.3 c.in_ok-lock.ensures.seats c.in_ok-lock.ensures.own c.in_ok-lock.ensures.fits;
     }

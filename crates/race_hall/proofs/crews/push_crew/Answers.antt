@@ -1,6 +1,6 @@
 use Rattle.std.proofs.Common.{◌≡◌, refl, ap, arith}
 use Rattle.race_hall.specs.declared.job.Work.TheVariants.{Copy}
-use Rattle.race_hall.proofs.Posting.{posted-none, posted-left, posted-more, posted-whole}
+use Rattle.race_hall.proofs.CrewSeats.{posted-none, posted-left, posted-more, posted-whole}
 use Rattle.race_hall.proofs.crews.push_crew.Goals as goal
 
 pub loop-copy-init : goal.loop-copy-init

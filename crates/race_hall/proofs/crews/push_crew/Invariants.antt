@@ -1,4 +1,4 @@
-use Rattle.race_hall.proofs.Posting.{Posted}
+use Rattle.race_hall.proofs.CrewSeats.{Posted}
 use Rattle.race_hall.proofs.crews.push_crew.Given as goal
 
 abbrev pub invariant-loop-copy : goal.invariant-loop-copy

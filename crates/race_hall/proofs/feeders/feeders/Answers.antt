@@ -4,13 +4,14 @@ use Rattle.std.proofs.lemmas.Result.{IfOk-weaker}
 use Rattle.match_file.specs.Data.{IsMatch}
 use Rattle.race_hall.specs.Raced.{course_of}
 use Rattle.race_hall.specs.Crews.{IsRoomOf}
-use Rattle.race_hall.proofs.Manning.{zip-all, zip-count-length}
-use Rattle.race_hall.proofs.Linings.{feeders-made}
+use Rattle.race_hall.proofs.Lining.{feeders-made}
 use Rattle.race_hall.proofs.feeders.feeders.Goals as goal
+use Rattle.race_hall.proofs.Numbered.{numbered-length}
+use Rattle.race_hall.proofs.Zips.{zip-all}
 
 pub make_links-requires-clause-few : goal.make_links-requires-clause-few
 make_links-requires-clause-few c =
-    let a = zip-count-length (IsRoomOf (course_of c.args.m.now)) 0 c.args.m.now.mirrors c.in_ok-plans.rooms.items c.in_ok-plans.ensures.rooms in
+    let a = numbered-length (IsRoomOf (course_of c.args.m.now)) 0 c.args.m.now.mirrors c.in_ok-plans.rooms.items c.in_ok-plans.ensures.rooms in
     let b = ap (λ (l : List ℕ). length l) c.deref.ensures.value in
     let d = (subst IsMatch c.m.view_is c.m.invariant).mirrors.1 in
     omega arith
@@ -24,12 +25,12 @@ make_links-requires-clause-rooms c =
 pub line_up-requires-clause-sends : goal.line_up-requires-clause-sends
 line_up-requires-clause-sends c =
     c.in_ok-sends.ensures.sends_count ∙ ap (λ (l : List ℕ). length l) c.deref.ensures.value
-    ∙ zip-count-length (IsRoomOf (course_of c.args.m.now)) 0 c.args.m.now.mirrors c.in_ok-plans.rooms.items c.in_ok-plans.ensures.rooms
+    ∙ numbered-length (IsRoomOf (course_of c.args.m.now)) 0 c.args.m.now.mirrors c.in_ok-plans.rooms.items c.in_ok-plans.ensures.rooms
 
 pub line_up-requires-clause-rows : goal.line_up-requires-clause-rows
 line_up-requires-clause-rows c =
     c.in_ok-sends.ensures.rows_count ∙ ap (λ (l : List ℕ). length l) c.deref.ensures.value
-    ∙ zip-count-length (IsRoomOf (course_of c.args.m.now)) 0 c.args.m.now.mirrors c.in_ok-plans.rooms.items c.in_ok-plans.ensures.rooms
+    ∙ numbered-length (IsRoomOf (course_of c.args.m.now)) 0 c.args.m.now.mirrors c.in_ok-plans.rooms.items c.in_ok-plans.ensures.rooms
 
 pub returns : goal.returns
 returns c =

@@ -4,13 +4,14 @@ use Rattle.game_trait.specs.Keys.{in_key_order}
 use Rattle.match_file.specs.Data.{MatchData, IsMatch}
 use Rattle.race_hall.specs.Raced.{course_of}
 use Rattle.race_hall.specs.Crews.{IsPlanOf, IsRoomOf}
-use Rattle.race_hall.proofs.Linings.{few-commands, plan-short, zip-none, zip-one-more}
+use Rattle.race_hall.proofs.Lining.{few-commands, plan-short}
 use Rattle.race_hall.proofs.feeders.plans_and_rooms.Goals as goal
+use Rattle.race_hall.proofs.Numbered.{numbered-none, numbered-more}
 
 pub loop-mirror-init : goal.loop-mirror-init
 loop-mirror-init c = record {
-  plans = zip-none (IsPlanOf (course_of c.args.m.now)) _ c.new-plans.ensures.items;
-  rooms = zip-none (IsRoomOf (course_of c.args.m.now)) _ c.new-rooms.ensures.items;
+  plans = numbered-none (IsPlanOf (course_of c.args.m.now)) _ c.new-plans.ensures.items;
+  rooms = numbered-none (IsRoomOf (course_of c.args.m.now)) _ c.new-rooms.ensures.items;
 }
 
 pub overflow_cast-len : goal.overflow_cast-len
@@ -44,9 +45,9 @@ loop-mirror-preserved c =
     let plan : c.in_ok-plan.plan.items ≡ in_key_order (filter (λ x. x.from == c.loop-mirror.mirror) m.commands) =
     c.in_ok-plan.ensures ∙ ap (λ (l : List Command). in_key_order (filter (λ x. x.from == c.loop-mirror.mirror) l)) (c.as_slice.ensures.commands ∙ ap (λ (d : MatchData). d.commands) c.m.view_is) in
     record {
-      plans = zip-one-more (IsPlanOf (course_of m)) c.loop-mirror.mirror _ _ c.in_ok-plan.plan c.loop-mirror.invariant.plans c.in_ok-push-2.ensures.items plan;
+      plans = numbered-more (IsPlanOf (course_of m)) c.loop-mirror.mirror _ _ c.in_ok-plan.plan c.loop-mirror.invariant.plans c.in_ok-push-2.ensures.items plan;
       rooms =
-          zip-one-more (IsRoomOf (course_of m)) c.loop-mirror.mirror _ _ _ c.loop-mirror.invariant.rooms c.in_ok-push.ensures.items
+          numbered-more (IsRoomOf (course_of m)) c.loop-mirror.mirror _ _ _ c.loop-mirror.invariant.rooms c.in_ok-push.ensures.items
           (let a = ap (λ (l : List Command). length l) plan in
           let e = c.len.ensures in
           let f = c.in_ok-plan.plan.ok.0 in

@@ -3,7 +3,7 @@ use Rattle.std.specs.declared.alloc.Global.{Global}
 use Rattle.std.proofs.lemmas.List.{with_items_is}
 use Rattle.link_ring.specs.declared.send.LinkSend.{LinkSend}
 use Rattle.race_hall.specs.Making.{IsRowMade, AreLinksTo}
-use Rattle.race_hall.proofs.Made.{links-more}
+use Rattle.race_hall.proofs.MadeLinks.{links-more}
 use Rattle.race_hall.proofs.making.make_links.Goals as goal
 
 pub loop-mirror-preserved : goal.loop-mirror-preserved

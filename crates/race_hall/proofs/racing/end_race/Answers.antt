@@ -5,10 +5,10 @@ use Rattle.race_hall.specs.Race.{Course}
 use Rattle.race_hall.specs.Finish.{EndsAtFold}
 use Rattle.race_hall.specs.Holding.{AreJoined}
 use Rattle.race_hall.specs.Crews.{IsFeederOf}
-use Rattle.race_hall.proofs.Manning.{zip-count-length}
-use Rattle.race_hall.proofs.Crewing.{by_mirror-long}
 use Rattle.race_hall.proofs.Ending.{ready, closed-count, ends-count, each-index}
 use Rattle.race_hall.proofs.racing.end_race.Goals as goal
+use Rattle.race_hall.proofs.Numbered.{numbered-length}
+use Rattle.race_hall.proofs.ByMirror.{by_mirror-long}
 
 pub close_all-mirrors-requires-clause-crews : goal.close_all-mirrors-requires-clause-crews
 close_all-mirrors-requires-clause-crews g c = (let r = c.requires.ended in (r.0, r.1, length r.0.commands, r.3, r.4.copies_are, r.5))
@@ -26,7 +26,7 @@ finish_joined-requires-clause-room g c =
     let closed = c.close_all-mirrors.ensures r.0 r.1 (length r.0.commands) r.3 r.4.copies_are r.5 in
     let count = ends-count r.0 r.1 r.2 c.args.copies r.3 _ _ r.4 closed in
     let locks = by_mirror-long _ 0 _ _ _ r.5 in
-    let jobs = zip-count-length (IsFeederOf r.0 r.2) 0 r.0.mirrors r.3 r.4.feeders.each in
+    let jobs = numbered-length (IsFeederOf r.0 r.2) 0 r.0.mirrors r.3 r.4.feeders.each in
     let a = c.close_all-mirrors.result.1.ok.0 in
     let b = c.args.locks.ok.0 in
     let room = c.requires.room in

@@ -3,11 +3,11 @@ use Rattle.match_file.specs.Data.{MatchData, IsMatch}
 use Rattle.race_hall.specs.Raced.{course_of}
 use Rattle.race_hall.specs.Jobs.{Ends}
 use Rattle.race_hall.specs.Crews.{IsFeederOf, IsManned}
-use Rattle.race_hall.proofs.Linings.{match-course}
-use Rattle.race_hall.proofs.Manning.{by_mirror-zip, zip-count-length}
-use Rattle.race_hall.proofs.Crewing.{by_mirror-long}
-use Rattle.race_hall.proofs.Ending.{by_mirror-with, by_mirror-few, all-can, crew-done}
+use Rattle.race_hall.proofs.Lining.{match-course}
+use Rattle.race_hall.proofs.Ending.{all-can, crew-done}
 use Rattle.race_hall.proofs.racing.race_with.Goals as goal
+use Rattle.race_hall.proofs.Numbered.{numbered-length}
+use Rattle.race_hall.proofs.ByMirror.{by_mirror-zip, by_mirror-long, by_mirror-with, by_mirror-few}
 
 pub do_jobs-ends-requires-clause-can : goal.do_jobs-ends-requires-clause-can
 do_jobs-ends-requires-clause-can g c = λ κs q. all-can _ _ _ _ _ _ _ _ c.deref.ensures.value c.in_ok-locks.ensures
@@ -18,9 +18,9 @@ do_jobs-ends-requires-clause-few g c =
     let is = subst IsMatch c.m.view_is c.m.invariant in
     let with = by_mirror-with (IsFeederOf (course_of m) c.args.budget) _ 0 m.mirrors _ _ _ c.in_ok-feeders.ensures.each c.in_ok-locks.ensures in
     let few = by_mirror-few _ 0 _ _ _
-    (λ i y z piece h. (let a = zip-count-length (IsManned (λ s. s.seat) g.G.Game.rules z.copies i _ z) 0 (z.copies + 1) piece h.1.0 in let b = h.0.copies in let d = is.delays.few_copies in omega arith)) with in
+    (λ i y z piece h. (let a = numbered-length (IsManned (λ s. s.seat) g.G.Game.rules z.copies i _ z) 0 (z.copies + 1) piece h.1.0 in let b = h.0.copies in let d = is.delays.few_copies in omega arith)) with in
     let locks = by_mirror-long _ 0 _ _ _ c.in_ok-locks.ensures in
-    let feeders = zip-count-length (IsFeederOf (course_of m) c.args.budget) 0 m.mirrors c.in_ok-feeders.feeders.items c.in_ok-feeders.ensures.each in
+    let feeders = numbered-length (IsFeederOf (course_of m) c.args.budget) 0 m.mirrors c.in_ok-feeders.feeders.items c.in_ok-feeders.ensures.each in
     let most = is.mirrors.1 in
     let v = c.in_ok-locks.jobs.ok.0 in
     omega arith

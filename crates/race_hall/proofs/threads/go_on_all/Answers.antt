@@ -1,5 +1,6 @@
 use Rattle.std.proofs.Common.{length, ap, rules, arith}
-use Rattle.race_hall.proofs.Passing.{passed-more, passed-next, passed-begin, passed-end, none-of}
+use Rattle.std.proofs.lemmas.List.{nil_from_length}
+use Rattle.race_hall.proofs.Passing.{passed-more, passed-next, passed-begin, passed-end}
 use Rattle.race_hall.proofs.threads.go_on_all.Goals as goal
 
 pub go_on-requires : goal.go_on-requires
@@ -34,4 +35,4 @@ loop-one-preserved g c = (
 
 pub returns : goal.returns
 returns g c = λ jobs zip.
-    passed-end _ _ jobs c.loop-one.going.items c.loop-one.one-iterator.rest.items (none-of c.loop-one.one-iterator.rest.items (search rules)) (c.loop-one.invariant.2.passed jobs zip)
+    passed-end _ _ jobs c.loop-one.going.items c.loop-one.one-iterator.rest.items (nil_from_length c.loop-one.one-iterator.rest.items (search rules)) (c.loop-one.invariant.2.passed jobs zip)

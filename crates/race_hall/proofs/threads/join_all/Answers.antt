@@ -1,12 +1,14 @@
 use Rattle.std.proofs.Common.{length, ap, rules, arith}
-use Rattle.race_hall.proofs.Passing.{passed-more, passed-next, passed-begin, passed-end, none-of, every}
+use Rattle.std.proofs.lemmas.List.{nil_from_length}
+use Rattle.race_hall.proofs.Passing.{passed-more, passed-next, passed-begin, passed-end}
 use Rattle.race_hall.proofs.threads.join_all.Goals as goal
+use Rattle.race_hall.proofs.Lists.{all-of}
 
 pub join_one-requires : goal.join_one-requires
 join_one-requires g c =
     let next =
     passed-next _ _ (λ job. Unit {0}) c.requires.going.0 c.loop-one.ends.items c.in-Some.one c.next.new.self.rest.items c.loop-one.one-iterator.rest.items
-    c.in-Some.ensures.steps.0 (every c.requires.going.0) (c.loop-one.invariant.2.passed c.requires.going.0 c.requires.going.1) in
+    c.in-Some.ensures.steps.0 (all-of _ c.requires.going.0 (λ task. tt)) (c.loop-one.invariant.2.passed c.requires.going.0 c.requires.going.1) in
     (next.with, next.is)
 
 pub loop-one-init : goal.loop-one-init
@@ -34,4 +36,4 @@ loop-one-preserved g c = (
 
 pub returns : goal.returns
 returns g c = λ jobs zip.
-    passed-end _ _ jobs c.loop-one.ends.items c.loop-one.one-iterator.rest.items (none-of c.loop-one.one-iterator.rest.items (search rules)) (c.loop-one.invariant.2.passed jobs zip)
+    passed-end _ _ jobs c.loop-one.ends.items c.loop-one.one-iterator.rest.items (nil_from_length c.loop-one.one-iterator.rest.items (search rules)) (c.loop-one.invariant.2.passed jobs zip)

@@ -4,7 +4,7 @@ use Rattle.mirror_lock.specs.declared.calls.LockReply.TheVariants.{Commit as ToC
 use Rattle.mirror_lock.specs.Locked.{mirror_rules}
 use Rattle.turn_lock.specs.Views.{view, FitsSeat}
 use Rattle.race_hall.specs.Posting.{drawn_by}
-use Rattle.race_hall.proofs.Posts.{readied-none}
+use Rattle.race_hall.proofs.Posting.{readied-none}
 use Rattle.race_hall.proofs.post.PostOverMirrorLockMirrorSeatDraftPost.commit.Goals as goal
 
 pub commit-requires-clause-fits : goal.commit-requires-clause-fits

@@ -4,7 +4,7 @@ use Rattle.mirror_lock.specs.declared.calls.LockReply.TheVariants.{Draft as ToDr
 use Rattle.turn_lock.specs.Views.{view, FitsSeat}
 use Rattle.mirror_lock.specs.Locked.{mirror_rules}
 use Rattle.game_trait.specs.declared.event.Event.TheVariants.{Step}
-use Rattle.race_hall.proofs.Posts.{copy-told, draft-fits, drawn-more, readied-draft}
+use Rattle.race_hall.proofs.Posting.{copy-told, draft-fits, drawn-more, readied-draft}
 use Rattle.race_hall.proofs.post.PostOverMirrorLockMirrorSeatDraftPost.draft.Goals as goal
 
 pub draft-requires-clause-fits : goal.draft-requires-clause-fits

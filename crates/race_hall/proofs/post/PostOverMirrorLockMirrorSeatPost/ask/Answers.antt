@@ -3,7 +3,7 @@ use Rattle.mirror_lock.specs.declared.calls.LockCall.TheVariants.{Event}
 use Rattle.mirror_lock.specs.declared.calls.LockReply.TheVariants.{Event as ToEvent}
 use Rattle.turn_lock.specs.Views.{view, FitsSeat}
 use Rattle.mirror_lock.specs.Locked.{mirror_rules}
-use Rattle.race_hall.proofs.Posts.{kind-told, readied-none}
+use Rattle.race_hall.proofs.Posting.{kind-told, readied-none}
 use Rattle.race_hall.proofs.post.PostOverMirrorLockMirrorSeatPost.ask.Goals as goal
 
 pub invariant_of-self : goal.invariant_of-self

@@ -1,36 +1,23 @@
 -- Making links, one after the other.
-use Rattle.std.proofs.Common.{◌≡◌, ◌≢◌, ℕ, zero, suc, ◌+◌, ◌-◌, ◌<◌, ◌≤◌, Bool, true, false, cond, not, ◌&&◌, ◌⊎◌, inl, inr, List, [], ◌∷◌, ◌++◌, length, get_or, set, refl, ap, sym, ◌∙◌, subst, append_assoc, Vec, arith}
+use Rattle.std.proofs.Common.{◌≡◌, ◌≢◌, ℕ, ◌+◌, ◌-◌, ◌<◌, ◌≤◌, Bool, true, false, cond, not, ◌&&◌, ◌⊎◌, inl, inr, List, [], ◌∷◌, ◌++◌, length, get_or, set, refl, ap, sym, ◌∙◌, subst, append_assoc, Vec, arith, append-nil}
 use Rattle.std.specs.Prelude.{◌==◌, nat_lt}
 use Rattle.std.specs.declared.alloc.Global.{Global}
 use Rattle.std.specs.List.{AllByRecursion, AllZip}
 use Rattle.std.proofs.Math.ListN.{length-append}
 use Rattle.std.proofs.lemmas.Bool.Decides.{nat_tests}
-use Rattle.std.proofs.lemmas.List.{get_or-set_other, get_or-set_same, get_or_default, length-set}
+use Rattle.std.proofs.lemmas.List.{get_or-set_other, get_or-set_same, get_or_default, length-set, get_or_append_left, get_or_push}
 use Rattle.link_ring.specs.declared.send.LinkSend.{LinkSend}
 use Rattle.link_ring.specs.declared.receive.LinkReceive.{LinkReceive}
 use Rattle.link_ring.specs.Ends.{IsLink}
 use Rattle.copy_workers.proofs.Lists.{all-append}
 use Rattle.race_hall.specs.Looking.{sender_at, place_at, IsLinkedAt, IsRowLinked}
-use Rattle.race_hall.specs.Making.{IsNewSend, IsNewReceive, IsJoined, long_at, is_visited, IsLonger, AreMade, IsRowMade, IsRow, AreLinksTo, AreEmpty}
-use Rattle.race_hall.proofs.Looks.{zip-same, zip-change, zip-long, zip-get, sender-below}
-
-append-none : {X : Type 0} (l : List X) → l ++ [] ≡ l
-append-none [] = refl
-append-none {X} (x ∷ xs) = ap (λ (m : List X). x ∷ m) (append-none xs)
-
-get-first : {X : Type 0} (xs ys : List X) (i : ℕ) (d : X) → i < length xs → get_or (xs ++ ys) i d ≡ get_or xs i d
-get-first [] ys i d below = absurd (omega arith)
-get-first (x ∷ xs) ys zero d below = refl
-get-first (x ∷ xs) ys (suc i) d below = get-first xs ys i d (omega arith)
-
-get-last : {X : Type 0} (xs : List X) (x d : X) (i : ℕ) → i ≡ length xs → get_or (xs ++ x ∷ []) i d ≡ x
-get-last [] x d zero e = refl
-get-last [] x d (suc i) e = absurd (omega arith)
-get-last (y ∷ xs) x d zero e = absurd (omega arith)
-get-last (y ∷ xs) x d (suc i) e = get-last xs x d i (omega arith)
+use Rattle.race_hall.specs.Making.{IsNewSend, IsNewReceive, IsJoined, long_at, is_visited, IsLonger, AreMade, IsRowMade, IsRow, AreLinksTo}
+use Rattle.race_hall.proofs.Looks.{sender-below}
+use Rattle.race_hall.proofs.Zips.{zip-same, zip-change, zip-get}
+use Rattle.sync_model.proofs.Lists.{zip-length}
 
 longer-same : (a : Vec LinkSend Global) → IsLonger a a
-longer-same a = record { more = []; parts = sym (append-none a.items) }
+longer-same a = record { more = []; parts = sym (append-nil a.items) }
 
 longer-trans : (a b c : Vec LinkSend Global) → IsLonger a b → IsLonger b c → IsLonger a c
 longer-trans a b c h k = record { more = h.more ++ k.more; parts = k.parts ∙ ap (λ (l : List LinkSend). l ++ k.more) h.parts ∙ append_assoc a.items h.more k.more }
@@ -40,7 +27,7 @@ pub linked-longer : (place : ℕ) (a b : Vec LinkSend Global) (r : LinkReceive) 
 linked-longer place a b r h k =
     record {
       below = (let d = ap (λ (l : List LinkSend). length l) h.parts in let e = length-append a.items h.more in let f = k.below in omega arith);
-      linked = λ s e. k.linked s (e ∙ ap (λ (l : List LinkSend). get_or l place s) h.parts ∙ get-first a.items h.more place s k.below);
+      linked = λ s e. k.linked s (e ∙ ap (λ (l : List LinkSend). get_or l place s) h.parts ∙ get_or_append_left a.items h.more s place k.below);
     }
 
 pub row-begins : (m : ℕ) (rooms : List ℕ) (sends : List (Vec LinkSend Global)) → AreMade rooms (long_at m) sends → (row : List LinkReceive) → row ≡ [] → IsRowMade m 0 rooms sends sends row
@@ -227,10 +214,10 @@ row-more m j k rooms first now row next d new which below joined made =
               (let less : i < j = grind (arith, nat_tests) in
               let rises = sender-less m i j less in
               let other : sender_at m i ≢ k = (λ q. omega arith) in
-              before i r v (omega arith) (at ∙ ap (λ (l : List LinkReceive). get_or l i r) receives ∙ get-first row (receive ∷ []) i r (omega arith)) (from ∙ get_or-set_other now k (sender_at m i) new v other))
+              before i r v (omega arith) (at ∙ ap (λ (l : List LinkReceive). get_or l i r) receives ∙ get_or_append_left row (receive ∷ []) r i (omega arith)) (from ∙ get_or-set_other now k (sender_at m i) new v other))
           | false ↦ λ e.
               (let last : i ≡ j = grind (arith, nat_tests) in
-              let is_r : r ≡ receive = at ∙ ap (λ (l : List LinkReceive). get_or l i r) receives ∙ get-last row receive r i (omega arith) in
+              let is_r : r ≡ receive = at ∙ ap (λ (l : List LinkReceive). get_or l i r) receives ∙ get_or_push row receive r i (omega arith) in
               let is_k : sender_at m i ≡ k = ap (sender_at m) last ∙ sym which in
               let is_v : v ≡ new = from ∙ ap (λ (n : ℕ). get_or (set now k new) n v) is_k ∙ get_or-set_same now k new v below in
               let place : place_at m i ≡ length (get_or now k d).items = ap (place_at m) last ∙ sym here in
@@ -238,54 +225,16 @@ row-more m j k rooms first now row next d new which below joined made =
               let plus = length-append (get_or now k d).items (send ∷ []) in
               let there : IsLinkedAt (place_at m i) new.items receive = record {
                 below = omega arith;
-                linked = λ s t. subst (λ (u : LinkSend). IsLink u receive) (sym (t ∙ ap (λ (l : List LinkSend). get_or l (place_at m i) s) sends ∙ get-last (get_or now k d).items send s (place_at m i) place)) link;
+                linked = λ s t. subst (λ (u : LinkSend). IsLink u receive) (sym (t ∙ ap (λ (l : List LinkSend). get_or l (place_at m i) s) sends ∙ get_or_push (get_or now k d).items send s (place_at m i) (sym place))) link;
               } in
               subst (λ (u : Vec LinkSend Global). IsLinkedAt (place_at m i) u.items r) (sym is_v) (subst (λ (q : LinkReceive). IsLinkedAt (place_at m i) new.items q) (sym is_r) there))
         ]
         refl
 
--- so many empty lists
-pub empty-begins : (xs : List (Vec LinkSend Global)) → xs ≡ [] → AreEmpty 0 xs
-empty-begins xs none = record {
-  count_of = ap (λ (l : List (Vec LinkSend Global)). length l) none;
-  empty = λ k v below at. absurd (let a = ap (λ (l : List (Vec LinkSend Global)). length l) none in omega arith);
-}
-
-pub empty-more : (n : ℕ) (xs ys : List (Vec LinkSend Global)) (v : Vec LinkSend Global) → ys ≡ xs ++ v ∷ [] → v.items ≡ [] → AreEmpty n xs → AreEmpty (n + 1) ys
-empty-more n xs ys v more none e =
-    let long = ap (λ (l : List (Vec LinkSend Global)). length l) more in
-    let plus = length-append xs (v ∷ []) in
-    record {
-      count_of = (let a = e.count_of in omega arith);
-      empty = λ k u below at.
-          elim (nat_lt k (length xs)) as (λ b. nat_lt k (length xs) ≡ b → u.items ≡ []) [
-            | true ↦ λ t. (let low : k < length xs = grind (arith, nat_tests) in
-                e.empty k u low (at ∙ ap (λ (l : List (Vec LinkSend Global)). get_or l k u) more ∙ get-first xs (v ∷ []) k u low))
-            | false ↦ λ t. (let last : k ≡ length xs = (let h : length xs ≤ k = grind (arith, nat_tests) in omega arith) in
-                ap (λ (w : Vec LinkSend Global). w.items) (at ∙ ap (λ (l : List (Vec LinkSend Global)). get_or l k u) more ∙ get-last xs v u k last) ∙ none)
-          ]
-          refl;
-    }
-
--- no link is made yet
-pub links-begin : (rooms : List ℕ) (sends : List (Vec LinkSend Global)) (rows : List (Vec LinkReceive Global)) → AreEmpty (length rooms) sends → rows ≡ [] → AreLinksTo 0 rooms sends rows
-links-begin rooms sends rows e none = record {
-  sends_count = e.count_of;
-  rows_count = ap (λ (l : List (Vec LinkReceive Global)). length l) none;
-  made = record {
-    lengths = λ k v below at. ap (λ (l : List LinkSend). length l) (e.empty k v below at) ∙ zero-long k;
-    new = λ k v below at. subst (AllByRecursion (IsNewSend (get_or rooms k 0))) (sym (e.empty k v below at)) tt;
-  };
-  each = λ m v low at. absurd (omega arith);
-}
-  where
-    zero-long : (k : ℕ) → 0 ≡ long_at 0 k
-    zero-long k = (let f : nat_lt k 0 ≡ false = grind (arith, nat_tests) in rw f refl)
-
 -- a row that stood goes on standing
 row-longer : (m : ℕ) (first now : List (Vec LinkSend Global)) (row : List LinkReceive) → length row + 1 ≡ length first → AllZip IsLonger first now → IsRowLinked m first row → IsRowLinked m now row
 row-longer m first now row count longer linked j r v low at from =
-    let long = zip-long IsLonger first now longer in
+    let long = zip-length IsLonger first now longer in
     let there : sender_at m j < length now = sender-below m j (length row) (length now) (sender_at m j) low (omega arith) refl in
     let pair = zip-get IsLonger first now (sender_at m j) v longer there in
     let old = linked j r (get_or first (sender_at m j) v) low at (get_or_default first (sender_at m j) v (get_or first (sender_at m j) v) (omega arith)) in
@@ -335,11 +284,11 @@ links-more m rooms sends now rows next row there same r more links =
           elim (nat_lt i m) as (λ b. nat_lt i m ≡ b → IsRow i rooms now v.items) [
             | true ↦ λ e.
                 (let less : i < m = grind (arith, nat_tests) in
-                let old = links.each i v less (at ∙ ap (λ (l : List (Vec LinkReceive Global)). get_or l i v) more ∙ get-first rows (row ∷ []) i v (omega arith)) in
+                let old = links.each i v less (at ∙ ap (λ (l : List (Vec LinkReceive Global)). get_or l i v) more ∙ get_or_append_left rows (row ∷ []) v i (omega arith)) in
                 record { count = old.count; linked = row-longer i sends now v.items (let a = old.count in omega arith) r.longer old.linked; new = old.new })
             | false ↦ λ e.
                 (let last : m ≡ i = grind (arith, nat_tests) in
-                let is : v ≡ row = at ∙ ap (λ (l : List (Vec LinkReceive Global)). get_or l i v) more ∙ get-last rows row v i (omega arith) in
+                let is : v ≡ row = at ∙ ap (λ (l : List (Vec LinkReceive Global)). get_or l i v) more ∙ get_or_push rows row v i (omega arith) in
                 let here : IsRow m rooms now row.items = record { count = (let a = r.count in omega arith); linked = r.linked; new = r.new_row } in
                 subst (λ (u : Vec LinkReceive Global). IsRow i rooms now u.items) (sym is) (subst (λ (n : ℕ). IsRow n rooms now row.items) last here))
           ]

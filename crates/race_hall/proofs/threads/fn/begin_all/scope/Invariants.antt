@@ -1,7 +1,7 @@
 use Rattle.std.proofs.Common.{◌≡◌, ◌≤◌, ◌++◌, length, vec_capacity}
 use Rattle.std.specs.List.{AllZip}
 use Rattle.race_hall.specs.Begun.{IsBegun}
-use Rattle.race_hall.proofs.threads.fn.do_all.scope.Given as goal
+use Rattle.race_hall.proofs.threads.fn.begin_all.scope.Given as goal
 
 abbrev pub invariant-loop-task : goal.invariant-loop-task
 invariant-loop-task g l =

@@ -11,6 +11,7 @@ use Rattle.link_ring.specs.declared.send.LinkSend.{LinkSend}
 use Rattle.link_ring.specs.declared.receive.LinkReceive.{LinkReceive}
 use Rattle.link_ring.specs.Ends.{sent_of, received_of, waiting_of}
 use Rattle.sync_model.specs.State.{MirrorState}
+use Rattle.sync_model.proofs.Lists.{zip-length}
 use Rattle.copy_workers.specs.Messages.{messages}
 use Rattle.copy_workers.specs.Sending.{UpTo}
 use Rattle.copy_workers.proofs.Along.{up_to-same, up_to-length}
@@ -21,11 +22,12 @@ use Rattle.race_hall.specs.Finish.{to_deliver, finished, CanTake, EndsAtFold}
 use Rattle.race_hall.specs.Held.{left_in, unissued_in}
 use Rattle.race_hall.specs.Looking.{sender_at, SameReceived, SameSends, IsRowLinked, AllSent, IsWholeTo}
 use Rattle.race_hall.specs.Holding.{Holding, IsHeldAt, IsOneHeld, AreHeld}
-use Rattle.race_hall.proofs.Joined.{front_of, zip-through, joined-raced}
+use Rattle.race_hall.proofs.Joined.{front_of, joined-raced}
 use Rattle.race_hall.proofs.Held.{deliver-held}
-use Rattle.race_hall.proofs.Known.{nothing-late}
+use Rattle.race_hall.proofs.NothingLate.{nothing-late}
 use Rattle.race_hall.proofs.Fold.{raced-ends}
-use Rattle.race_hall.proofs.Looks.{zip-long, zip-get, all-sent-later, linked-later}
+use Rattle.race_hall.proofs.Looks.{all-sent-later, linked-later}
+use Rattle.race_hall.proofs.Zips.{zip-get, zip-through, zip-turned}
 
 -- the senders of a mirror's links, link by link
 seq : ℕ → ℕ → ℕ → List ℕ
@@ -87,12 +89,6 @@ left-at : (m : ℕ) (row : List LinkReceive) (j : ℕ) (r : LinkReceive) → j <
 unfolding left_of
 left-at m row j r below here = sym (get-waiting row j r below here) ∙ ap (λ (i : ℕ). get_or (map (λ q. waiting_of q) row) i []) (sym (place-back m j))
 
-zip-turned : (P : LinkReceive → LinkReceive → Type 0) (xs ys : List LinkReceive) → AllZip P xs ys → AllZip (λ y x. P x y) ys xs
-zip-turned P [] [] h = tt
-zip-turned P [] (y ∷ ys) h = absurd h
-zip-turned P (x ∷ xs) [] h = absurd h
-zip-turned P (x ∷ xs) (y ∷ ys) h = (h.0, zip-turned P xs ys h.1)
-
 -- one mirror whose links were looked at
 pub record Looked {W : Type 0} (h : Holding W) (m : ℕ) (s : MirrorState W) (row : List LinkReceive) (senders : List Sender) : Type 0 where
   pub left : ℕ → List Message
@@ -106,7 +102,7 @@ pub looked :
 looked {W} h m s sends row now senders one same whole =
     let c = h.course in
     let n = h.course.mirrors in
-    let long = zip-long SameReceived row now same in
+    let long = zip-length SameReceived row now same in
     let count : length now + 1 ≡ h.course.mirrors = (let a = one.here.count in omega arith) in
     let sent = whole (λ k. messages (plan_of h.course k) (h.end k).marked) one.race.sent in
     let left = left_of m now in
@@ -115,7 +111,7 @@ looked {W} h m s sends row now senders one same whole =
     (λ j r below here. sym (sent j r (omega arith) here) ∙ ap (λ (l : List Message). received_of r ++ l) (left-at m now j r below here)) in
     let before : AllZip (λ k r. messages (plan_of h.course k) (h.end k).marked ≡ received_of r ++ left_of m now k) (others h.course.mirrors m) row =
     zip-through (λ k r. messages (plan_of h.course k) (h.end k).marked ≡ received_of r ++ left_of m now k) (λ r q. SameReceived q r) (λ k r. messages (plan_of h.course k) (h.end k).marked ≡ received_of r ++ left_of m now k)
-    (λ k r q e t. e ∙ ap (λ (l : List Message). l ++ left_of m now k) t.received) (others h.course.mirrors m) now row parts (zip-turned SameReceived row now same) in
+    (others h.course.mirrors m) now row (λ k r q e t. e ∙ ap (λ (l : List Message). l ++ left_of m now k) t.received) parts (zip-turned SameReceived row now same) in
     let waiting = zip-places m h.course.mirrors (λ k r. waiting_of r ≡ left_of m now k) now one.here.there count (λ j r below here. left-at m now j r below here) in
     record {
       left = left_of m now;
@@ -141,14 +137,14 @@ looked-ends {W} rules h m s t sends row now senders one l end =
 -- after other mirrors were finished
 pub all_sent-later : (sent : ℕ → List Message) (first now : List (Vec LinkSend Global)) → AllSent sent first → AllZip SameSends first now → AllSent sent now
 all_sent-later sent first now all same k v below here =
-    let long = zip-long SameSends first now same in
+    let long = zip-length SameSends first now same in
     let old = all k (get_or first k v) (omega arith) (get_or_default first k v (get_or first k v) (omega arith)) in
     let pair = zip-get SameSends first now k v same below in
     subst (λ (u : Vec LinkSend Global). AllByRecursion (λ s. sent_of s ≡ sent k) u.items) (sym here) (all-sent-later (sent k) (get_or first k v).items (get_or now k v).items old pair)
 
 pub row_linked-later : (m : ℕ) (first now : List (Vec LinkSend Global)) (row : List LinkReceive) → (length row + 1 ≡ length first) → IsRowLinked m first row → AllZip SameSends first now → IsRowLinked m now row
 row_linked-later m first now row count linked same j r v below here there =
-    let long = zip-long SameSends first now same in
+    let long = zip-length SameSends first now same in
     let low : sender_at m j < length now = sender-low m j (length row) (length now) below (omega arith) in
     let old = linked j r (get_or first (sender_at m j) v) below here (get_or_default first (sender_at m j) v (get_or first (sender_at m j) v) (omega arith)) in
     let pair = zip-get SameSends first now (sender_at m j) v same low in
@@ -165,7 +161,7 @@ pub still-held : {W : Type 0} (h : Holding W) (m : ℕ) (mirrors0 mirrors : List
 still-held {W} h m mirrors0 mirrors sends0 sends rows0 rows senders d e row held same upto rest below is =
     let r = held.race in
     let long = up_to-length (λ a b. Unit {0}) m mirrors0 mirrors upto in
-    let far = zip-long SameSends sends0 sends same in
+    let far = zip-length SameSends sends0 sends same in
     let there : m < h.course.mirrors = (let a = held.mirrors_count in omega arith) in
     let mirror : get_or mirrors0 m d ≡ get_or mirrors m d = up_to-same (λ a b. Unit {0}) m mirrors0 mirrors d upto in
     let link : get_or rows0 m e ≡ get_or rows m e = up_to-same (λ a b. Unit {0}) m rows0 rows e rest in

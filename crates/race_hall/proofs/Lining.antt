@@ -1,9 +1,9 @@
 -- The feeders' jobs: their plans, and the links among them.
-use Rattle.std.proofs.Common.{◌≡◌, ℕ, zero, suc, ◌+◌, ◌-◌, ◌<◌, ◌≤◌, Bool, true, false, cond, List, [], ◌∷◌, ◌++◌, ◌^◌, map, filter, length, take, get_or, refl, ap, sym, ◌∙◌, subst, append_assoc, Vec, arith}
+use Rattle.std.proofs.Common.{◌≡◌, ℕ, zero, suc, ◌+◌, ◌<◌, ◌≤◌, Bool, true, false, cond, List, [], ◌∷◌, ◌++◌, ◌^◌, map, filter, length, take, get_or, ap, sym, ◌∙◌, subst, append_assoc, Vec, arith}
 use Rattle.std.specs.Prelude.{remove, ◌==◌, if◌then◌else◌}
 use Rattle.std.specs.declared.alloc.Global.{Global}
 use Rattle.std.specs.List.{AllByRecursion, AllZip}
-use Rattle.std.proofs.lemmas.List.{get_or_default}
+use Rattle.std.proofs.lemmas.List.{get_or_default, map-append, length-map}
 use Rattle.std.proofs.Math.ListN.{length-append}
 use Rattle.game_trait.specs.declared.command.Command.{Command}
 use Rattle.game_trait.specs.declared.limits.TheConstants.{MOST_COMMANDS}
@@ -11,32 +11,30 @@ use Rattle.game_trait.specs.Count.{times}
 use Rattle.game_trait.specs.Keys.{NamesDiffer}
 use Rattle.game_trait.proofs.KeyOrder.{NamesDiffer-filter}
 use Rattle.game_trait.proofs.Lengths.{length-in_key_order}
+use Rattle.game_trait.proofs.Lists.{all-weaker, all-take}
+use Rattle.game_trait.proofs.Counts.{times-all}
 use Rattle.match_file.specs.Data.{MatchData, IsMatch, IsCommand}
 use Rattle.match_file.specs.declared.versions.TheConstants.{MOST_COMMANDS_IN_2}
 use Rattle.link_ring.specs.declared.send.LinkSend.{LinkSend}
 use Rattle.link_ring.specs.declared.receive.LinkReceive.{LinkReceive}
 use Rattle.copy_workers.specs.declared.feeder_job.FeederJob.{FeederJob}
 use Rattle.copy_workers.specs.Sending.{MaySend}
+use Rattle.copy_workers.proofs.Lists.{total-agree}
 use Rattle.link_ring.specs.Ends.{misses_of}
 use Rattle.race_hall.specs.Race.{Course, IsCourse, plan_of, count_from, others, foreign_of}
 use Rattle.race_hall.specs.Raced.{course_of}
 use Rattle.race_hall.specs.Making.{IsNewSend, IsNewReceive, AreLinksTo}
 use Rattle.race_hall.specs.Lining.{HasPlan, Lines, AreLinedUp}
 use Rattle.race_hall.specs.Crews.{IsRoomOf, IsFeederOf, AreFeeders}
-use Rattle.race_hall.proofs.Plans.{weaker, plans-count, total-others}
-use Rattle.race_hall.proofs.Lists.{total-same}
-use Rattle.race_hall.proofs.Joins.{zip-count, map-long}
-use Rattle.race_hall.proofs.Manning.{zip-get, zip-count-length, zip-count-more, zip-first}
+use Rattle.race_hall.proofs.Plans.{plans-count, total-others}
+use Rattle.race_hall.proofs.Numbered.{numbered-length, numbered-get, numbered-each}
 
 -- a match gives a course
-all-same : {X : Type 0} (P Q : X → Type 0) (xs : List X) → ((x : X) → P x → Q x) → AllByRecursion P xs → AllByRecursion Q xs
-all-same P Q xs step h = weaker P Q xs step h
-
 pub match-course : (m : MatchData) → IsMatch m → IsCourse (course_of m)
 match-course m is = record {
   names = is.commands_differ;
-  within = all-same (IsCommand m) (λ x. x.time < m.length) m.commands (λ x h. h.time) is.commands;
-  from = all-same (IsCommand m) (λ x. x.from < m.mirrors) m.commands (λ x h. h.from) is.commands;
+  within = all-weaker (IsCommand m) (λ x. x.time < m.length) m.commands (λ x h. h.time) is.commands;
+  from = all-weaker (IsCommand m) (λ x. x.from < m.mirrors) m.commands (λ x h. h.from) is.commands;
   some_copy = is.delays.some_copy;
   rise = is.delays.delays_rise;
   pace = is.pace;
@@ -60,31 +58,17 @@ pub plan-short : (c : Course) (k : ℕ) → length (plan_of c k) ≤ length c.co
 plan-short c k = (let a = length-in_key_order (filter (λ x. x.from == k) c.commands) in let b = filter-short (λ x. x.from == k) c.commands in omega arith)
 
 -- what isn't a mirror's own is foreign
-length-times : {X : Type 0} (xs : List X) → length xs ≡ times (λ _. true) xs
-unfolding times
-length-times [] = refl
-length-times (x ∷ xs) = (let rest = length-times xs in omega arith)
-
-each-of : {X : Type 0} (P : X → Type 0) (xs : List X) → ((x : X) → P x) → AllByRecursion P xs
-each-of P [] h = tt
-each-of P (x ∷ xs) h = (h x, each-of P xs h)
-
 pub foreign-whole : (c : Course) (m : ℕ) → AllByRecursion (λ x. x.from < c.mirrors) c.commands → m < c.mirrors → foreign_of c m + length (plan_of c m) ≡ length c.commands
 foreign-whole c m from below =
     let f = λ (k : ℕ). times (λ (x : Command). true) (plan_of c k) in
     let whole = plans-count (λ (x : Command). true) c from in
     let apart = total-others f c.mirrors m below in
-    let same = total-same (λ (k : ℕ). length (plan_of c k)) f (others c.mirrors m) (each-of (λ (k : ℕ). length (plan_of c k) ≡ f k) (others c.mirrors m) (λ k. length-times (plan_of c k))) in
-    let own = length-times (plan_of c m) in
-    let all = length-times c.commands in
+    let same = total-agree (λ (k : ℕ). length (plan_of c k)) f (others c.mirrors m) (λ k. sym (times-all (plan_of c k))) in
+    let own = times-all (plan_of c m) in
+    let all = times-all c.commands in
     omega arith
 
 -- the names of the first commands differ
-all-take : {X : Type 0} (P : X → Type 0) (n : ℕ) (xs : List X) → AllByRecursion P xs → AllByRecursion P (take n xs)
-all-take P zero xs h = tt
-all-take P (suc n) [] h = tt
-all-take P (suc n) (x ∷ xs) h = (h.0, all-take P n xs h.1)
-
 pub differ-take : (n : ℕ) (xs : List Command) → NamesDiffer xs → NamesDiffer (take n xs)
 unfolding NamesDiffer
 differ-take zero xs h = tt
@@ -95,43 +79,19 @@ pub differ-own : (p : Command → Bool) (n : ℕ) (commands plan sorted : List C
 differ-own p n commands plan sorted differ is same =
     subst NamesDiffer (sym (same ∙ is)) (NamesDiffer-filter p (take n commands) (differ-take n commands differ))
 
--- lists whose elements are right by their numbers
-pub zip-none : {X : Type 0} (P : ℕ → X → Type 0) (xs : List X) → xs ≡ [] → AllZip P (count_from 0 0) xs
-unfolding count_from
-zip-none P xs none = subst (λ l. AllZip P [] l) (sym none) tt
-
-pub zip-one-more : {X : Type 0} (P : ℕ → X → Type 0) (n : ℕ) (xs now : List X) (x : X) → AllZip P (count_from 0 n) xs → now ≡ xs ++ x ∷ [] → P n x → AllZip P (count_from 0 (n + 1)) now
-zip-one-more P n xs now x h pushed one =
-    let e : suc n ≡ n + 1 = omega arith in
-    let at : n ≡ 0 + n = omega arith in
-    subst (λ (k : ℕ). AllZip P (count_from 0 k) now) e
-    (subst (λ l. AllZip P (count_from 0 (suc n)) l) (sym pushed) (zip-count-more P 0 n xs x h (subst (λ (k : ℕ). P k x) at one)))
-
--- the first of them is taken off
-pub zip-off : {X : Type 0} (P : ℕ → X → Type 0) (i n : ℕ) (xs now : List X) (v : X) → AllZip P (count_from i n) xs → 0 < n → v ≡ get_or xs 0 v → now ≡ remove xs 0 → P i v × AllZip P (count_from (i + 1) (n - 1)) now
-zip-off P i zero xs now v h some e off = absurd (omega arith)
-zip-off P i (suc n) xs now v h some e off =
-    let both = zip-first P i n xs v h e in
-    let less : n ≡ suc n - 1 = omega arith in
-    (both.0, subst (λ (k : ℕ). AllZip P (count_from (i + 1) k) now) less (subst (λ l. AllZip P (count_from (i + 1) n) l) (sym off) both.1))
-
 -- a list of which the first are mapped, and the next one
 pub off-front : {X : Type 0} (front left now whole : List X) (v : X) → front ++ left ≡ whole → 0 < length left → v ≡ get_or left 0 v → now ≡ remove left 0 → (front ++ v ∷ []) ++ now ≡ whole
 off-front front [] now whole v parts some e off = absurd (omega arith)
 off-front {X} front (x ∷ left) now whole v parts some e off =
     ap (λ (l : List X). (front ++ v ∷ []) ++ l) off ∙ append_assoc front (v ∷ []) left ∙ ap (λ (y : X). front ++ y ∷ left) e ∙ parts
 
-map-push : {X Y : Type 0} (f : X → Y) (xs : List X) (x : X) → map f (xs ++ x ∷ []) ≡ map f xs ++ f x ∷ []
-map-push f [] x = refl
-map-push {X} {Y} f (y ∷ xs) x = ap (λ (l : List Y). f y ∷ l) (map-push f xs x)
-
 pub front-more : {X Y : Type 0} (f : X → Y) (xs next : List X) (left now whole : List Y) (x : X)
     → map f xs ++ left ≡ whole → 0 < length left → f x ≡ get_or left 0 (f x) → now ≡ remove left 0 → next ≡ xs ++ x ∷ [] → map f next ++ now ≡ whole
 front-more {X} {Y} f xs next left now whole x parts some e off pushed =
-    ap (λ (l : List Y). l ++ now) (ap (λ (l : List X). map f l) pushed ∙ map-push f xs x) ∙ off-front (map f xs) left now whole (f x) parts some e off
+    ap (λ (l : List Y). l ++ now) (ap (λ (l : List X). map f l) pushed ∙ map-append f xs (x ∷ [])) ∙ off-front (map f xs) left now whole (f x) parts some e off
 
 pub front-left : {X Y : Type 0} (f : X → Y) (xs : List X) (left whole : List Y) → map f xs ++ left ≡ whole → length xs + length left ≡ length whole
-front-left {X} {Y} f xs left whole parts = (let a = length-append (map f xs) left in let b = map-long f xs in let d = ap (λ (l : List Y). length l) parts in omega arith)
+front-left {X} {Y} f xs left whole parts = (let a = length-append (map f xs) left in let b = length-map xs f in let d = ap (λ (l : List Y). length l) parts in omega arith)
 
 pub lines-begin : (sends : List (Vec LinkSend Global)) (rows : List (Vec LinkReceive Global)) (jobs : List FeederJob) → jobs ≡ [] → Lines sends sends rows rows jobs
 lines-begin sends rows jobs none = record {
@@ -162,13 +122,13 @@ feeder-of : (m : MatchData) (budget : ℕ) (rooms : List ℕ) (sends left : List
     → AllZip (HasPlan (course_of m) budget) (count_from 0 m.mirrors) jobs → Lines sends left rows rows_left jobs
     → (k : ℕ) (job : FeederJob) → k < length jobs → job ≡ get_or jobs k job → IsFeederOf (course_of m) budget k job
 feeder-of m budget rooms sends left rows rows_left jobs is rooms_are made each lines k job below here =
-    let jobs_long = zip-count-length (HasPlan (course_of m) budget) 0 m.mirrors jobs each in
-    let rooms_long = zip-count-length (IsRoomOf (course_of m)) 0 m.mirrors rooms rooms_are in
+    let jobs_long = numbered-length (HasPlan (course_of m) budget) 0 m.mirrors jobs each in
+    let rooms_long = numbered-length (IsRoomOf (course_of m)) 0 m.mirrors rooms rooms_are in
     let low : k < m.mirrors = omega arith in
     let at : 0 + k ≡ k = omega arith in
-    let has = subst (λ (i : ℕ). HasPlan (course_of m) budget i job) at (zip-get (HasPlan (course_of m) budget) 0 m.mirrors jobs k job each low here) in
+    let has = subst (λ (i : ℕ). HasPlan (course_of m) budget i job) at (numbered-get (HasPlan (course_of m) budget) 0 m.mirrors jobs k job each low here) in
     let room_at : get_or rooms k 0 ≡ get_or rooms k (get_or rooms k 0) = get_or_default rooms k 0 (get_or rooms k 0) (omega arith) in
-    let room = subst (λ (i : ℕ). IsRoomOf (course_of m) i (get_or rooms k 0)) at (zip-get (IsRoomOf (course_of m)) 0 m.mirrors rooms k (get_or rooms k 0) rooms_are low room_at) in
+    let room = subst (λ (i : ℕ). IsRoomOf (course_of m) i (get_or rooms k 0)) at (numbered-get (IsRoomOf (course_of m)) 0 m.mirrors rooms k (get_or rooms k 0) rooms_are low room_at) in
     let sends_long = made.sends_count in
     let new = made.made.new k job.sends (omega arith) (map-at (λ (j : FeederJob). j.sends) jobs left sends k job lines.sends_are below here) in
     let row = made.each k job.receives (omega arith) (map-at (λ (j : FeederJob). j.receives) jobs rows_left rows k job lines.rows_are below here) in
@@ -183,12 +143,12 @@ feeder-of m budget rooms sends left rows rows_left jobs is rooms_are made each l
         length = has.length_is;
         pace = has.pace;
         foreign = (let a = foreign-whole (course_of m) k (match-course m is).from low in let b = has.foreign in omega arith);
-        sends = weaker (IsNewSend (get_or rooms k 0)) (λ s. _) job.sends.items (λ s n. n.sent) new;
-        receives = weaker IsNewReceive (λ r. _) job.receives.items (λ r n. n.received) row.new;
+        sends = all-weaker (IsNewSend (get_or rooms k 0)) (λ s. _) job.sends.items (λ s n. n.sent) new;
+        receives = all-weaker IsNewReceive (λ r. _) job.receives.items (λ r n. n.received) row.new;
       };
-      room = weaker (IsNewSend (get_or rooms k 0)) (MaySend (length job.plan.items + job.stagger.length)) job.sends.items
+      room = all-weaker (IsNewSend (get_or rooms k 0)) (MaySend (length job.plan.items + job.stagger.length)) job.sends.items
           (λ s n. record { room = (let a = ap (λ l. length l) n.sent in let b = n.room_is in omega arith) }) new;
-      misses = weaker IsNewReceive (λ r. misses_of r < 2 ^ 63) job.receives.items (λ r n. (let a = n.misses in omega arith)) row.new;
+      misses = all-weaker IsNewReceive (λ r. misses_of r < 2 ^ 63) job.receives.items (λ r n. (let a = n.misses in omega arith)) row.new;
       seven = (let a = row.count in let b = is.mirrors.1 in omega arith);
     }
 
@@ -197,11 +157,11 @@ pub feeders-made : (m : MatchData) (budget : ℕ) (rooms whole : List ℕ) (send
     → AreLinedUp (course_of m) budget sends rows m.mirrors jobs → AreFeeders (course_of m) budget jobs
 feeders-made m budget rooms whole sends rows jobs is rooms_are same links lined =
     let made = subst (λ (l : List ℕ). AreLinksTo (length l) l sends rows) same links in
-    let long = zip-count-length (HasPlan (course_of m) budget) 0 m.mirrors jobs lined.each in
+    let long = numbered-length (HasPlan (course_of m) budget) 0 m.mirrors jobs lined.each in
     record {
       each =
           subst (λ (n : ℕ). AllZip (IsFeederOf (course_of m) budget) (count_from 0 n) jobs) long
-          (zip-count (IsFeederOf (course_of m) budget) 0 jobs (λ k job below here.
+          (numbered-each (IsFeederOf (course_of m) budget) 0 jobs (λ k job below here.
           (let at : k ≡ 0 + k = omega arith in
           subst (λ (i : ℕ). IsFeederOf (course_of m) budget i job) at
           (feeder-of m budget rooms sends lined.sends_left rows lined.rows_left jobs is rooms_are made lined.each lined.lines k job below here))));
@@ -209,7 +169,7 @@ feeders-made m budget rooms whole sends rows jobs is rooms_are same links lined 
         rooms = rooms;
         sends = sends;
         rows = rows;
-        count = zip-count-length (IsRoomOf (course_of m)) 0 m.mirrors rooms rooms_are;
+        count = numbered-length (IsRoomOf (course_of m)) 0 m.mirrors rooms rooms_are;
         made = made;
         sends_left = lined.sends_left;
         rows_left = lined.rows_left;

@@ -1,33 +1,14 @@
-use Rattle.std.proofs.Common.{refl, ap, sym, ◌∙◌, subst, arith, Vec, vec_capacity}
+use Rattle.std.proofs.Common.{refl, ap, ◌∙◌, arith, Vec, vec_capacity}
 use Rattle.race_hall.specs.Begun.{IsBegun}
-use Rattle.race_hall.proofs.Passing.{more-room, can-here, begun-more, parts-more, length-more}
-use Rattle.race_hall.proofs.threads.fn.do_all.scope.Goals as goal
-use Rattle.race_hall.proofs.threads.fn.do_all.scope.Goals.{then-inline-number-eq1, else-inline-number-eq1, in-Ok, in-Err}
+use Rattle.race_hall.proofs.Passing.{more-room, begun-more, parts-more, length-more}
+use Rattle.race_hall.proofs.threads.fn.begin_all.scope.Goals as goal
+use Rattle.race_hall.proofs.threads.fn.begin_all.scope.Goals.{then-inline-number-eq1, else-inline-number-eq1}
 
 pub push_reserved-requires : goal.push_reserved-requires
 push_reserved-requires g c =
     let v = c.loop-task.invariant.2 in
     (let a = more-room _ c.into_iter-task-iterator.result.rest.items c.loop-task.yielded c.loop-task.task-iterator.rest.items c.next.new.self.rest.items c.in-Some.task c.loop-task.begun.items (vec_capacity c.loop-task.begun)
     v.parts c.in-Some.ensures.steps.0 v.begun v.room in let b = c.loop-task.begun.ok.0 in omega arith)
-
-pub spawn_with-requires-clause-runs : goal.spawn_with-requires-clause-runs
-spawn_with-requires-clause-runs g c = λ κs q.
-    can-here (g.D.Doer.can c.captures.doer.now) c.captures.tasks.items c.into_iter-task-iterator.result.rest.items c.loop-task.yielded c.loop-task.task-iterator.rest.items c.next.new.self.rest.items c.in-Some.task
-    c.requires.0 c.into_iter-task-iterator.ensures.into_iter_gives.0 c.loop-task.invariant.2.parts c.in-Some.ensures.steps.0
-
-pub spawn_with-requires-in-Err : goal.spawn_with-requires-in-Err
-spawn_with-requires-in-Err g c = λ κs q. (
-  q.0,
-  (
-    q.1.0,
-    (
-      q.1.1,
-      subst (λ f. g.D.Doer.can f.0.now f.1) (sym c.in-Err.ensures.err)
-          (can-here (g.D.Doer.can c.captures.doer.now) c.captures.tasks.items c.into_iter-task-iterator.result.rest.items c.loop-task.yielded c.loop-task.task-iterator.rest.items c.next.new.self.rest.items c.in-Some.task
-          c.requires.0 c.into_iter-task-iterator.ensures.into_iter_gives.0 c.loop-task.invariant.2.parts c.in-Some.ensures.steps.0),
-    ),
-  ),
-)
 
 pub push_reserved-requires-else-inline-number-eq1 : goal.push_reserved-requires-else-inline-number-eq1
 push_reserved-requires-else-inline-number-eq1 g c =
@@ -50,14 +31,8 @@ loop-task-preserved g c =
                   begun-more (IsBegun (λ h. h.promise.task.value) g.J.Task.ends) c.loop-task.yielded c.in-Some.task c.loop-task.begun.items c.if-inline-number-eq1.begun.items _
                   (ap (λ (l : Vec _ _). l.items) w.begun-is ∙ w.push_reserved.ensures.items) v.begun refl
               | else-inline-number-eq1 w ↦
-                  begun-more (IsBegun (λ h. h.promise.task.value) g.J.Task.ends) c.loop-task.yielded c.in-Some.task c.loop-task.begun.items c.if-inline-number-eq1.begun.items w.match-spawn_with.next
-                  (ap (λ (l : Vec _ _). l.items) w.begun-is ∙ w.push_reserved-else-inline-number-eq1.ensures.items) v.begun
-                  (elim w.match-spawn_with.branch [
-                    | in-Ok x ↦ subst (IsBegun (λ h. h.promise.task.value) g.J.Task.ends c.in-Some.task) (sym x.next-is) (ap (λ p. p.task.value) x.in-Ok.ensures.ok ∙ w.of.ensures)
-                    | in-Err x ↦
-                        subst (IsBegun (λ h. h.promise.task.value) g.J.Task.ends c.in-Some.task) (sym x.next-is)
-                        (subst (λ f. g.J.Task.ends f.1 x.spawn_with-in-Err.result) x.in-Err.ensures.err x.spawn_with-in-Err.ensures)
-                  ])
+                  begun-more (IsBegun (λ h. h.promise.task.value) g.J.Task.ends) c.loop-task.yielded c.in-Some.task c.loop-task.begun.items c.if-inline-number-eq1.begun.items w.begin.result
+                  (ap (λ (l : Vec _ _). l.items) w.begun-is ∙ w.push_reserved-else-inline-number-eq1.ensures.items) v.begun w.begin.ensures
             ];
         number = number;
         room =

@@ -91,10 +91,6 @@ module _ {W : Type 0} (game : GameRules W) where
   state-pairs [] s h = refl
   state-pairs (e ∷ log) s h = state-pairs log (next_locked s e.call) h.2 ∙ sym (call-state s e.call e.reply (pairs_in log) h.1)
 
--- entries of one seat, and those behind them
-entry_of : ℕ → Asked → Entry
-entry_of seat p = record { seat = seat; pair = p }
-
 block-pairs : (n : ℕ) (ps : List Asked) (rest : List Entry) → pairs_of (map (λ p. record { seat = n; pair = p }) ps ++ rest) ≡ ps ++ pairs_of rest
 block-pairs n [] rest = refl
 block-pairs n (p ∷ ps) rest = ap (λ (l : List Asked). p ∷ l) (block-pairs n ps rest)

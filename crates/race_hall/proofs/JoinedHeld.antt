@@ -2,7 +2,7 @@
 use Rattle.std.proofs.Common.{◌≡◌, ℕ, zero, suc, ◌+◌, ◌<◌, List, [], ◌∷◌, map, length, get_or, refl, ap, sym, ◌∙◌, subst, Vec, arith}
 use Rattle.std.specs.declared.alloc.Global.{Global}
 use Rattle.std.specs.List.{AllByRecursion, AllZip}
-use Rattle.std.proofs.lemmas.List.{get_or_default}
+use Rattle.std.proofs.lemmas.List.{get_or_default, length-map}
 use Rattle.game_trait.specs.declared.command.Command.{Command}
 use Rattle.link_ring.specs.declared.send.LinkSend.{LinkSend}
 use Rattle.link_ring.specs.declared.receive.LinkReceive.{LinkReceive}
@@ -19,23 +19,12 @@ use Rattle.race_hall.specs.Looking.{sender_at, place_at, IsLinkedAt}
 use Rattle.race_hall.specs.Holding.{Holding, AreHeld, AreJoined}
 use Rattle.race_hall.proofs.Joined.{fed-sent}
 use Rattle.race_hall.proofs.Looks.{sender-below}
-
-pub map-long : {X Y : Type 0} (f : X → Y) (xs : List X) → length (map f xs) ≡ length xs
-map-long f [] = refl
-map-long f (x ∷ xs) = ap suc (map-long f xs)
+use Rattle.race_hall.proofs.Numbered.{numbered-each}
 
 map-get : {X Y : Type 0} (f : X → Y) (xs : List X) (i : ℕ) (d : X) (v : Y) → i < length xs → v ≡ get_or (map f xs) i v → v ≡ f (get_or xs i d)
 map-get f [] i d v below here = absurd (omega arith)
 map-get f (x ∷ xs) zero d v below here = here
 map-get f (x ∷ xs) (suc i) d v below here = map-get f xs i d v (omega arith) here
-
-pub zip-count : {X : Type 0} (P : ℕ → X → Type 0) (i : ℕ) (xs : List X) → ((j : ℕ) (x : X) → j < length xs → x ≡ get_or xs j x → P (i + j) x) → AllZip P (count_from i (length xs)) xs
-unfolding count_from
-zip-count P i [] each = tt
-zip-count P i (x ∷ xs) each = (
-  (let e : i + 0 ≡ i = omega arith in subst (λ (k : ℕ). P k x) e (each 0 x (omega arith) refl)),
-  zip-count P (i + 1) xs (λ j y below here. (let e : i + suc j ≡ i + 1 + j = omega arith in subst (λ (k : ℕ). P k y) e (each (suc j) y (omega arith) here))),
-)
 
 end-is : {W : Type 0} (h : Holding W) (mirrors : List (MirrorState W)) (ends : List FeederEnd) → AreJoined h mirrors ends
     → (k : ℕ) → k < h.course.mirrors → get_or ends k (h.end k) ≡ h.end k
@@ -52,9 +41,9 @@ pub joined-held : {W : Type 0} (h : Holding W) (mirrors : List (MirrorState W)) 
     → AreHeld h mirrors (map (λ e. e.sends) ends) (map (λ e. e.receives) ends) (map sender_of_end ends)
 joined-held {W} h mirrors ends a =
     let count = a.ends_count in
-    let sends_long = map-long (λ (e : FeederEnd). e.sends) ends in
-    let rows_long = map-long (λ (e : FeederEnd). e.receives) ends in
-    let senders_long = map-long sender_of_end ends in
+    let sends_long = length-map ends (λ (e : FeederEnd). e.sends) in
+    let rows_long = length-map ends (λ (e : FeederEnd). e.receives) in
+    let senders_long = length-map ends sender_of_end in
     record {
       race = record {
         fit = a.fit;
@@ -68,7 +57,7 @@ joined-held {W} h mirrors ends a =
             (fed-sent h.course k (h.job k) (h.end k) (own (h.seat k) (h.history k)) (a.fed k (omega arith)));
         each =
             subst (λ (n : ℕ). AllZip (IsSenderOf h.course (λ k. (h.end k).marked)) (count_from 0 n) (map sender_of_end ends)) (senders_long ∙ count)
-            (zip-count (IsSenderOf h.course (λ k. (h.end k).marked)) 0 (map sender_of_end ends) (λ j one below here.
+            (numbered-each (IsSenderOf h.course (λ k. (h.end k).marked)) 0 (map sender_of_end ends) (λ j one below here.
             (let k : 0 + j ≡ j = omega arith in
             let low : j < h.course.mirrors = omega arith in
             let is : one ≡ sender_of_end (h.end j) = at-end sender_of_end h mirrors ends a j one low here in

@@ -1,12 +1,14 @@
 -- Closing the locks of a race, one after the other.
-use Rattle.std.proofs.Common.{◌≡◌, ℕ, zero, suc, ◌+◌, ◌<◌, ◌≤◌, List, [], ◌∷◌, ◌++◌, map, length, get_or, refl, ap, sym, ◌∙◌, subst, append_assoc, arith}
+use Rattle.std.proofs.Common.{◌≡◌, ℕ, suc, ◌+◌, ◌<◌, ◌≤◌, List, [], ◌∷◌, ◌++◌, map, length, get_or, refl, ap, sym, ◌∙◌, subst, append_assoc, arith, append-nil}
 use Rattle.std.specs.Prelude.{Option, Some, None, remove}
 use Rattle.std.specs.List.{All, AllByRecursion, AllZip}
 use Rattle.std.proofs.Math.ListN.{length-append}
 use Rattle.std.proofs.lemmas.List.Elements.{All-from_recursion}
+use Rattle.std.proofs.lemmas.List.{map-append}
 use Rattle.atomic_table.specs.Seated.{TableId}
 use Rattle.atomic_table.specs.declared.shared.Seat.{Seat}
 use Rattle.game_trait.specs.Game.{Rules as GameRules}
+use Rattle.game_trait.proofs.Lists.{all-to_map, all-append}
 use Rattle.sync_model.specs.State.{MirrorState}
 use Rattle.turn_lock.specs.declared.view.View.{View}
 use Rattle.turn_lock.specs.Views.{view, member_of}
@@ -24,12 +26,12 @@ use Rattle.race_hall.specs.Joined.{Closed}
 use Rattle.race_hall.specs.Posting.{asked_by}
 use Rattle.race_hall.specs.Closing.{DidAs, AllDid}
 use Rattle.race_hall.specs.Crews.{ByMirror, IsDone, IsCrewDone, HasCrew, IsTakenBack, IsClosed, AllClosed, last_feeder}
-use Rattle.race_hall.proofs.Closings.{closes}
-use Rattle.race_hall.proofs.Lists.{all-to_map, same-head, same-tail}
-use Rattle.race_hall.proofs.Plans.{count-push}
-use Rattle.race_hall.proofs.Passing.{append-none}
-use Rattle.race_hall.proofs.Manning.{zip-parted, zip-all, zip-count-length, all-both}
-use Rattle.race_hall.proofs.Posting.{last-of-push}
+use Rattle.race_hall.proofs.ClosedLock.{closes}
+use Rattle.race_hall.proofs.Lists.{same-head, same-tail}
+use Rattle.race_hall.proofs.CrewSeats.{last-of-push}
+use Rattle.race_hall.proofs.Numbered.{numbered-length, count-push, numbered-below}
+use Rattle.race_hall.proofs.Zips.{zip-parted, zip-all}
+use mathlib.Core.List.{map-map}
 
 -- the first of a list, and the others
 pub all-off : {X : Type 0} (C : X → Type 0) (xs : List X) (v : X) → AllByRecursion C xs → v ≡ get_or xs 0 v → 0 < length xs → C v × AllByRecursion C (remove xs 0)
@@ -44,22 +46,6 @@ same-parts (x ∷ f) [] a b e long = absurd (omega arith)
 same-parts {X} (x ∷ f) (y ∷ g) a b e long =
     let more = same-parts f g a b (same-tail x y (f ++ a) (g ++ b) e) (omega arith) in
     (ap (λ (z : X). z ∷ f) (same-head x y (f ++ a) (g ++ b) e) ∙ ap (λ (l : List X). y ∷ l) more.0, more.1)
-
-map-twice : {X Y Z : Type 0} (f : X → Y) (g : Y → Z) (xs : List X) → map g (map f xs) ≡ map (λ x. g (f x)) xs
-map-twice f g [] = refl
-map-twice {X} {Y} {Z} f g (x ∷ xs) = ap (λ (l : List Z). g (f x) ∷ l) (map-twice f g xs)
-
-map-append : {X Y : Type 0} (f : X → Y) (xs ys : List X) → map f (xs ++ ys) ≡ map f xs ++ map f ys
-map-append f [] ys = refl
-map-append {X} {Y} f (x ∷ xs) ys = ap (λ (l : List Y). f x ∷ l) (map-append f xs ys)
-
--- what holds of those below a number
-zip-below : {X : Type 0} (P : ℕ → X → Type 0) (C : X → Type 0) (i n : ℕ) (xs : List X) → ((j : ℕ) (x : X) → j < i + n → P j x → C x) → AllZip P (count_from i n) xs → AllByRecursion C xs
-unfolding count_from
-zip-below P C i zero [] step h = tt
-zip-below P C i zero (x ∷ xs) step h = absurd h
-zip-below P C i (suc n) [] step h = absurd h
-zip-below P C i (suc n) (x ∷ xs) step h = (step i x (omega arith) h.0, zip-below P C (i + 1) n xs (λ j y low k. step j y (omega arith) k) h.1)
 
 -- the ends of a crew, the last of which is the feeder's
 pub record Lasted {X : Type 0} (P : ℕ → X → Type 0) (n : ℕ) (xs : List X) : Type 0 where
@@ -85,7 +71,7 @@ crew-last {X} P n xs h =
 module _ {T S W : Type 0} (seat_of : T → Seat S (View (MirrorState W) (LockCall W) (LockReply W))) where
   pub has-long : (copies : ℕ) (name : TableId) (job : FeederJob) (ends rest : List (EndOver T)) → HasCrew seat_of copies name job ends rest → copies + 1 ≤ length ends
   has-long copies name job ends rest h =
-      (let a = ap (λ (l : List (EndOver T)). length l) h.parts in let b = length-append h.crew rest in let d = zip-count-length (IsDone seat_of copies name job) 0 (copies + 1) h.crew h.done in omega arith)
+      (let a = ap (λ (l : List (EndOver T)). length l) h.parts in let b = length-append h.crew rest in let d = numbered-length (IsDone seat_of copies name job) 0 (copies + 1) h.crew h.done in omega arith)
 
   -- the crew was taken
   pub taken-crew :
@@ -93,7 +79,7 @@ module _ {T S W : Type 0} (seat_of : T → Seat S (View (MirrorState W) (LockCal
       (h : HasCrew seat_of copies name job ends rest) → IsTakenBack n ends after seats given → n ≡ copies + 1
       → (after ≡ rest) × (seats ≡ map (λ e. e.seat) h.crew) × (given ≡ last_feeder h.crew)
   taken-crew copies n name job ends rest after seats given h t count =
-      let long = zip-count-length (IsDone seat_of copies name job) 0 (copies + 1) h.crew h.done in
+      let long = numbered-length (IsDone seat_of copies name job) 0 (copies + 1) h.crew h.done in
       let same = same-parts t.gone h.crew after rest (sym t.parts ∙ h.parts) (t.count_is ∙ count ∙ sym long) in
       (same.1, t.seats_are ∙ ap (λ (l : List (EndOver T)). map (λ e. e.seat) l) same.0, t.given_is ∙ ap (λ (l : List (EndOver T)). last_feeder l) same.0)
 
@@ -138,8 +124,8 @@ module _ {T S W : Type 0} (seat_of : T → Seat S (View (MirrorState W) (LockCal
           each =
               all-to_map (DidAs copies asked) (λ e. view (seat_of e.seat)) crew
               (subst (AllByRecursion (λ e. DidAs copies asked (view (seat_of e.seat)))) (sym l.parts)
-              (all-both (λ e. DidAs copies asked (view (seat_of e.seat))) l.front (l.last ∷ [])
-              (zip-below (IsDone seat_of copies name job) (λ e. DidAs copies asked (view (seat_of e.seat))) 0 copies l.front (λ j e low d. did-below copies name job asked j e (omega arith) d) l.fronts)
+              (all-append (λ e. DidAs copies asked (view (seat_of e.seat))) l.front (l.last ∷ [])
+              (numbered-below (IsDone seat_of copies name job) (λ e. DidAs copies asked (view (seat_of e.seat))) 0 copies l.front (λ j e low d. did-below copies name job asked j e (omega arith) d) l.fronts)
               (record { fed = λ is. refl; stepped = λ differ. absurd (differ l.is.number) }, tt)));
           last = view (seat_of l.last.seat);
           there = record {
@@ -163,8 +149,8 @@ module _ {T S W : Type 0} (seat_of : T → Seat S (View (MirrorState W) (LockCal
       let did = all-did copies name job end crew done given in
       let views : map (λ x. member_of (view (seat_of x))) seats ≡ map (λ v. member_of v) (map (λ e. view (seat_of e.seat)) crew) =
       ap (λ (l : List T). map (λ x. member_of (view (seat_of x))) l) seats_are
-      ∙ map-twice (λ e. e.seat) (λ x. member_of (view (seat_of x))) crew
-      ∙ sym (map-twice (λ e. view (seat_of e.seat)) (λ v. member_of v) crew) in
+      ∙ map-map (λ x. member_of (view (seat_of x))) (λ e. e.seat) crew
+      ∙ sym (map-map (λ v. member_of v) (λ e. view (seat_of e.seat)) crew) in
       let closed = closes game c opening spare copies did.0 (map (λ e. view (seat_of e.seat)) crew) o s begins (subst (λ l. EndsAs game o l s) views ends) did.1 in
       record {
         history = closed.history;
@@ -238,7 +224,7 @@ module _ {X Y Z E M : Type 0} (Is : ℕ → Y → Z → List X → Type 0) (Clos
   pub going-ends : (jobs : List Z) (ends : List E) (mirrors : List M) (locks : List Y) (rest : List X) → Going Is Closed jobs ends mirrors locks rest → locks ≡ [] → Closed jobs ends mirrors
   going-ends jobs ends mirrors locks rest p none =
       let left = none-later p.number p.left rest (subst (λ (l : List Y). ByMirror Is p.number l p.left rest) none p.later) in
-      subst (λ (l : List Z). Closed l ends mirrors) (sym (p.parts ∙ ap (λ (l : List Z). p.gone ++ l) left ∙ append-none p.gone)) p.closed
+      subst (λ (l : List Z). Closed l ends mirrors) (sym (p.parts ∙ ap (λ (l : List Z). p.gone ++ l) left ∙ append-nil p.gone)) p.closed
 
 -- one more is closed
 pub all-closed-more : {W : Type 0} (c : Course) (opening : W) (spare : ℕ) (jobs : List FeederJob) (ends : List FeederEnd) (mirrors : List (MirrorState W)) (job : FeederJob) (end : FeederEnd) (s : MirrorState W)

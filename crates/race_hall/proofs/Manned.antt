@@ -5,6 +5,7 @@ use Rattle.std.specs.List.{All, AllByRecursion, AllZip}
 use Rattle.std.proofs.lemmas.Bool.Decides.{nat_tests}
 use Rattle.std.proofs.lemmas.List.{length-replicate}
 use Rattle.std.proofs.Math.ListN.{length-append}
+use Rattle.std.proofs.lemmas.List.Elements.{recursion_from_All}
 use Rattle.atomic_table.specs.Seated.{TableId}
 use Rattle.atomic_table.specs.declared.shared.Seat.{Seat}
 use Rattle.game_trait.specs.Game.{Rules as GameRules}
@@ -13,10 +14,12 @@ use Rattle.game_trait.specs.declared.event.Event.{Event as AnEvent}
 use Rattle.game_trait.specs.declared.event.Event.TheVariants.{Tick, Arrive, Step, Restagger}
 use Rattle.game_trait.specs.Keys.{KeysRise}
 use Rattle.game_trait.proofs.KeyOrder.{KeysRise-in_key_order, NamesDiffer-filter}
+use Rattle.game_trait.proofs.Lists.{all-from_map, all-both}
 use Rattle.sync_model.specs.State.{MirrorState, opening_state}
 use Rattle.sync_model.specs.Schedule.{Schedule}
-use Rattle.match_file.specs.Data.{MatchData, IsMatch, schedule_of}
-use Rattle.mirror_core.specs.Kept.{delays_of_each, ticks_of_first, copies_of_first}
+use Rattle.match_file.specs.Data.{MatchData, IsMatch, schedules}
+use Rattle.match_file.proofs.Plans.{delays-of_schedules}
+use Rattle.mirror_core.specs.Kept.{delays_of_each, ticks_of_first}
 use Rattle.turn_lock.specs.declared.share.Share.{Share}
 use Rattle.turn_lock.specs.declared.view.View.{View}
 use Rattle.turn_lock.specs.declared.view.Stage.TheVariants.{Idle}
@@ -35,11 +38,11 @@ use Rattle.race_hall.specs.Race.{count_from, race_opening}
 use Rattle.race_hall.specs.Raced.{course_of}
 use Rattle.race_hall.specs.Posting.{asked_by, drawn_by, last_drawn, IsReadied}
 use Rattle.race_hall.specs.Jobs.{CanCopy, CanFeed, CanWork}
-use Rattle.race_hall.specs.Crews.{ByMirror, shares_of, IsFeederOf, IsPosted, IsWorkOf, IsManned, IsCrew}
-use Rattle.race_hall.proofs.Lists.{all-from_map, same-head, same-tail}
-use Rattle.race_hall.proofs.Manning.{by_mirror-more}
-use Rattle.race_hall.proofs.Passing.{append-none}
-use Rattle.race_hall.proofs.Linings.{plan-short, few-commands}
+use Rattle.race_hall.specs.Crews.{shares_of, IsFeederOf, IsPosted, IsWorkOf, IsManned, IsCrew}
+use Rattle.race_hall.proofs.Lists.{same-head, same-tail}
+use Rattle.race_hall.proofs.Lining.{plan-short, few-commands}
+use Rattle.race_hall.proofs.Numbered.{numbered-both, numbered-within}
+use mathlib.Core.List.{map-map}
 
 -- what a mirror's seats may ask for in sum
 total-calls : (x : Share) (f : Share) (n : ℕ) → x.calls ≤ 2097152 → total (λ s. s.calls) (replicate n x ++ f ∷ []) ≤ n * 2097152 + f.calls
@@ -66,39 +69,12 @@ shares-long copies budget plan foreign shares is =
     let f : Share = record { calls = 8 * budget + plan; grows = plan + foreign } in
     (let a = ap (λ (l : List Share). length l) is in let b = length-append (replicate copies x) (f ∷ []) in let d = length-replicate copies x in omega arith)
 
--- the plans of a match
-each-map : {X Y : Type 0} (P : Y → Type 0) (f : X → Y) (xs : List X) → ((x : X) → P (f x)) → AllByRecursion P (map f xs)
-each-map P f [] h = tt
-each-map P f (x ∷ xs) h = (h x, each-map P f xs h)
-
-pub equal-ticks : (m : MatchData) (ps : List Schedule) → ps ≡ map (schedule_of m) (m.delays ∷ m.plans) → AllByRecursion (λ plan. plan.length ≡ ticks_of_first ps) ps
-equal-ticks m ps e =
-    subst (λ (l : List Schedule). AllByRecursion (λ plan. plan.length ≡ ticks_of_first l) l) (sym e)
-    (refl, each-map (λ plan. plan.length ≡ m.length) (schedule_of m) m.plans (λ p. refl))
-
-copies-each : (m : MatchData) (plans : List (List ℕ)) (n : ℕ) → AllByRecursion (λ p. length p ≡ n) plans → AllByRecursion (λ plan. length plan.delays ≡ n) (map (schedule_of m) plans)
-copies-each m [] n h = tt
-copies-each m (p ∷ plans) n h = (h.0, copies-each m plans n h.1)
-
-all-right : {X : Type 0} (P Q : X → Type 0) (xs : List X) → AllByRecursion (λ x. P x × Q x) xs → AllByRecursion Q xs
-all-right P Q [] h = tt
-all-right P Q (x ∷ xs) h = (h.0.1, all-right P Q xs h.1)
-
-pub equal-copies : (m : MatchData) (ps : List Schedule) → IsMatch m → ps ≡ map (schedule_of m) (m.delays ∷ m.plans) → AllByRecursion (λ plan. length plan.delays ≡ copies_of_first ps) ps
-equal-copies m ps is e =
-    subst (λ (l : List Schedule). AllByRecursion (λ plan. length plan.delays ≡ copies_of_first l) l) (sym e)
-    (refl, copies-each m m.plans (length m.delays) (all-right _ (λ p. length p ≡ length m.delays) m.plans is.plans))
-
-map-delays : (m : MatchData) (plans : List (List ℕ)) → map (λ plan. plan.delays) (map (schedule_of m) plans) ≡ plans
-map-delays m [] = refl
-map-delays m (p ∷ plans) = ap (λ (l : List (List ℕ)). p ∷ l) (map-delays m plans)
-
-pub opens : {W : Type 0} (m : MatchData) (opening : W) (ps : List Schedule) (room : ℕ) (s : MirrorState W) → ps ≡ map (schedule_of m) (m.delays ∷ m.plans) → room ≡ length m.commands
+pub opens : {W : Type 0} (m : MatchData) (opening : W) (ps : List Schedule) (room : ℕ) (s : MirrorState W) → ps ≡ schedules m → room ≡ length m.commands
     → s ≡ opening_state opening (ticks_of_first ps) (delays_of_each ps) room 0 → s ≡ race_opening (course_of m) opening (length m.commands)
 opens m opening ps room s e room_is is =
     is ∙ ap (λ (n : ℕ). opening_state opening (ticks_of_first ps) (delays_of_each ps) n 0) room_is
     ∙ ap (λ (l : List Schedule). opening_state opening (ticks_of_first l) (delays_of_each l) (length m.commands) 0) e
-    ∙ ap (λ (l : List (List ℕ)). opening_state opening m.length (m.delays ∷ l) (length m.commands) 0) (map-delays m m.plans)
+    ∙ ap (λ (l : List (List ℕ)). opening_state opening m.length l (length m.commands) 0) (delays-of_schedules m)
 
 -- the view of a seat that was dealt: a copy's, or the feeder's, which is the last
 pub record IsFreshAt {W C R : Type 0} (held : W) (copy feed : Share) (last i : ℕ) (v : View W C R) : Type 0 where
@@ -117,21 +93,6 @@ fresh-zip {X} {W} {C} {R} f held copy feed n (suc c) (x ∷ xs) e =
       record { other = λ differ. same-head _ _ _ _ e; final = λ same. absurd (omega arith) },
       subst (λ (k : ℕ). AllZip (λ i y. IsFreshAt held copy feed k i (f y)) (count_from (n + 1) (suc c)) xs) at (fresh-zip f held copy feed (n + 1) c xs (same-tail _ _ _ _ e)),
     )
-
--- lists whose elements are right by their numbers in two ways, and in a third
-pub zip-both : {X : Type 0} (P Q R : ℕ → X → Type 0) (C : X → Type 0) (ks : List ℕ) (xs : List X) → ((i : ℕ) (x : X) → P i x → Q i x → C x → R i x) → AllZip P ks xs → AllZip Q ks xs → AllByRecursion C xs → AllZip R ks xs
-zip-both P Q R C [] [] step h k a = tt
-zip-both P Q R C [] (x ∷ xs) step h k a = absurd h
-zip-both P Q R C (i ∷ ks) [] step h k a = absurd h
-zip-both P Q R C (i ∷ ks) (x ∷ xs) step h k a = (step i x h.0 k.0 a.0, zip-both P Q R C ks xs step h.1 k.1 a.1)
-
-map-over : {X Y Z : Type 0} (f : X → Y) (g : Y → Z) (xs : List X) → map (λ x. g (f x)) xs ≡ map g (map f xs)
-map-over f g [] = refl
-map-over {X} {Y} {Z} f g (x ∷ xs) = ap (λ (l : List Z). g (f x) ∷ l) (map-over f g xs)
-
-to-recursion : {X : Type 0} (P : X → Type 0) (xs : List X) → All P xs → AllByRecursion P xs
-to-recursion P [] h = tt
-to-recursion P (x ∷ xs) h = (h 0 x (omega arith), to-recursion P xs (λ k d low. h (suc k) d (omega arith)))
 
 module _ {T S W : Type 0} (game : GameRules W) (seat_of : T → Seat S (View (MirrorState W) (LockCall W) (LockReply W))) where
   feeding-fits : (n : ℕ) (s : MirrorState W) (e : AnEvent) → n ≡ s.length → IsFeedingBelow n e → FitsCall game s (Event e)
@@ -219,19 +180,6 @@ module _ {T S W : Type 0} (game : GameRules W) (seat_of : T → Seat S (View (Mi
             | false ↦ λ e. grind (arith, nat_tests)
           ] refl
 
-  with-below : (P : ℕ → JobOver T → Type 0) (i n : ℕ) (xs : List (JobOver T)) → AllZip P (count_from i n) xs → AllZip (λ j x. (j < i + n) × P j x) (count_from i n) xs
-  unfolding count_from
-  with-below P i zero [] h = tt
-  with-below P i zero (x ∷ xs) h = absurd h
-  with-below P i (suc n) [] h = absurd h
-  with-below P i (suc n) (x ∷ xs) h =
-      let at : i + 1 + n ≡ i + suc n = omega arith in
-      ((omega arith, h.0), subst (λ (k : ℕ). AllZip (λ j x. (j < k) × P j x) (count_from (i + 1) n) xs) at (with-below P (i + 1) n xs h.1))
-
-  all-pairs : (P Q : T → Type 0) (xs : List T) → AllByRecursion P xs → AllByRecursion Q xs → AllByRecursion (λ x. P x × Q x) xs
-  all-pairs P Q [] h k = tt
-  all-pairs P Q (x ∷ xs) h k = ((h.0, k.0), all-pairs P Q xs h.1 k.1)
-
   pub manned-crew :
       (held : MirrorState W) (m : MatchData) (name : TableId) (feeder : FeederJob) (crew : List (JobOver T)) (seats : List T) (shares : List Share) → IsMatch m → feeder.mirror < m.mirrors
       → IsFeederOf (course_of m) feeder.budget feeder.mirror feeder → feeder.budget ≤ 1048576 → held.length ≡ m.length → length held.runs ≡ feeder.copies
@@ -247,47 +195,12 @@ module _ {T S W : Type 0} (game : GameRules W) (seat_of : T → Seat S (View (Mi
       let fresh = subst (λ (n : ℕ). AllZip (λ i (job : JobOver T). IsFreshAt held copy feed feeder.copies i (view (seat_of job.seat))) (count_from 0 n) crew) e
       (subst (λ (n : ℕ). AllZip (λ i (job : JobOver T). IsFreshAt held copy feed n i (view (seat_of job.seat))) (count_from 0 (suc feeder.copies)) crew) z
       (fresh-zip (λ (job : JobOver T). view (seat_of job.seat)) held copy feed 0 feeder.copies crew
-      (map-over (λ (job : JobOver T). job.seat) (λ x. view (seat_of x)) crew ∙ ap (λ (l : List T). map (λ x. view (seat_of x)) l) seats_are ∙ views
+      (sym (map-map (λ x. view (seat_of x)) (λ (job : JobOver T). job.seat) crew) ∙ ap (λ (l : List T). map (λ x. view (seat_of x)) l) seats_are ∙ views
       ∙ ap (λ (l : List Share). fresh_views held 0 l) shares_are))) in
       let of_seats = subst (AllByRecursion (λ x. ((seat_of x).table_id ≡ name) × TakesFrom game held (view (seat_of x)))) (sym seats_are)
-      (all-pairs (λ x. (seat_of x).table_id ≡ name) (λ x. TakesFrom game held (view (seat_of x))) seats (to-recursion _ seats tables) (to-recursion _ seats takes)) in
-      zip-both (λ j x. (j < 0 + (feeder.copies + 1)) × IsPosted feeder j x) (λ i (job : JobOver T). IsFreshAt held copy feed feeder.copies i (view (seat_of job.seat))) (IsManned seat_of game feeder.copies feeder.mirror name feeder)
+      (all-both _ _ (λ x. ((seat_of x).table_id ≡ name) × TakesFrom game held (view (seat_of x))) seats (λ x named takes. (named, takes)) (recursion_from_All _ seats tables) (recursion_from_All _ seats takes)) in
+      numbered-both (λ j x. (j < 0 + (feeder.copies + 1)) × IsPosted feeder j x) (λ i (job : JobOver T). IsFreshAt held copy feed feeder.copies i (view (seat_of job.seat))) (IsManned seat_of game feeder.copies feeder.mirror name feeder)
       (λ job. ((seat_of job.seat).table_id ≡ name) × TakesFrom game held (view (seat_of job.seat))) (count_from 0 (feeder.copies + 1)) crew
       (λ i job p q a. manned-one held m name feeder i job is there of low long runs (let b = p.0 in omega arith) p.1 q a)
-      (with-below (IsPosted feeder) 0 (feeder.copies + 1) crew posted) fresh
+      (numbered-within (IsPosted feeder) 0 (feeder.copies + 1) crew posted) fresh
       (all-from_map (λ x. ((seat_of x).table_id ≡ name) × TakesFrom game held (view (seat_of x))) (λ job. job.seat) crew of_seats)
-
--- a mirror's feeder among the others
-pub zip-seam : {X : Type 0} (P : ℕ → X → Type 0) (i n : ℕ) (whole gone rest more : List X) (x : X) → AllZip P (count_from i n) whole → whole ≡ gone ++ rest → rest ≡ x ∷ more
-    → P (i + length gone) x × (length gone < n)
-unfolding count_from
-zip-seam {X} P i n whole gone rest more x h parts is = at i n gone (subst (λ l. AllZip P (count_from i n) l) (parts ∙ ap (λ l. gone ++ l) is) h)
-  where
-    at : (j k : ℕ) (front : List X) → AllZip P (count_from j k) (front ++ x ∷ more) → P (j + length front) x × (length front < k)
-    at j zero [] g = absurd g
-    at j zero (y ∷ front) g = absurd g
-    at j (suc k) [] g = (let e : j ≡ j + 0 = omega arith in (subst (λ (z : ℕ). P z x) e g.0, omega arith))
-    at j (suc k) (y ∷ front) g = (let r = at (j + 1) k front g.1 in let e : j + 1 + length front ≡ j + suc (length front) = omega arith in (subst (λ (z : ℕ). P z x) e r.0, (let low = r.1 in omega arith)))
-
-pub by_mirror-long : {X Y Z : Type 0} (Is : ℕ → Y → Z → List X → Type 0) (k : ℕ) (ys : List Y) (zs : List Z) (xs : List X) → ByMirror Is k ys zs xs → length ys ≡ length zs
-unfolding ByMirror
-by_mirror-long Is k [] [] xs h = refl
-by_mirror-long Is k [] (z ∷ zs) xs h = absurd h
-by_mirror-long Is k (y ∷ ys) [] xs h = absurd h
-by_mirror-long Is k (y ∷ ys) (z ∷ zs) xs h = ap suc (by_mirror-long Is (k + 1) ys zs h.1 h.4)
-
-pub by_mirror-none : {X Y Z : Type 0} (Is : ℕ → Y → Z → List X → Type 0) (ys : List Y) (xs : List X) → ys ≡ [] → xs ≡ [] → ByMirror Is 0 ys [] xs
-unfolding ByMirror
-by_mirror-none Is ys xs none empty = subst (λ l. ByMirror Is 0 l [] xs) (sym none) empty
-
-pub runs-long : {X Y : Type 0} (y : Y) (xs : List X) → length (map (λ x. y) xs) ≡ length xs
-runs-long y [] = refl
-runs-long y (x ∷ xs) = ap suc (runs-long y xs)
-
-pub by_mirror-pushed : {X Y Z : Type 0} (Is : ℕ → Y → Z → List X → Type 0) (ys ys_now : List Y) (zs : List Z) (xs xs_now more : List X) (y : Y) (z : Z)
-    → ys_now ≡ ys ++ y ∷ [] → xs_now ≡ xs ++ more → ByMirror Is 0 ys zs xs → Is (0 + length ys) y z more → ByMirror Is 0 ys_now (zs ++ z ∷ []) xs_now
-by_mirror-pushed {X} {Y} Is ys ys_now zs xs xs_now more y z pushed parts h one =
-    subst (λ (l : List Y). ByMirror Is 0 l (zs ++ z ∷ []) xs_now) (sym pushed) (subst (λ (l : List X). ByMirror Is 0 (ys ++ y ∷ []) (zs ++ z ∷ []) l) (sym parts) (by_mirror-more Is 0 ys zs xs more y z h one))
-
-pub by_mirror-whole : {X Y Z : Type 0} (Is : ℕ → Y → Z → List X → Type 0) (ys : List Y) (whole zs rest : List Z) (xs : List X) → whole ≡ zs ++ rest → rest ≡ [] → ByMirror Is 0 ys zs xs → ByMirror Is 0 ys whole xs
-by_mirror-whole {X} {Y} {Z} Is ys whole zs rest xs parts none h = subst (λ (l : List Z). ByMirror Is 0 ys l xs) (sym (parts ∙ ap (λ (l : List Z). zs ++ l) none ∙ append-none zs)) h
