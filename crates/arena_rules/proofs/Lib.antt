@@ -1,13 +1,13 @@
 pub mod Walls
 mod Names
 mod Cells
-mod Changes
+pub mod Changes
 mod Hits
 mod Flights
 mod Returns
 mod Players
 mod Shots
-mod Dead
+pub mod Dead
 mod Lying
 mod Pickups
 mod Worlds

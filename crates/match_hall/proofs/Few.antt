@@ -7,6 +7,7 @@ use Rattle.game_trait.specs.declared.event.Event.{Event}
 use Rattle.game_trait.specs.declared.event.Event.TheVariants.{Tick, Arrive, Step, Restagger}
 use Rattle.game_trait.specs.Count.{times}
 use Rattle.game_trait.specs.Events.{is_arrival}
+use Rattle.game_trait.proofs.Counts.{times-most}
 use Rattle.sync_model.specs.State.{MirrorState}
 use Rattle.sync_model.specs.Change.{next, after, turned_away}
 use Rattle.sync_model.specs.Turns.{drain}
@@ -18,14 +19,6 @@ use Rattle.match_hall.specs.Script.{arrives_at, opening_mirror, opening_mirrors,
 use Rattle.match_hall.specs.Few.{IsFew}
 use Rattle.match_hall.proofs.OnWay.{OnWay, opening-length, way-copies, all-opening}
 use Rattle.match_hall.proofs.Headline.{all-script}
-
--- no test passes more often than there are elements
-times-most : {X : Type 0} (p : X → Bool) (xs : List X) → times p xs ≤ length xs
-unfolding times
-times-most p [] = omega arith
-times-most p (x ∷ xs) =
-    let more = times-most p xs in
-    elim (p x) as (λ v. cond v 1 0 + times p xs ≤ suc (length xs)) [ true ↦ omega (arith, more) | false ↦ omega (arith, more) ]
 
 -- an event brings one command at most, and only where it is an arrival
 few-next :

@@ -2,7 +2,7 @@ mod Named
 mod Ready
 mod Steps
 mod OneMore
-mod Telling
+pub mod Telling
 mod Told
 mod Along
 mod OnWay

@@ -3,6 +3,7 @@ use Rattle.std.proofs.Common.{◌≡◌, ℕ, zero, suc, true, false, cond, List
 use Rattle.std.specs.Prelude.{◌==◌, filter, slice_get, option_map}
 use Rattle.std.proofs.lemmas.Bool.Decides.{nat_tests}
 use Rattle.std.proofs.lemmas.List.{take-append-drop}
+use Rattle.std.proofs.lemmas.Bool.{eqb-true}
 use Rattle.game_trait.specs.declared.command.Command.{Command}
 use Rattle.sync_model.specs.State.{MirrorState}
 use Rattle.match_file.specs.declared.script_line.ScriptLine.{ScriptLine}
@@ -28,9 +29,6 @@ changed-other f (suc i) (suc j) (x ∷ xs) apart = changed-other f i j xs (below
     below : (i j : ℕ) → (suc i == suc j) ≡ false → (i == j) ≡ false
     below i j e = grind (arith, nat_tests)
 
-same-number : (i j : ℕ) → (i == j) ≡ true → i ≡ j
-same-number i j e = grind (arith, nat_tests)
-
 nothing-more : {X : Type 0} (o : Option X) → o ≡ option_map (λ x. x) o
 nothing-more None = refl
 nothing-more (Some x) = refl
@@ -53,8 +51,8 @@ own-lines {W} commands mirrors (l ∷ ls) number =
     ≡ option_map (after_lines commands (cond v (l ∷ filter (names number) ls) (filter (names number) ls))) (slice_get mirrors number)) [
       | true ↦ λ e.
           let here : slice_get next number ≡ option_map (after_line commands l) (slice_get mirrors number) =
-          ap (λ (n : ℕ). slice_get next n) (sym (same-number (mirror_of l) number e)) ∙ changed-same (after_line commands l) (mirror_of l) mirrors
-          ∙ ap (λ (n : ℕ). option_map (after_line commands l) (slice_get mirrors n)) (same-number (mirror_of l) number e) in
+          ap (λ (n : ℕ). slice_get next n) (sym (eqb-true (mirror_of l) number e)) ∙ changed-same (after_line commands l) (mirror_of l) mirrors
+          ∙ ap (λ (n : ℕ). option_map (after_line commands l) (slice_get mirrors n)) (eqb-true (mirror_of l) number e) in
           ap (λ (o : Option (MirrorState W)). option_map (after_lines commands (filter (names number) ls)) o) here
           ∙ one-more (after_line commands l) (after_lines commands (filter (names number) ls)) (slice_get mirrors number)
       | false ↦ λ e.

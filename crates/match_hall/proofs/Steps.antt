@@ -12,22 +12,13 @@ use Rattle.game_trait.specs.Events.{is_arrival, is_restagger}
 use Rattle.sync_model.specs.WellFormed.{ArePlans, IsWellFormed}
 use Rattle.sync_model.specs.Legal.{NamesWhatIsThere}
 use Rattle.sync_model.specs.Turns.{turns_of, steps_from, turn_events, turn, is_drained, drain_within, drain_bound, drain}
+use Rattle.sync_model.proofs.Turning.{steps-more}
 use Rattle.match_hall.specs.Report.{turn_text, drain_text, drains_text}
 use Rattle.match_hall.specs.Stops.{IsStoppedDrain, IsStoppedDraining}
 use Rattle.std.proofs.lemmas.Grind.{take_at_read}
 use Rattle.std.proofs.Math.Seq.{set-append_seam, get_or-append_seam}
 use Rattle.std.proofs.lemmas.List.{append-nil, drop_more, drop_all, take_all, length-map, map-append, take-append-drop, length-take, length-append}
 use Rattle.match_hall.proofs.Along.{all-append}
-
--- so many steps from copy c on are a step of copy c and the others
-pub steps-more : (c end : ℕ) → c < end → steps_from c (end - c) ≡ Step c ∷ steps_from (c + 1) (end - (c + 1))
-unfolding steps_from
-steps-more c end h = (let e : end - c ≡ suc (end - (c + 1)) = omega arith in ap (steps_from c) e)
-
--- no step is left
-pub steps-none : (c end : ℕ) → end ≤ c → steps_from c (end - c) ≡ []
-unfolding steps_from
-steps-none c end h = (let e : end - c ≡ zero = omega arith in ap (steps_from c) e)
 
 -- a mirror has at most 8 copies
 few-of-plans : (plans : List (List ℕ)) (ticks copies : ℕ) → ArePlans plans ticks copies → copies ≤ 8
@@ -52,13 +43,6 @@ pub turn-told :
 unfolding answers
 turn-told s t n reply none told ticked count answered empty put =
     (let all : n - 0 ≡ length s.runs = omega arith in rw (all, put, empty, ticked, ← answered) refl)
-
--- one step more of a turn
-pub step-made :
-    {W : Type 0} (s t : MirrorState W) (c n : ℕ) → c < n → t ≡ next s (Step c)
-    → after t (steps_from (c + 1) (n - (c + 1))) ≡ after s (steps_from c (n - c))
-unfolding after
-step-made s t c n below stepped = rw (steps-more c n below, stepped) refl
 
 pub step-told :
     {W : Type 0} (s t : MirrorState W) (c n : ℕ) (reply : Reply) (old new : List Reply)
@@ -106,43 +90,14 @@ pub turn-no_restagger : (n : ℕ) → times is_restagger (turn_events n) ≡ 0
 unfolding times
 turn-no_restagger n = omega (arith, steps-no_restagger n 0)
 
-pub turns-no_restagger : (n k : ℕ) → times is_restagger (turns_of n k) ≡ 0
-unfolding turns_of times
-turns-no_restagger n zero = refl
-turns-no_restagger n (suc k) =
-    omega (arith, times-append is_restagger (turn_events n) (turns_of n k), turn-no_restagger n, turns-no_restagger n k)
-
-pub turns-no_arrival : (n k : ℕ) → times is_arrival (turns_of n k) ≡ 0
-unfolding turns_of times
-turns-no_arrival n zero = refl
-turns-no_arrival n (suc k) = omega (arith, times-append is_arrival (turn_events n) (turns_of n k), turn-no_arrival n, turns-no_arrival n k)
-
--- a drained mirror makes no turn
-pub drained-state : {W : Type 0} (n : ℕ) (s : MirrorState W) → is_drained s ≡ true → drain_within n s ≡ s
-unfolding drain_within
-drained-state zero s e = refl
-drained-state (suc n) s e = rw e refl
-
 pub drained-text : {W : Type 0} (number n : ℕ) (s : MirrorState W) → is_drained s ≡ true → drain_text number n s ≡ []
 unfolding drain_text
 drained-text number zero s e = refl
 drained-text number (suc n) s e = rw e refl
 
--- where no turn is left, none is made
-pub no-turns-state : {W : Type 0} (n : ℕ) (s : MirrorState W) → n ≡ 0 → drain_within n s ≡ s
-unfolding drain_within
-no-turns-state n s e = rw e refl
-
 pub no-turns-text : {W : Type 0} (number n : ℕ) (s : MirrorState W) → n ≡ 0 → drain_text number n s ≡ []
 unfolding drain_text
 no-turns-text number n s e = rw e refl
-
--- one that isn't drained makes one, and then the others
-pub drain-state :
-    {W : Type 0} (s t : MirrorState W) (at turns : ℕ) → at < turns → is_drained s ≡ false → t ≡ turn s
-    → drain_within (turns - (at + 1)) t ≡ drain_within (turns - at) s
-unfolding drain_within
-drain-state s t at turns h undrained e = (let n : turns - at ≡ suc (turns - (at + 1)) = omega arith in rw (n, undrained, e) refl)
 
 pub drain-text :
     {W : Type 0} (number : ℕ) (s t : MirrorState W) (at turns : ℕ) (old new : List ℕ)

@@ -6,6 +6,7 @@ use Rattle.std.proofs.lemmas.Bool.Decides.{nat_tests}
 use Rattle.std.proofs.lemmas.Grind.{take_at_read}
 use Rattle.std.proofs.lemmas.List.{append-nil, drop_more}
 use Rattle.std.proofs.lemmas.List.Elements.{All-from_recursion, All-get_or, filter-append}
+use Rattle.std.proofs.lemmas.Bool.{eqb-true}
 use Rattle.game_trait.specs.declared.command.Command.{Command}
 use Rattle.game_trait.specs.declared.event.Event.{Event}
 use Rattle.game_trait.specs.declared.event.Note.{Note}
@@ -87,7 +88,7 @@ told-more number s t u old now new before between after first second = record {
 
 -- ---- the lines of a script that name a mirror
 
-after_lines-append :
+pub after_lines-append :
     {W : Type 0} (commands : List Command) (ls rest : List ScriptLine) (s : MirrorState W)
     → after_lines commands (ls ++ rest) s ≡ after_lines commands rest (after_lines commands ls s)
 unfolding after_lines
@@ -99,9 +100,6 @@ one-named number l h = rw h refl
 
 none-named : (number : ℕ) (l : ScriptLine) → names number l ≡ false → filter (names number) (l ∷ []) ≡ []
 none-named number l h = rw h refl
-
-same-number : (i j : ℕ) → (i == j) ≡ true → i ≡ j
-same-number i j e = grind (arith, nat_tests)
 
 -- how far the mirror of this number has come along so many lines of the script, and what watchers were told meanwhile
 pub record IsToldTo {W : Type 0} (m : MatchData) (number : ℕ) (script : List ScriptLine) (i : ℕ) (begun s : MirrorState W) (old new : List Behaviour) (before after : List ℕ) : Type 0 where
@@ -148,7 +146,7 @@ own-way :
     → i < length script → names number (get_or script i d) ≡ true → (told : IsToldTo m number script i begun s old new before after)
     → OnWay m told.opening (mirror_of (get_or script i d)) (get_or script i d ∷ drop (i + 1) script) s
 own-way {W} m number script i begun s old new before after d below named told =
-    subst (λ (n : ℕ). OnWay m told.opening n (get_or script i d ∷ drop (i + 1) script) s) (sym (same-number (mirror_of (get_or script i d)) number named))
+    subst (λ (n : ℕ). OnWay m told.opening n (get_or script i d ∷ drop (i + 1) script) s) (sym (eqb-true (mirror_of (get_or script i d)) number named))
     (subst (λ (ls : List ScriptLine). OnWay m told.opening number ls s) (drop_more script i d below) told.way)
 
 pub own-line :
@@ -184,7 +182,7 @@ told_to-own {W} m number script i begun s t old now new before between after d s
       all = told.all;
       opening = told.opening;
       way = subst (λ (u : MirrorState W). OnWay m told.opening number (drop (i + 1) script) u) (sym made)
-          (subst (λ (n : ℕ). OnWay m told.opening n (drop (i + 1) script) (after_line m.commands l s)) (same-number (mirror_of l) number named) on);
+          (subst (λ (n : ℕ). OnWay m told.opening n (drop (i + 1) script) (after_line m.commands l s)) (eqb-true (mirror_of l) number named) on);
       state =
           made ∙ ap (after_line m.commands l) told.state
           ∙ sym (after_lines-append m.commands (filter (names number) (take i script)) (l ∷ []) begun)

@@ -1,27 +1,14 @@
 //! The mirrors of a match as it begins.
 
 ghost use Rattle.std.specs.Prelude.{◌≡◌, ◌≤◌, length, IfOk};
-ghost use Rattle.match_hall.specs.Script.{schedules, opening_mirrors};
+ghost use Rattle.match_hall.specs.Script.{opening_mirrors};
 
 use crate::script::{arrivals_at, changes_at};
 use game_trait::Game;
-use match_file::Match;
+use match_file::{Match, plans_of};
 use mirror_core::Mirror;
-use stagger_clock::Stagger;
 use std::alloc::Global;
 use tss_io::NoMemory;
-
-// The plans of a match, plan 0 first.
-fn plans(alloc: Global, m: &Match) -> Result<Vec<Stagger>, NoMemory>
-    ensures { IfOk result (λ plans. plans.items ≡ schedules m.now) }
-{
-    let mut plans = Vec::new(alloc);
-    plans.push(Stagger::new(m.delays.as_slice(), m.length))?;
-    for delays in m.plans.as_slice() {
-        plans.push(Stagger::new(delays.as_slice(), m.length))?;
-    }
-    Ok(plans)
-}
 
 /// The mirrors of a match as it begins, each with room for the script's arrivals at it and its
 /// changes of the plan.
@@ -31,7 +18,7 @@ pub fn open<G: Game>(alloc: Global, opening: &G, m: &Match) -> Result<Vec<Mirror
     ensures count { IfOk result (λ mirrors. length mirrors.items ≡ m.now.mirrors) }
     ensures few { IfOk result (λ mirrors. length mirrors.items ≤ 8) }
 {
-    let plans = plans(alloc, m)?;
+    let plans = plans_of(alloc, m)?;
     let mut mirrors = Vec::new(alloc);
     for number in 0..m.mirrors {
         let room = arrivals_at(number, m.script.as_slice());

@@ -18,6 +18,8 @@ use Rattle.arena_rules.specs.Player.{changed, holder, is_held, struck, with_gain
 use Rattle.arena_rules.specs.Command.{live_of, by_live, turned, turned_left, turned_right, gone_to, gone, fired, shot_by, acted, applied, arrived, open_ahead}
 use Rattle.arena_rules.specs.Beat.{is_live_at, scored, hit, flown_into, flown_to, flown, flights, returned, returns, shots_flown, beaten}
 use Rattle.arena_rules.specs.World.{World, arena_rules}
+use Rattle.arena_rules.proofs.Changes.{length-changed}
+use Rattle.arena_rules.proofs.Dead.{length-returns}
 use Rattle.std.specs.Prelude.{slice_get, ◌==◌, ◌||◌, nat_le}
 
 -- ---- commands
@@ -66,19 +68,13 @@ applied-players world x = acted-players world x.player x.act
 
 -- ---- beats
 
-changed-players : (players : List Player) (number : ℕ) (change : Player → Player) → length (changed players number change) ≡ length players
-unfolding changed
-changed-players [] number change = refl
-changed-players (player ∷ players) zero change = refl
-changed-players (player ∷ players) (suc number) change = ap (λ (n : ℕ). suc n) (changed-players players number change)
-
 hit-players : (players : List Player) (owner number : ℕ) → length (hit players owner number) ≡ length players
 unfolding hit
 hit-players players owner number =
     let now = changed players number struck in
-    let first = changed-players players number struck in
+    let first = length-changed players number struck in
     elim (is_live_at now number) as (λ v. length (cond v now (scored now owner number)) ≡ length players)
-    [ true ↦ first | false ↦ changed-players now owner _ ∙ first ]
+    [ true ↦ first | false ↦ length-changed now owner _ ∙ first ]
 
 flown_into-players : (players : List Player) (shot : Shot) (spot : Spot) (held : Option ℕ) → length (flown_into players shot spot held).players ≡ length players
 flown_into-players players shot spot None = refl
@@ -94,20 +90,11 @@ flights-players grid players [] = refl
 flights-players grid players (shot ∷ shots) =
     flights-players grid (flown grid players shot).players shots ∙ flown_to-players players shot (open_ahead grid shot.spot)
 
-returns-players : (before after : List Player) → length (returns before after) ≡ length before + length after
-unfolding returns
-returns-players before [] = omega arith
-returns-players before (player ∷ after) =
-    let one = returned (before ++ player ∷ after) player in
-    let more = returns-players (before ++ one ∷ []) after in
-    let long = length-append before (one ∷ []) in
-    omega (arith, more, long)
-
 beaten-players : (world : World) → length (beaten world).players ≡ length world.players
 unfolding beaten
 beaten-players world =
     let flew = flights-players world.grid world.players world.shots in
-    let back = returns-players [] (shots_flown world).players in
+    let back = length-returns [] (shots_flown world).players in
     omega (arith, flew, back)
 
 -- ---- runs

@@ -68,8 +68,8 @@ stuck_further s x log place why changed at = record {
   stuck = at.stuck;
 }
 
-same_fault : (a b : Fault) → ◌≡◌ {A = Option Fault} (Some a) (Some b) → a ≡ b
-same_fault a b e = cc
+some_fault-same : (a b : Fault) → ◌≡◌ {A = Option Fault} (Some a) (Some b) → a ≡ b
+some_fault-same a b e = cc
 
 stuck_some : {W : Type 0} (s : MirrorState W) (log : List Event) (fault : Fault) → first_stuck s log ≡ Some fault → IsStuckAt s log fault.place fault.why
 unfolding first_stuck
@@ -77,13 +77,13 @@ stuck_some s [] fault e = absurd cc
 stuck_some {W} s (x ∷ log) fault e =
     elim (why_of (said s x)) as (λ o. why_of (said s x) ≡ o → or_later o (first_stuck (next s x) log) ≡ Some fault → IsStuckAt s (x ∷ log) fault.place fault.why) [
       | None ↦ λ none e. behind (stuck_some (next s x) log) (first_stuck (next s x) log) refl (why_changes (said s x) none) e
-      | Some why ↦ λ some e. subst (λ (f : Fault). IsStuckAt s (x ∷ log) f.place f.why) (same_fault (record { place = 0; why = why }) fault e) (stuck_here s x log why some)
+      | Some why ↦ λ some e. subst (λ (f : Fault). IsStuckAt s (x ∷ log) f.place f.why) (some_fault-same (record { place = 0; why = why }) fault e) (stuck_here s x log why some)
     ] refl e
   where
     behind : ((f : Fault) → first_stuck (next s x) log ≡ Some f → IsStuckAt (next s x) log f.place f.why) → (o : Option Fault) → first_stuck (next s x) log ≡ o → changes s x ≡ true → later o ≡ Some fault → IsStuckAt s (x ∷ log) fault.place fault.why
     behind there None is changed e = absurd cc
     behind there (Some f) is changed e =
-        subst (λ (g : Fault). IsStuckAt s (x ∷ log) g.place g.why) (same_fault (record { place = f.place + 1; why = f.why }) fault e)
+        subst (λ (g : Fault). IsStuckAt s (x ∷ log) g.place g.why) (some_fault-same (record { place = f.place + 1; why = f.why }) fault e)
         (stuck_further s x log f.place f.why changed (there f is))
 
 change_none : (r : Reply) (o : Option Why) → why_of r ≡ o → is_change r ≡ true → why_of r ≡ None
@@ -245,15 +245,15 @@ legal_is show opening m n before events (log ∷ logs) (blocks ∷ worlds) right
     rw (mirror_right show opening m n log.events blocks right.0)
     (legal_is show opening m (n + 1) (before + length log.events) events logs worlds right.1 (omega (arith, count)))
 
-fault_is : {W : Type 0} (show : Showing W) (opening : W) (m : MatchData) (n before : ℕ) (logs : List MirrorLog) (worlds : List (List (List ℕ))) (mirror place : ℕ) (why : Why) → IsFirstFault show opening m n logs worlds mirror place why
+first_fault-is : {W : Type 0} (show : Showing W) (opening : W) (m : MatchData) (n before : ℕ) (logs : List MirrorLog) (worlds : List (List (List ℕ))) (mirror place : ℕ) (why : Why) → IsFirstFault show opening m n logs worlds mirror place why
     → NotLegal mirror place why ≡ verdict_from show opening m n before logs worlds
 unfolding verdict_from IsFirstFault
-fault_is show opening m n before [] worlds mirror place why fault = absurd fault
-fault_is show opening m n before (log ∷ logs) [] mirror place why fault = absurd fault
-fault_is show opening m n before (log ∷ logs) (blocks ∷ worlds) mirror place why (inl here) =
+first_fault-is show opening m n before [] worlds mirror place why fault = absurd fault
+first_fault-is show opening m n before (log ∷ logs) [] mirror place why fault = absurd fault
+first_fault-is show opening m n before (log ∷ logs) (blocks ∷ worlds) mirror place why (inl here) =
     rw (mirror_fault show opening m n log.events blocks place why here.1) (λ i. NotLegal (here.0 i) place why)
-fault_is show opening m n before (log ∷ logs) (blocks ∷ worlds) mirror place why (inr more) =
-    rw (mirror_right show opening m n log.events blocks more.0) (fault_is show opening m (n + 1) (before + length log.events) logs worlds mirror place why more.1)
+first_fault-is show opening m n before (log ∷ logs) (blocks ∷ worlds) mirror place why (inr more) =
+    rw (mirror_right show opening m n log.events blocks more.0) (first_fault-is show opening m (n + 1) (before + length log.events) logs worlds mirror place why more.1)
 
 -- ---- a record
 
@@ -266,7 +266,7 @@ told_whole show opening r (NotLegal mirror place why) tells = tells
 
 is_verdict : {W : Type 0} (show : Showing W) (opening : W) (r : RaceRecord) (v : Verdict) → Tells show opening r v → v ≡ verdict_of show opening r
 is_verdict show opening r (Legal events) tells = legal_is show opening r.game 0 0 events r.logs r.worlds tells.0 (let count = tells.1 in omega arith)
-is_verdict show opening r (NotLegal mirror place why) tells = fault_is show opening r.game 0 0 r.logs r.worlds mirror place why tells
+is_verdict show opening r (NotLegal mirror place why) tells = first_fault-is show opening r.game 0 0 r.logs r.worlds mirror place why tells
 
 -- some verdict tells of a record
 pub some_verdict : {W : Type 0} (show : Showing W) (opening : W) (r : RaceRecord) → IsRecord r → (v : Verdict) × Tells show opening r v

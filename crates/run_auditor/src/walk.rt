@@ -5,16 +5,14 @@ ghost use Rattle.std.specs.List.{AllByRecursion};
 ghost use Rattle.game_trait.specs.declared.limits.TheConstants.{MOST_ROOM};
 ghost use Rattle.game_trait.specs.Count.{times};
 ghost use Rattle.game_trait.specs.Events.{is_arrival, is_restagger};
-ghost use Rattle.match_file.specs.Data.{IsMatch, schedule_of, schedules};
 ghost use Rattle.run_recorder.specs.Data.{IsEventOf};
 ghost use Rattle.run_auditor.specs.Walks.{walk_of, told_next, moved_on};
 
 use crate::why::{Why, why_of};
 use game_trait::{Event, Game, MirrorId, Note};
-use match_file::Match;
+use match_file::{Match, plans_of};
 use mirror_core::Mirror;
 use run_recorder::MirrorLog;
-use stagger_clock::Stagger;
 use std::alloc::Global;
 use std::marker::Model;
 use tss_io::NoMemory;
@@ -52,19 +50,6 @@ impl<'a, G: Game> Model for LogWalk<'a, G> {
     ghost view = { λ w. record { number = w.number; mirror = w.mirror; left = w.left.now } };
 
     ghost invariant = { λ w. IsWalk w.mirror w.left.now };
-}
-
-// The plans of a match, plan 0 first.
-fn plans(alloc: Global, m: &Match) -> Result<Vec<Stagger>, NoMemory>
-    ensures plans { IfOk result (λ plans. plans.items ≡ schedules m.now) }
-    ensures sound { IfOk result (λ _. IsMatch m.now) }
-{
-    let mut plans = Vec::new(alloc);
-    plans.push(Stagger::new(m.delays.as_slice(), m.length))?;
-    for delays in m.plans.as_slice() {
-        plans.push(Stagger::new(delays.as_slice(), m.length))?;
-    }
-    Ok(plans)
 }
 
 fn is_arrival(event: &Event) -> bool
@@ -127,7 +112,7 @@ impl<'a, G: Game> LogWalk<'a, G> {
         requires events { AllByRecursion (IsEventOf m.now) log.now.events }
         ensures { IfOk result (λ w. w ≡ walk_of opening.now m.now log.now.mirror log.now.events) }
     {
-        let plans = plans(alloc, m)?;
+        let plans = plans_of(alloc, m)?;
         let events = log.events.as_slice();
         let mirror = Mirror::new(
             alloc,

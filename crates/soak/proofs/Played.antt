@@ -21,6 +21,7 @@ use Rattle.sync_model.proofs.History.{after-append}
 use Rattle.match_file.specs.declared.script_line.ScriptLine.{ScriptLine}
 use Rattle.match_file.specs.declared.script_line.ScriptLine.TheVariants.{Arrive, Turn}
 use Rattle.match_hall.specs.Script.{names, events_of, after_line, after_lines, opening_mirror, opening_from, opening_mirrors, scripted, played}
+use Rattle.match_hall.proofs.Telling.{after_lines-append}
 use Rattle.match_maker.specs.Below.{joined_below, each_below}
 use Rattle.match_maker.specs.Generator.{command_at, lag, arrival_lines, arrivals, mirror_lines, tick_lines, match_of_number}
 use Rattle.match_maker.proofs.Lists.{all_joined}
@@ -112,21 +113,15 @@ find-front p (x ∷ xs) ys y h =
     h
 
 -- a command is found by its name
-found : (seed n j : ℕ) → j < n → command_named (each_below (command_at seed) n) (j % 8) (j / 8) ≡ Some (command_at seed j)
+command-found : (seed n j : ℕ) → j < n → command_named (each_below (command_at seed) n) (j % 8) (j / 8) ≡ Some (command_at seed j)
 unfolding joined_below
-found seed zero j h = absurd (omega (arith, h))
-found seed (suc n) j h =
+command-found seed zero j h = absurd (omega (arith, h))
+command-found seed (suc n) j h =
     elim (eq-or-lt_of_le {n = j} {m = n} (omega (arith, h))) [
       | inl e ↦ find-behind (is_named (j % 8) (j / 8)) (each_below (command_at seed) n) (command_at seed n)
           (command_at-new seed j n (omega (arith, e))) (command_at-named seed j n e) ∙ ap (λ k. Some (command_at seed k)) (sym e)
-      | inr l ↦ find-front (is_named (j % 8) (j / 8)) (each_below (command_at seed) n) (command_at seed n ∷ []) (command_at seed j) (found seed n j l)
+      | inr l ↦ find-front (is_named (j % 8) (j / 8)) (each_below (command_at seed) n) (command_at seed n ∷ []) (command_at seed j) (command-found seed n j l)
     ]
-
-after_lines-append : {W : Type 0} (commands : List Command) (xs ys : List ScriptLine) (s : MirrorState W)
-    → after_lines commands (xs ++ ys) s ≡ after_lines commands ys (after_lines commands xs s)
-unfolding after_lines
-after_lines-append commands [] ys s = refl
-after_lines-append commands (x ∷ xs) ys s = after_lines-append commands xs ys (after_line commands x s)
 
 -- an arrival or none
 arrival-events : {W : Type 0} (seed tick m j : ℕ) → j < 4096 → (s : MirrorState W)
@@ -136,7 +131,7 @@ arrival-events {W} seed tick m j h s =
     elim (j / 8 + lag seed j m == tick) as
     (λ v. after_lines (all_commands seed) (cond v (Arrive m (j % 8) (j / 8) ∷ []) []) s
     ≡ after s (map Arrival (cond v (command_at seed j ∷ []) []))) [
-      | true ↦ rw (found seed 4096 j h) refl
+      | true ↦ rw (command-found seed 4096 j h) refl
       | false ↦ refl
     ]
 

@@ -47,8 +47,8 @@ pub match_text-injective : (m n : MatchData) → IsMatch m → IsMatch n → mat
 match_text-injective m n sound other same =
     (let read : same_result m ≡ same_result n = sym (whole_read m sound) ∙ ap read_text same ∙ whole_read n other in cc)
 
-same_refusal : (text : List ℕ) (a b : Refused) → read_text text ≡ Err a → read_text text ≡ Err b → a ≡ b
-same_refusal text a b is its = cc
+one_refusal : (text : List ℕ) (a b : Refused) → read_text text ≡ Err a → read_text text ≡ Err b → a ≡ b
+one_refusal text a b is its = cc
 
 abbrev same_reading : RaceRecord → Result RaceRecord Refused
 same_reading r = Ok r
@@ -117,7 +117,7 @@ one-of_match k input a b (refusal r lacks is) (of_match t n also other its same)
 one-of_match k input a b (refusal r lacks is) (of_record q v also other its tells same) = absurd (no_record k also)
 one-of_match k input a b (refusal r lacks is) (of_number n also its) = absurd (no_number n k also)
 one-of_match k input a b (refusal r lacks is) (refusal q none its) =
-    is ∙ ap (λ (x : Refused). refusal_due x) (same_refusal input r q lacks.read none.read) ∙ sym its
+    is ∙ ap (λ (x : Refused). refusal_due x) (one_refusal input r q lacks.read none.read) ∙ sym its
 
 one-of_record : {ws : List Behaviour} (input : List ℕ) (a b : Due) → IsAnswer ws Audit input a → IsAnswer ws Audit input b → a ≡ b
 one-of_record input a b (of_match s m asks sound text is) other = absurd (no_match s asks)
@@ -152,7 +152,7 @@ one-answer (Soak k) = one-of_number k
 
 -- ---- what is due for words
 
-no_subcommand : {P : Type 0} (words : List (List ℕ)) (subcommand : Subcommand) → subcommand_of words ≡ None → subcommand_of words ≡ Some subcommand → P
+pub no_subcommand : {P : Type 0} (words : List (List ℕ)) (subcommand : Subcommand) → subcommand_of words ≡ None → subcommand_of words ≡ Some subcommand → P
 no_subcommand words subcommand none some = absurd (let never = sym none ∙ some in cc)
 
 same_subcommand : (words : List (List ℕ)) (s t : Subcommand) → subcommand_of words ≡ Some s → subcommand_of words ≡ Some t → s ≡ t

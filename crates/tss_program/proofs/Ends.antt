@@ -19,7 +19,7 @@ use Rattle.soak.specs.Answer.{soak_opening}
 use Rattle.soak.proofs.Agreed.{length-played}
 use Rattle.soak.proofs.Whole.{text-whole, soaked-each, soaked-all}
 use Rattle.tss_program.proofs.Inputs.{some-input, reads-none}
-use Rattle.tss_program.proofs.AnswerLaws.{not, some-due, one-due, due-answer, due-status, due-no, answer-kept, answer-whole, answer-played, answer-says, answer-record, due-nothing, due-others, due-number}
+use Rattle.tss_program.proofs.AnswerLaws.{not, some-due, one-due, due-answer, due-status, due-no, answer-kept, answer-whole, answer-played, answer-says, answer-record, due-nothing, due-others, due-number, no_subcommand}
 
 -- ---- how a run ends
 
@@ -185,9 +185,6 @@ ends-IsRun words old new status kept e wrong read_steady write_steady whole most
 
 -- ---- each end of a run
 
-no_words : {P : Type 0} (words : List (List ℕ)) (subcommand : Subcommand) → subcommand_of words ≡ None → subcommand_of words ≡ Some subcommand → P
-no_words words subcommand none some = absurd (let never = sym none ∙ some in cc)
-
 pub run-usage :
     {ws : List Behaviour} (words : List (List ℕ)) (old new : Streams) (status : ℕ) (kept : List MirrorLog) → subcommand_of words ≡ None
     → IsPut WrongWords usage_text [] (new.write_faults ≡ old.write_faults) (Rose old.write_faults new.write_faults) old.taken new.taken status kept
@@ -219,7 +216,7 @@ run-put words old new status kept subcommand input due said told is put steady l
     let same : most_read subcommand ≡ most_asked (subcommand_of words) = ap most_asked (sym said) in
     ends-IsRun words old new status kept
     (record { input = input; told = told; due = due; is_due = is; ends = put-ends due old new status kept put })
-    (λ none. no_words words subcommand none said)
+    (λ none. no_subcommand words subcommand none said)
     (inr steady)
     (put-status due.status due.text due.kept kept _ _ old.taken new.taken status put (λ e same. inr same) (λ e. inl e))
     (λ when. subst (λ (n : ℕ). new.left ≡ behind n old.left) same left)
@@ -255,7 +252,7 @@ run-stopped words old new status kept subcommand said why nothing taken faults m
     let silent = subst (λ (l : Option (List ℕ)). Gains old.taken [] l) (sym taken) (Gains-none old.taken) in
     ends-IsRun words old new status kept
     (record { input = input.0; told = input.1; due = due.0; is_due = due.1; ends = ends due.0 silent why })
-    (λ none. no_words words subcommand none said)
+    (λ none. no_subcommand words subcommand none said)
     (steady why) (inr faults) (λ when. absurd (later why when))
     (subst (λ (n : ℕ). ReadsAtMost n old.left new.left old.reads new.reads) (ap most_asked (sym said)) most)
   where

@@ -1,5 +1,5 @@
 mod AnswerLaws
-mod Ends
+pub mod Ends
 mod Inputs
 mod Lifting
 mod Whole

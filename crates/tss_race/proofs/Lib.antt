@@ -1,3 +1,2 @@
-mod Puts
 mod LegalLaws
 mod TextLaws

@@ -1,8 +1,9 @@
 use Rattle.std.proofs.Common.{◌≡◌, ℕ, ◌-◌, List, ◌++◌, ap, sym, ◌∙◌, arith}
 use Rattle.std.proofs.lemmas.List.{append-nil}
 use Rattle.sync_model.specs.Turns.{drain_within}
+use Rattle.sync_model.proofs.Turning.{drained-state, no-turns-state, drain-state}
 use Rattle.match_hall.specs.Report.{drain_text}
-use Rattle.match_hall.proofs.Steps.{drained-state, drained-text, no-turns-state, no-turns-text, drain-state, drain-text, drain-made, drain-put, drain-stopped, no-turn, no-text}
+use Rattle.match_hall.proofs.Steps.{drained-text, no-turns-text, drain-text, drain-made, drain-put, drain-stopped, no-turn, no-text}
 use Rattle.match_hall.proofs.Along.{on_err_of}
 use Rattle.match_hall.proofs.drain.drain_mirror.Goals as goal
 

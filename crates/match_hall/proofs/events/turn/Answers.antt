@@ -5,7 +5,8 @@ use Rattle.game_trait.specs.declared.event.Reply.{Reply}
 use Rattle.sync_model.specs.State.{MirrorState}
 use Rattle.sync_model.specs.Change.{after, answers}
 use Rattle.sync_model.proofs.Cases.{next-fixed}
-use Rattle.match_hall.proofs.Steps.{turn-begun, turn-told, step-made, step-told, steps-none, few-copies}
+use Rattle.sync_model.proofs.Turning.{step-made, steps-none}
+use Rattle.match_hall.proofs.Steps.{turn-begun, turn-told, step-told, few-copies}
 use Rattle.match_hall.proofs.events.turn.Goals as goal
 
 pub loop-copy-init : goal.loop-copy-init

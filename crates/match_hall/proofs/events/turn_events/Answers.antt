@@ -2,7 +2,7 @@ use Rattle.std.proofs.Common.{ℕ, List, ◌+◌, ◌-◌, ◌++◌, ◌∷◌, 
 use Rattle.game_trait.specs.declared.event.Event.{Event}
 use Rattle.game_trait.specs.declared.event.Event.TheVariants.{Step}
 use Rattle.sync_model.specs.Turns.{steps_from}
-use Rattle.match_hall.proofs.Steps.{steps-more}
+use Rattle.sync_model.proofs.Turning.{steps-more}
 use Rattle.match_hall.proofs.events.turn_events.Goals as goal
 
 pub loop-copy-preserved : goal.loop-copy-preserved

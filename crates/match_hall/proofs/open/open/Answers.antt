@@ -15,12 +15,12 @@ loop-number-init g c = rw c.new-mirrors.ensures.items (let n : c.args.m.now.mirr
 
 pub new-requires-clause-equal_ticks : goal.new-requires-clause-equal_ticks
 new-requires-clause-equal_ticks g c =
-    subst (λ (ps : List Schedule). AllByRecursion (λ plan. plan.length ≡ ticks_of_first ps) ps) (sym (c.as_slice-in-loop-number-2.ensures.value ∙ c.in_ok-plans.ensures))
+    subst (λ (ps : List Schedule). AllByRecursion (λ plan. plan.length ≡ ticks_of_first ps) ps) (sym (c.as_slice-in-loop-number-2.ensures.value ∙ c.in_ok-plans.ensures.plans))
     (equal-ticks c.args.m.now (subst IsMatch c.m.view_is c.m.invariant))
 
 pub new-requires-clause-equal_copies : goal.new-requires-clause-equal_copies
 new-requires-clause-equal_copies g c =
-    subst (λ (ps : List Schedule). AllByRecursion (λ plan. length plan.delays ≡ copies_of_first ps) ps) (sym (c.as_slice-in-loop-number-2.ensures.value ∙ c.in_ok-plans.ensures))
+    subst (λ (ps : List Schedule). AllByRecursion (λ plan. length plan.delays ≡ copies_of_first ps) ps) (sym (c.as_slice-in-loop-number-2.ensures.value ∙ c.in_ok-plans.ensures.plans))
     (equal-copies c.args.m.now (subst IsMatch c.m.view_is c.m.invariant))
 
 pub loop-number-preserved : goal.loop-number-preserved
@@ -29,7 +29,7 @@ loop-number-preserved g c =
     let room = c.arrivals_at-room.ensures.value ∙ ap (λ (ls : List ScriptLine). times (arrives_at c.loop-number.number) ls) (c.as_slice.ensures ∙ all) in
     let changes = c.changes_at-changes.ensures.value ∙ ap (λ (ls : List ScriptLine). times (restaggers_at c.loop-number.number) ls) (c.as_slice-in-loop-number.ensures ∙ all) in
     opened-more c.args.opening.now c.args.m.now c.loop-number.number _ _ _ _ _ _ (rw (← c.m.view_is) c.loop-number-test.true)
-    (c.as_slice-in-loop-number-2.ensures.value ∙ c.in_ok-plans.ensures) room changes c.in_ok-new.ensures c.in_ok-push.ensures.items
+    (c.as_slice-in-loop-number-2.ensures.value ∙ c.in_ok-plans.ensures.plans) room changes c.in_ok-new.ensures c.in_ok-push.ensures.items
     ∙ c.loop-number.invariant
 
 pub returns-clause-mirrors : goal.returns-clause-mirrors

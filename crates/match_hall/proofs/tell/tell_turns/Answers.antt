@@ -1,6 +1,6 @@
 use Rattle.std.proofs.Common.{◌≡◌, ℕ, ◌-◌, ap, sym, ◌∙◌, arith}
 use Rattle.sync_model.specs.Turns.{drain_within}
-use Rattle.match_hall.proofs.Steps.{drained-state, no-turns-state, drain-state}
+use Rattle.sync_model.proofs.Turning.{drained-state, no-turns-state, drain-state}
 use Rattle.match_hall.proofs.Telling.{told-nothing, told-more}
 use Rattle.match_hall.proofs.tell.tell_turns.Goals as goal
 

@@ -1,6 +1,0 @@
-use Rattle.std.proofs.Common.{◌≡◌, ◌∷◌, map, take}
-use Rattle.match_file.specs.Data.{schedule_of}
-use Rattle.run_auditor.proofs.walk.plans.Given as goal
-
-abbrev pub invariant-loop-delays : goal.invariant-loop-delays
-invariant-loop-delays l = l.plans.items ≡ schedule_of l.m l.m.delays ∷ map (schedule_of l.m) (take l.delays-index l.m.plans)
