@@ -8,7 +8,7 @@ ghost use Rattle.copy_workers.specs.Copied.{is_ran, IsTurn, CopyEnds};
 use crate::copy_job::{CopyEnd, CopyJob};
 use crate::draft_post::DraftPost;
 use crate::gate::Gate;
-use crate::rest::rest_if;
+use crate::rest::Rest;
 use game_trait::{Event, Game, Reply, Stepped, Tick};
 use mirror_core::{Committed, Drafted};
 
@@ -58,10 +58,11 @@ pub fn run_copy<G: Game, P: DraftPost<G>, Q: Gate>(post: &mut P, gate: &Q, job: 
     ensures same { (p : P) → P.same p post.old → P.same p post.new }
 {
     let mut end = CopyEnd { ran: 0, turns: 0 };
+    let mut rest = Rest::new();
     'turns: while end.ran < job.length && end.turns < job.budget {
         gate.pass(job.mirror, job.copy, end.turns);
         let ran = run_turn::<G, P>(post, job.copy);
-        rest_if(ran == 0);
+        rest.after(ran == 0);
         end.ran += ran;
         end.turns += 1;
     }

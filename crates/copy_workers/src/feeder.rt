@@ -15,7 +15,7 @@ use crate::gate::Gate;
 use crate::hearing::{hear_all, least};
 use crate::issues::issue_tick;
 use crate::post::Post;
-use crate::rest::rest_if;
+use crate::rest::Rest;
 use game_trait::{Command, Event, Reply, Tick, Ticked};
 use link_ring::{LinkReceive, LinkSend};
 
@@ -196,6 +196,12 @@ impl Feeder {
 }
 
 impl Feeder {
+    // What a turn in which there was something to do moves: the clock, the commands that were taken,
+    // or the marks.
+    fn progress(&self) -> (Tick, u32, [Tick; 7]) {
+        (self.clock, self.taken, self.marks)
+    }
+
     // What the feeder gives back.
     fn ended(self) -> FeederEnd
         requires { self.issued < 2 ^ 32 }
@@ -278,11 +284,12 @@ pub fn run_feeder<P: Post, Q: Gate>(post: &mut P, gate: &Q, job: FeederJob) -> F
         taken: 0,
         turns: 0,
     };
+    let mut rest = Rest::new();
     while feeder.clock < end && feeder.turns < budget {
-        let clock = feeder.clock;
+        let before = feeder.progress();
         gate.pass(mirror, copies, feeder.turns);
         feeder.turn(post);
-        rest_if(feeder.clock == clock);
+        rest.after(feeder.progress() == before);
     }
     feeder.ended()
 }

@@ -276,6 +276,7 @@ impl<G: Game> Mirror<G> {
     /// there. Where it stands at its limit the answer is Idle; else, where more than 64 commands
     /// are due at its clock, Wide, with how many; else the draft, which fits, once it is run, what
     /// the mirror is now and whatever it becomes.
+    #[inline(always)]
     pub fn draft(&self, copy: u8) -> Drafted<G>
         requires { copy < length self.now.runs }
         ensures answer { result ≡ drafted G.rules self.now copy }

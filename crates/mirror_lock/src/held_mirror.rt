@@ -57,6 +57,7 @@ impl<G: Game> Held for HeldMirror<G> {
         matches!(call, LockCall::Event(Event::Arrive(_)))
     }
 
+    #[inline(always)]
     fn answer(&mut self, call: &LockCall<G>) -> LockReply<G> {
         match call {
             LockCall::Event(event) => LockReply::Event(self.mirror.make(event)),

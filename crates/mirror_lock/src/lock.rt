@@ -90,7 +90,7 @@ impl<G: Game> MirrorLock<G> {
     /// name a copy that is there; no seat puts another plan in force. The answer is the mirror's at
     /// that point of one history, of which the seat has then seen a front that ends with this
     /// event. It uses up one call of the seat's share, and an arrival one growing call. While it
-    /// waits, it yields the processor between two looks. It takes no memory.
+    /// waits, it pauses between two looks, or yields the processor. It takes no memory.
     pub fn ask<W: Wait>(&self, rt: &W, seat: &mut MirrorSeat<G>, event: &Event) -> Reply
         requires own { seat.old.seat.table_id ≡ self.now.lock.table.shared.table_id }
         requires fits { FitsSeat (mirror_rules G.rules) (view seat.old.seat) (AskEvent event.now) }

@@ -7,11 +7,13 @@
 //! returns. `TurnLock::close` takes all seats, and gives the object at the end of the history.
 //!
 //! A thread waits by tickets: it draws one, and then looks whether its ticket is served, again and
-//! again. Between two looks it yields the processor; it never sleeps. Where it needn't wait, a call
-//! costs two atomic additions, one atomic load and what the object does. Where others wait too,
-//! each call hands the turn to the thread that drew the next ticket, which costs more than a mutex,
-//! above all where threads share a processor. `start` takes all memory; `call` and `close` take
-//! none.
+//! again. Between two looks it pauses a little, and every so often it yields the processor; it
+//! never sleeps. Where it needn't wait, a call costs two atomic additions, one atomic load, two
+//! moves of a pointer, since the object lies on the heap, and what the object does. Where others
+//! wait too, each call hands the turn to the thread that drew the next ticket, which costs more
+//! than a mutex, above all where threads share a processor. So who had to yield while it waited
+//! yields some more after its call, and the queue gets shorter. `start` takes all memory; `call`
+//! and `close` take none.
 //!
 //! What isn't promised: that a turn ever comes, or when. A seat that was dropped can't be brought
 //! to `close`. Before `close` no clause says how what two seats have seen compares.
