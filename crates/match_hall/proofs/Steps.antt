@@ -12,7 +12,7 @@ use Rattle.game_trait.specs.Events.{is_arrival, is_restagger}
 use Rattle.sync_model.specs.WellFormed.{ArePlans, IsWellFormed}
 use Rattle.sync_model.specs.Legal.{NamesWhatIsThere}
 use Rattle.sync_model.specs.Turns.{turns_of, steps_from, turn_events, turn, is_drained, drain_within, drain_bound, drain}
-use Rattle.sync_model.proofs.Turning.{steps-more}
+use Rattle.sync_model.proofs.Turning.{drained-state, steps-more}
 use Rattle.match_hall.specs.Report.{turn_text, drain_text, drains_text}
 use Rattle.match_hall.specs.Stops.{IsStoppedDrain, IsStoppedDraining}
 use Rattle.std.proofs.lemmas.Grind.{take_at_read}
