@@ -1,6 +1,7 @@
 -- What a run of the program promises for the word `race`.
-use Rattle.std.specs.Prelude.{◌≡◌, ◌<◌, ℕ, Bool, false, List, [], ◌∷◌, bytes_eq, codes}
+use Rattle.std.specs.Prelude.{◌≡◌, ◌<◌, ◌+◌, ℕ, Bool, false, List, [], ◌∷◌, bytes_eq, codes}
 use Rattle.tss_io.specs.declared.cause.Cause.TheVariants.{Number}
+use Rattle.game_trait.specs.declared.limits.TheConstants.{LONGEST_MATCH_TEXT}
 use Rattle.tss_io.specs.declared.fault.Refused.{Refused}
 use Rattle.tss_io.specs.Reading.{refused_at}
 use Rattle.tss_io.specs.Streams.{Rose, Gains}
@@ -15,7 +16,7 @@ use Rattle.run_recorder.specs.Text.{record_text}
 use Rattle.race_hall.specs.Raced.{AreRaced}
 use Rattle.tss_program.specs.declared.status.Status.TheVariants.{Complete, NoMemory, ReadFault}
 use Rattle.tss_program.specs.Due.{Due, IsFaultyMatch, refusal_due, arena_shown, code}
-use Rattle.tss_program.specs.Run.{Streams, IsInput, IsPut}
+use Rattle.tss_program.specs.Run.{Streams, IsInput, IsPut, behind}
 use Rattle.tss_race.specs.Record.{record_of}
 
 -- the words are the one word `race`
@@ -54,14 +55,19 @@ pub data IsRaceDue (input : List ℕ) (due : Due) : Type 0 where
       → IsRaceDue input due
 
 -- how a run ends: memory ran out or a read failed, and nothing was written and kept; or for some
--- input, which is the one that the source tells where it tells one, what is due was written whole,
--- or a proper front of it where a write failed
+-- input, which is the one that the source tells where it tells one, and which was read to its end or
+-- to one byte past the limit of a match text, what is due was written whole, or a proper front of it
+-- where a write failed. No other call failed
 pub data IsRaceRun (old new : Streams) (status : ℕ) (kept : List MirrorLog) : Type 0 where
-  no_memory : status ≡ code NoMemory → kept ≡ [] → Gains old.taken [] new.taken
+  no_memory : status ≡ code NoMemory → new.read_faults ≡ old.read_faults → kept ≡ []
+      → new.write_faults ≡ old.write_faults → Gains old.taken [] new.taken
       → IsRaceRun old new status kept
   unread : status ≡ code ReadFault → Rose old.read_faults new.read_faults → kept ≡ []
-      → Gains old.taken [] new.taken → IsRaceRun old new status kept
+      → new.write_faults ≡ old.write_faults → Gains old.taken [] new.taken
+      → IsRaceRun old new status kept
   answered : (input : List ℕ) (due : Due) → IsInput old.left input → IsRaceDue input due
+      → new.left ≡ behind (LONGEST_MATCH_TEXT + 1) old.left
+      → new.read_faults ≡ old.read_faults
       → IsPut due.status due.text due.kept (new.write_faults ≡ old.write_faults)
       (Rose old.write_faults new.write_faults) old.taken new.taken status kept
       → IsRaceRun old new status kept

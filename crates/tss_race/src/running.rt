@@ -6,7 +6,7 @@ ghost use Rattle.game_trait.specs.declared.limits.TheConstants.{LONGEST_MATCH_TE
 ghost use Rattle.tss_io.specs.Streams.{Rose};
 ghost use Rattle.match_file.specs.Data.{IsMatch};
 ghost use Rattle.match_file.specs.Text.{match_text};
-ghost use Rattle.tss_program.specs.Run.{seen_of, IsInput, IsRun, WhyStopped, ReadsAtMost};
+ghost use Rattle.tss_program.specs.Run.{seen_of, behind, IsInput, IsRun, WhyStopped, ReadsAtMost};
 ghost use Rattle.tss_race.specs.Run.{asks_race, IsRefusedRace, IsRaceRun};
 
 use crate::answer::{Raced, race_match};
@@ -40,6 +40,9 @@ pub fn asks_race(words: &[String]) -> bool
 fn read_race<S: Source>(alloc: Global, source: &mut S) -> Result<Match, Stop>
     ensures found { IfOk result (λ m. IsMatch m × IsInput (S.left source.old) (match_text m)
         × (0 < m.pace)) }
+    ensures whole { OnOk result
+        ((S.left source.new ≡ behind (LONGEST_MATCH_TEXT + 1) (S.left source.old))
+        × (S.faults source.new ≡ S.faults source.old)) }
     ensures why { IfErr result (WhyStopped (LONGEST_MATCH_TEXT + 1) IsRefusedRace
         (S.left source.old) (S.left source.new)
         (S.faults source.new

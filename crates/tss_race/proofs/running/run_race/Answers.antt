@@ -19,11 +19,13 @@ returns-in-Ok-race_match-clause-run g c =
     (raced m ended.0 found.0 refl found.2 refl
     (subst (λ o. IsRecordOfRace (arena_shown m) o m ended.0 c.in-Ok-race_match.field-0.text c.in-Ok-race_match.field-0.kept)
     (c.start-opening.ensures.opening ∙ ap (λ (d : MatchData). opening_world d.layout) c.m.view_is) ended.1))
+    c.in-Ok.ensures.whole.0 c.in-Ok.ensures.whole.1
     (put-same Complete c.as_slice.result.now c.in-Ok-race_match.field-0.text c.in-Ok-race_match.field-0.kept c.in-Ok-race_match.field-0.kept _ _ _ _ _ _ c.as_slice.ensures refl c.put.ensures)
 
 pub returns-in-Err-Refused-clause-run : goal.returns-in-Err-Refused-clause-run
 returns-in-Err-Refused-clause-run g c =
     let why = subst (WhyStopped _ IsRefusedRace _ _ _ _) c.in-Err-Refused.field-0-is c.in-Err-Refused.ensures.why in
     answered why.0.input (refusal_due c.in-Err-Refused.refused) why.0.told (refused c.in-Err-Refused.refused why.0.is refl)
+    why.1 why.2
     (put-same Refusal c.as_bytes.result.now (refused_text c.in-Err-Refused.refused) c.new-in-Err-Refused.result [] _ _ _ _ _ _
     (c.as_bytes.ensures.value ∙ c.deref.ensures.0 ∙ c.refused_line.ensures ∙ ap refused_text c.in-Err-Refused.refused-is) c.new-in-Err-Refused.ensures c.put-in-Err-Refused.ensures)
