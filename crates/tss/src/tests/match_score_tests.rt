@@ -4,14 +4,13 @@ ghost use Rattle.std.specs.Prelude.{codes};
 ghost use Rattle.watch_board.specs.declared.watcher.Stay.TheVariants.{Leave};
 
 use crate::tests::program::{calls, words_of};
-use crate::watchers;
 use game_trait::Note;
 use match_file::{Match, TextFault, read_match};
 use match_score::score;
 use std::alloc::Global;
 use tss_io::{MemSink, MemSource, NoMemory};
-use tss_program::run_plain;
-use watch_board::{Stay, Watcher};
+use tss_program::{Done, run_plain};
+use watch_board::{FirstRepair, LateCount, RepairCount, Stay, Watcher};
 
 // A command of tick 1 that comes after five turns: copy 0 executes it at once, and the copies behind repair those ahead.
 const REPAIRED_TWICE: &[u8] =
@@ -27,14 +26,27 @@ const TWO_MIRRORS: &[u8] =
 const TWO_MIRRORS_SCORE: &str =
     "{\"mirrors\":[{\"accepted\":4,\"mirror\":0,\"repairs\":0,\"scores\":[0,2],\"turned\":0},{\"accepted\":0,\"mirror\":1,\"repairs\":0,\"scores\":[0,0],\"turned\":1}],\"names\":[\"ann\",\"bob\"]}\nwatch repairs 0\nwatch late 1\nwatch first none\ndone\n";
 
-// What `score` writes with the program's own watchers.
+// Runs `score` with the watchers that `main` makes.
+fn run_score(
+    alloc: Global,
+    words: &[String],
+    source: &mut MemSource,
+    sink: &mut MemSink,
+) -> Result<Done, NoMemory> {
+    let mut watchers: Vec<Box<dyn Watcher>> = Vec::new(alloc);
+    watchers.push(Box::new(alloc, RepairCount::new())?)?;
+    watchers.push(Box::new(alloc, LateCount::new())?)?;
+    watchers.push(Box::new(alloc, FirstRepair::new())?)?;
+    Ok(run_plain(alloc, words, source, sink, watchers))
+}
+
+// What `score` writes.
 fn scored(alloc: Global, text: &[u8]) -> Result<(u8, String), NoMemory> {
     let words = words_of(alloc, &["score"])?;
     let input = Vec::from_slice(alloc, text)?;
     let mut source = MemSource::new(input, 64, calls(alloc, None)?);
     let mut sink = MemSink::new(alloc, 4096, 64, calls(alloc, None)?)?;
-    let told = watchers(alloc)?;
-    let done = run_plain(alloc, words.as_slice(), &mut source, &mut sink, told);
+    let done = run_score(alloc, words.as_slice(), &mut source, &mut sink)?;
     Ok((done.status, String::from_utf8_lossy(alloc, sink.taken())?))
 }
 
@@ -71,15 +83,11 @@ impl Watcher for Guest {
     }
 }
 
-fn guests(alloc: Global) -> Result<Vec<Box<dyn Watcher>>, NoMemory> {
-    let mut guests: Vec<Box<dyn Watcher>> = Vec::new(alloc);
-    guests.push(Box::new(alloc, Guest)?)?;
-    Ok(guests)
-}
-
 // What is told of a match to a guest and to nobody else, and how many logs are kept.
 fn told(alloc: Global, m: &Match) -> Result<(String, usize), NoMemory> {
-    let answer = score(alloc, m, guests(alloc)?)?;
+    let mut guests: Vec<Box<dyn Watcher>> = Vec::new(alloc);
+    guests.push(Box::new(alloc, Guest)?)?;
+    let answer = score(alloc, m, guests)?;
     let text = String::from_utf8_lossy(alloc, answer.text.as_slice())?;
     Ok((text, answer.kept.len()))
 }
