@@ -1,7 +1,7 @@
 -- One player changed among the players.
-use Rattle.std.proofs.Common.{◌≡◌, ℕ, zero, suc, ◌<◌, ◌≤◌, List, [], ◌∷◌, length, get_or, set, refl, ap, arith, take_all, length-set}
+use Rattle.std.proofs.Common.{◌≡◌, ℕ, zero, suc, ◌<◌, ◌≤◌, List, [], ◌∷◌, map, length, get_or, set, refl, ap, arith, take_all, length-set}
 use Rattle.std.specs.List.{refill}
-use Rattle.std.proofs.lemmas.List.{take-append-le}
+use Rattle.std.proofs.lemmas.List.{take-append-le, length-map}
 use Rattle.arena_rules.specs.Player.{changed}
 use Rattle.arena_rules.specs.declared.player.Player.{Player}
 
@@ -28,3 +28,6 @@ refill-same xs ys same =
 
 pub refill-set : {X : Type 0} (xs : List X) (i : ℕ) (x : X) → refill (length xs) xs (set xs i x) ≡ set xs i x
 refill-set xs i x = refill-same xs (set xs i x) (length-set xs i x)
+
+pub refill-map : {X : Type 0} (xs : List X) (f : X → X) → refill (length xs) xs (map f xs) ≡ map f xs
+refill-map xs f = refill-same xs (map f xs) (length-map xs f)

@@ -10,7 +10,7 @@ use Rattle.arena_rules.specs.World.{IsState, IsPlayer, ArePlayers}
 use Rattle.arena_rules.specs.declared.player.Player.{Player}
 use Rattle.arena_rules.specs.declared.player.State.{State}
 use Rattle.arena_rules.specs.declared.player.State.TheVariants.{Live, Dead}
-use Rattle.arena_rules.proofs.Players.{ArePlayers-set, ArePlayers-stayed, IsPlayer-alive, player_at, unheld, nowhere_held}
+use Rattle.arena_rules.proofs.Apart.{ArePlayers-set, ArePlayers-stayed, IsPlayer-alive, player_at, unheld, nowhere_held}
 
 -- a player who comes home
 home-kept : (grid : Grid) (player : Player) → IsPlayer grid player → IsPlayer grid (alive player (body_at_home player.home))

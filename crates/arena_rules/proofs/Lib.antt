@@ -5,11 +5,13 @@ pub mod Changes
 mod Hits
 mod Flights
 mod Returns
-mod Players
+mod Apart
 mod Shots
 pub mod Dead
 mod Lying
-mod Pickups
+mod Ready
+mod Numbers
+mod Restings
 mod Worlds
 mod Lines
 mod Same

@@ -1,11 +1,12 @@
 -- The dead return one after the other.
-use Rattle.std.proofs.Common.{◌≡◌, ℕ, true, ◌+◌, ◌<◌, ◌≤◌, List, [], ◌∷◌, ◌++◌, length, take, drop, get_or, set, refl, sym, ap, ◌∙◌, arith, take_all, append_assoc}
+use Rattle.std.proofs.Common.{◌≡◌, ℕ, pos, true, ◌+◌, ◌<◌, ◌≤◌, List, [], ◌∷◌, ◌++◌, length, take, drop, get_or, set, refl, sym, ap, ◌∙◌, arith, take_all, append_assoc}
 use Rattle.std.proofs.lemmas.Grind.{take-set_at}
 use Rattle.std.proofs.lemmas.List.{append-nil, drop_more, drop-set-lt, set-get_or, take-append-drop, drop_all}
 use Rattle.std.specs.List.{list_all}
 use Rattle.std.proofs.lemmas.Bool.{and_parts}
 use Rattle.arena_rules.specs.Beat.{returned, returns}
 use Rattle.arena_rules.specs.Player.{is_live, is_live_state}
+use Rattle.arena_rules.specs.declared.face.Face.TheVariants.{N}
 use Rattle.arena_rules.specs.declared.player.Player.{Player}
 use Rattle.arena_rules.specs.declared.player.State.{State}
 use Rattle.arena_rules.specs.declared.player.State.TheVariants.{Live, Dead}
@@ -49,15 +50,17 @@ returns-behind before (player ∷ after) live =
 pub returns-live : (players : List Player) → list_all is_live players ≡ true → returns [] players ≡ players
 returns-live players live = returns-behind [] players live
 
--- the next player is live, and stays as it is
-pub returns-stays : (players : List Player) (number : ℕ) (d : Player) → number < length players → is_live (get_or players number d) ≡ true
-    → returns (take (number + 1) players) (drop (number + 1) players) ≡ returns (take number players) (drop number players)
-returns-stays players number d there live =
+-- a live player stays as it is among the players
+pub returned-stays : (players : List Player) (number : ℕ) (d : Player) → is_live (get_or players number d) ≡ true → set players number (returned players (get_or players number d)) ≡ players
+returned-stays players number d live =
     let player : Player = get_or players number d in
-    let same : set players number (returned players player) ≡ players = ap (set players number) (returned-live players player player.state refl live) ∙ set-get_or players number d in
-    ap (λ l. returns (take (number + 1) l) (drop (number + 1) l)) (sym same) ∙ returns-next players number d there
+    ap (set players number) (returned-live players player player.state refl live) ∙ set-get_or players number d
 
 -- no player is left
 pub returns-all : (players : List Player) (number : ℕ) → length players ≤ number → returns (take number players) (drop number players) ≡ players
 unfolding returns
 returns-all players number past = rw (take_all number players past, drop_all number players past) refl
+
+-- what stands past a list's end, in the words of the goals
+abbrev pub nobody : Player
+nobody = record { home = record { x = 0; y = 0; face = N }; score = pos 0; state = Dead 0 }

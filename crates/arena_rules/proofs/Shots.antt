@@ -15,7 +15,7 @@ use Rattle.arena_rules.specs.declared.player.Player.{Player}
 use Rattle.arena_rules.specs.declared.shot.Shot.{Shot}
 use Rattle.arena_rules.specs.declared.spot.Spot.{Spot}
 use Rattle.arena_rules.proofs.Changes.{length-changed}
-use Rattle.arena_rules.proofs.Players.{ArePlayers-changed, Keeps-struck, Keeps-with_gain, Keeps-with_loss}
+use Rattle.arena_rules.proofs.Apart.{ArePlayers-changed, Keeps-struck, Keeps-with_gain, Keeps-with_loss}
 
 -- a spot that is open is in the grid and on no wall
 pub open_spot-open : (grid : Grid) (face : Face) (place : ℤ × ℤ) (spot : Spot) → open_spot grid face place ≡ Some spot → is_open grid spot.x spot.y ≡ true

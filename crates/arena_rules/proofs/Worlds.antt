@@ -26,7 +26,7 @@ use Rattle.arena_rules.specs.declared.player.State.TheVariants.{Live, Dead}
 use Rattle.arena_rules.specs.declared.shot.Shot.{Shot}
 use Rattle.arena_rules.specs.declared.spot.Spot.{Spot}
 use Rattle.arena_rules.proofs.Cells.{IsDistinct-back, IsDistinct-front}
-use Rattle.arena_rules.proofs.Players.{ArePlayers-set, ArePlayers-stayed, IsPlayer-alive, IsPlayer-given, place-given, body_at, player_at, unheld}
+use Rattle.arena_rules.proofs.Apart.{ArePlayers-set, ArePlayers-stayed, IsPlayer-alive, IsPlayer-given, place-given, body_at, player_at, unheld}
 use Rattle.arena_rules.proofs.Shots.{open_spot-open, flights-kept}
 use Rattle.arena_rules.proofs.Dead.{returns-kept, length-returns}
 use Rattle.arena_rules.proofs.Lying.{ArePickups-taken, ArePickups-waited}

@@ -2,6 +2,7 @@ pub mod Ground
 pub mod Setup
 pub mod Player
 pub mod Pickup
+pub mod Kept
 pub mod Scene
 pub mod Command
 pub mod Beat

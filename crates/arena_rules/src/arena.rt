@@ -8,16 +8,19 @@ ghost use Rattle.arena_rules.specs.Beat.{beaten};
 ghost use Rattle.arena_rules.specs.World.{opening_world, IsWorld};
 
 use crate::block::{push_pickups, push_players, push_shots};
+use crate::copying::copy_into;
 use crate::ground::Ground;
-use crate::pickup::{Pickup, all_ready, ready_kind, take, wait};
-use crate::player::{Body, Player, all_at_home, is_held};
+use crate::pickup::Pickup;
+use crate::pickups::Pickups;
+use crate::player::{Body, Player};
+use crate::players::Players;
 use crate::returning::return_all;
 use crate::roster::Roster;
 use crate::setup::Setup;
 use crate::shot::{Shot, fly_shots};
 use crate::shown::Shown;
 use arrayvec::ArrayVec;
-use game_trait::limits::{MOST_PICKUPS, MOST_PLAYERS, MOST_SHOTS};
+use game_trait::limits::MOST_SHOTS;
 use game_trait::{Act, Command, Game, Tick};
 use std::marker::Model;
 use tss_io::NoMemory;
@@ -28,9 +31,9 @@ use tss_io::NoMemory;
 #[derive(Debug, Drop)]
 pub struct Arena {
     ground: Ground,
-    players: ArrayVec<Player, MOST_PLAYERS>,
+    players: Players,
     shots: ArrayVec<Shot, MOST_SHOTS>,
-    pickups: ArrayVec<Pickup, MOST_PICKUPS>,
+    pickups: Pickups,
     time: Tick,
 }
 
@@ -42,18 +45,18 @@ impl Model for Arena {
     ghost view = { λ a.
         record {
           grid = a.ground;
-          players = a.players.items;
+          players = a.players;
           shots = a.shots.items;
-          pickups = a.pickups.items;
+          pickups = a.pickups;
           time = a.time;
         } };
 
     ghost invariant = { λ a. IsWorld
         (record {
           grid = a.ground;
-          players = a.players.items;
+          players = a.players;
           shots = a.shots.items;
-          pickups = a.pickups.items;
+          pickups = a.pickups;
           time = a.time;
         }) };
 }
@@ -69,9 +72,9 @@ impl Arena {
     {
         Arena {
             ground: setup.ground,
-            players: all_at_home(&setup.players),
+            players: Players::all_at_home(&setup.players),
             shots: ArrayVec::new(),
-            pickups: all_ready(&setup.pickups),
+            pickups: Pickups::all_ready(&setup.pickups),
             time: 0,
         }
     }
@@ -90,7 +93,7 @@ impl Arena {
         requires { player < length self.now.players }
         ensures { option_map (λ p. p.score) (slice_get self.now.players player) ≡ Some result }
     {
-        self.players[player as usize].score
+        self.players.at(player as usize).score
     }
 
     /// Whether the other world is the same: ground, players, shots, pickups and time.
@@ -99,9 +102,9 @@ impl Arena {
     {
         self.time == other.time
             && self.ground == other.ground
-            && are_same_players(&self.players, &other.players)
+            && are_same_players(self.players.as_slice(), other.players.as_slice())
             && are_same_shots(&self.shots, &other.shots)
-            && are_same_pickups(&self.pickups, &other.pickups)
+            && are_same_pickups(&self.pickups.list(), &other.pickups.list())
     }
 
     // Appends the lines after the block's head. On `NoMemory` some may have been appended.
@@ -110,9 +113,9 @@ impl Arena {
         ensures ok { OnOk result (out.new.items ≡ out.old.items ++ block_of self.now roster.now) }
         ensures front { take (length out.old.items) out.new.items ≡ out.old.items }
     {
-        push_players(&self.players, roster, out)?;
+        push_players(self.players.as_slice(), roster, out)?;
         push_shots(&self.shots, roster, out)?;
-        push_pickups(&self.pickups, out)
+        push_pickups(&self.pickups.list(), out)
     }
 
     // The player of this number and the body, where the player is there and live.
@@ -121,7 +124,7 @@ impl Arena {
         ensures there { OnSome result (number < length self.now.players) }
         ensures sound { IsWorld self.now }
     {
-        match self.players.get(number as usize) {
+        match self.players.as_slice().get(number as usize) {
             Some(player) => player.live(),
             None => None,
         }
@@ -133,7 +136,7 @@ impl Arena {
         requires sound { IsWorld (with_player self.old number player) }
         ensures put { self.new ≡ with_player self.old number player }
     {
-        self.players[number as usize] = player;
+        self.players.put(number as usize, player);
     }
 
     // The player of this number, who has this body, comes to this spot, and takes what lies ready
@@ -143,9 +146,9 @@ impl Arena {
         requires sound { IsWorld (arrived self.old number player body) }
         ensures arrived { self.new ≡ arrived self.old number player body }
     {
-        let kind = ready_kind(&self.pickups, body.spot);
-        self.players[number as usize] = player.given(body, kind);
-        take(&mut self.pickups, body.spot, kind);
+        let kind = self.pickups.ready_kind(body.spot);
+        self.players.put(number as usize, player.given(body, kind));
+        self.pickups.take(body.spot, kind);
     }
 
     // A player goes one cell ahead.
@@ -159,7 +162,7 @@ impl Arena {
         let Some(spot) = self.ground.open_ahead(body.spot) else {
             return;
         };
-        if !is_held(&self.players, spot) {
+        if !self.players.is_held(spot) {
             self.arrive(number, player, Body { spot, ..body });
         }
     }
@@ -195,7 +198,8 @@ impl Arena {
             return;
         }
         let ammo = body.ammo - 1;
-        self.players[number as usize] = player.with_body(Body { ammo, ..body });
+        let after = player.with_body(Body { ammo, ..body });
+        self.players.put(number as usize, after);
         self.shots.push(Shot::fired(number, body.spot));
     }
 }
@@ -234,7 +238,7 @@ impl Game for Arena {
     {
         fly_shots(&self.ground, &mut self.players, &mut self.shots);
         return_all(&mut self.players);
-        wait(&mut self.pickups);
+        self.pickups.wait();
         self.time = self.time.saturating_add(1);
     }
 
@@ -243,9 +247,9 @@ impl Game for Arena {
         ensures sound { IsWorld self.new }
     {
         self.ground = other.ground;
-        copy_into(&mut self.players, &other.players);
+        self.players.set_from(&other.players);
         copy_into(&mut self.shots, &other.shots);
-        copy_into(&mut self.pickups, &other.pickups);
+        self.pickups.set_from(&other.pickups);
         self.time = other.time;
     }
 
@@ -255,9 +259,9 @@ impl Game for Arena {
     {
         Arena {
             ground: self.ground,
-            players: self.players.clone().unwrap(),
+            players: self.players.twin(),
             shots: self.shots.clone().unwrap(),
-            pickups: self.pickups.clone().unwrap(),
+            pickups: self.pickups.twin(),
             time: self.time,
         }
     }
@@ -296,18 +300,4 @@ fn are_same_pickups(a: &[Pickup], b: &[Pickup]) -> bool
     ensures { IsTrue result ↔ (a.now ≡ b.now) }
 {
     a == b
-}
-
-// Copies the items in place of those that are there, in the time that both take and not that of the
-// room.
-fn copy_into<T: Copy + Default, const N: usize>(place: &mut ArrayVec<T, N>, items: &[T])
-    requires { length items.now ≤ N }
-    ensures { place.new.items ≡ items.now }
-{
-    if place.len() == items.len() {
-        place.as_mut_slice().copy_from_slice(items);
-        return;
-    }
-    place.clear();
-    place.try_extend_from_slice(items).unwrap();
 }

@@ -4,11 +4,16 @@
 
 mod arena;
 mod block;
+mod copying;
 mod face;
 mod ground;
+mod number;
 mod pickup;
+mod pickups;
 mod player;
+mod players;
 pub mod possible;
+mod resting;
 mod returning;
 mod roster;
 mod setup;

@@ -1,18 +1,17 @@
 //! The players, live or dead.
 
-ghost use Rattle.std.specs.Prelude.{◌≡◌, ◌≤◌, ◌++◌, map, length, OnOk, OnErr};
-ghost use Rattle.game_trait.specs.declared.limits.TheConstants.{MOST_PLAYERS};
+ghost use Rattle.std.specs.Prelude.{◌≡◌, ◌++◌, OnOk, OnErr};
 ghost use Rattle.arena_rules.specs.Block.{state_line};
 ghost use Rattle.arena_rules.specs.Setup.{spot_cell};
 ghost use Rattle.arena_rules.specs.Player.{opening_player, body_at_home, turned_to, alive, stands_in, is_held, holder, is_live, struck, with_gain, with_loss};
 ghost use Rattle.arena_rules.specs.Pickup.{given};
 ghost use Rattle.arena_rules.specs.Command.{live_of};
+ghost use Rattle.arena_rules.specs.Kept.{place_number};
 
 use crate::face::Face;
+use crate::number::NOWHERE;
 use crate::pickup::Kind;
 use crate::spot::Spot;
-use arrayvec::ArrayVec;
-use game_trait::limits::MOST_PLAYERS;
 use tss_io::{NoMemory, Word, push_line};
 
 /// A live player's body.
@@ -110,6 +109,16 @@ impl Player {
         ensures { result ≡ is_live self.now }
     {
         matches!(self.state, State::Live(_))
+    }
+
+    /// The number of the cell in which a live player stands, and of none for a dead one.
+    pub fn place_number(&self) -> u16
+        ensures { result ≡ place_number self.now.state }
+    {
+        match self.state {
+            State::Live(body) => body.spot.cell_number(),
+            State::Dead { .. } => NOWHERE,
+        }
     }
 
     /// Whether the player is live and stands in the cell of this spot.
@@ -228,16 +237,4 @@ pub fn holder(players: &[Player], spot: Spot) -> Option<usize>
     ensures { result ≡ holder players.now (spot_cell spot) }
 {
     players.iter().position(|p| p.stands_in(spot))
-}
-
-/// The players as the match begins.
-pub fn all_at_home(homes: &[Spot]) -> ArrayVec<Player, MOST_PLAYERS>
-    requires { length homes.now ≤ MOST_PLAYERS }
-    ensures { result.items ≡ map opening_player homes.now }
-{
-    let mut players = ArrayVec::new();
-    for home in homes {
-        players.push(Player::at_home(*home));
-    }
-    players
 }

@@ -1,22 +1,22 @@
 //! How the dead come back: the second part of a beat.
 
-ghost use Rattle.std.specs.Prelude.{◌≡◌, []};
-ghost use Rattle.std.specs.List.{list_all};
+ghost use Rattle.std.specs.Prelude.{◌≡◌, ◌<◌, [], length, slice_set, slice_index_or};
+ghost use Rattle.arena_rules.specs.declared.player.Player.{Player as APlayer};
 ghost use Rattle.arena_rules.specs.Beat.{returned, returns};
-ghost use Rattle.arena_rules.specs.Player.{is_live};
 
-use crate::player::{Body, Player, State, is_held};
+use crate::player::{Body, Player, State};
+use crate::players::Players;
 
 // A player after waiting, among the players: a dead one returns where the home cell is free.
 #[tactic(auto, unfolding(crate::specs::Beat::returned))]
-fn returned(players: &[Player], player: Player) -> Player
+fn returned(players: &Players, player: Player) -> Player
     ensures { result ≡ returned players.now player }
 {
     let State::Dead { wait } = player.state else {
         return player;
     };
     let wait = wait.saturating_sub(1);
-    if wait == 0 && !is_held(players, player.home) {
+    if wait == 0 && !players.is_held(player.home) {
         player.with_body(Body::at_home(player.home))
     } else {
         Player {
@@ -26,32 +26,39 @@ fn returned(players: &[Player], player: Player) -> Player
     }
 }
 
-// Whether all players are live.
-fn are_live(players: &[Player]) -> bool
-    ensures { result ≡ list_all is_live players.now }
+// The player of this number, who is there, waits and returns where dead.
+fn return_one(players: &mut Players, number: usize)
+    requires { number < length players.old }
+    ensures returned { (d : APlayer) → players.new
+        ≡ slice_set players.old number
+        (returned players.old (slice_index_or players.old number d)) }
+    ensures count { length players.new ≡ length players.old }
 {
-    players.iter().all(|p| p.is_live())
+    let player = players.at(number);
+    if player.is_live() {
+        return;
+    }
+    let after = returned(players, player);
+    players.put(number, after);
 }
 
 // The dead wait and return, in player order. It is kept apart from a beat's code, since in most
 // beats all are live.
 #[inline(never)]
-fn return_each(players: &mut [Player])
+fn return_each(players: &mut Players)
     ensures { players.new ≡ returns [] players.old }
 {
     for number in 0..players.len() {
-        if !players[number].is_live() {
-            players[number] = returned(players, players[number]);
-        }
+        return_one(players, number);
     }
 }
 
 /// The second part of a beat: the dead wait and return, in player order. Where all players are live
 /// nothing changes.
-pub fn return_all(players: &mut [Player])
+pub fn return_all(players: &mut Players)
     ensures { players.new ≡ returns [] players.old }
 {
-    if are_live(players) {
+    if players.are_live() {
         return;
     }
     return_each(players);

@@ -6,7 +6,7 @@ ghost use Rattle.arena_rules.specs.Block.{shot_line};
 ghost use Rattle.arena_rules.specs.Beat.{hit, scored, flying, flown, flights, Flight, Flights};
 
 use crate::ground::Ground;
-use crate::player::{Player, holder};
+use crate::players::Players;
 use crate::roster::Roster;
 use crate::spot::Spot;
 use arrayvec::ArrayVec;
@@ -67,39 +67,44 @@ impl Shot {
 }
 
 // Changes the score of a shot's owner, after it killed the player of this number.
-fn score(players: &mut [Player], owner: usize, killed: usize)
+fn score(players: &mut Players, owner: usize, killed: usize)
     requires { owner < length players.old }
-    ensures { players.new ≡ scored players.old owner killed }
+    ensures scored { players.new ≡ scored players.old owner killed }
+    ensures count { length players.new ≡ length players.old }
 {
-    let player = players[owner];
-    players[owner] = if owner == killed {
-        player.with_loss()
+    let player = players.at(owner);
+    if owner == killed {
+        players.put(owner, player.with_loss());
     } else {
-        player.with_gain()
-    };
+        players.put(owner, player.with_gain());
+    }
 }
 
 // A shot of this owner hits the live player of this number.
-fn hit(players: &mut [Player], owner: usize, number: usize)
+fn hit(players: &mut Players, owner: usize, number: usize)
     requires owner { owner < length players.old }
     requires there { number < length players.old }
-    ensures { players.new ≡ hit players.old owner number }
+    ensures hit { players.new ≡ hit players.old owner number }
+    ensures count { length players.new ≡ length players.old }
 {
-    players[number] = players[number].struck();
-    if !players[number].is_live() {
+    let struck = players.at(number).struck();
+    players.put(number, struck);
+    if !struck.is_live() {
         score(players, owner, number);
     }
 }
 
 // One shot flies: the answer is the shot where it flies on.
-fn fly(ground: &Ground, players: &mut [Player], shot: Shot) -> Option<Shot>
+fn fly(ground: &Ground, players: &mut Players, shot: Shot) -> Option<Shot>
     requires { shot.owner < length players.old }
-    ensures { flown ground.now players.old shot ≡ record { players = players.new; shot = result } }
+    ensures flown { flown ground.now players.old shot
+        ≡ record { players = players.new; shot = result } }
+    ensures count { length players.new ≡ length players.old }
 {
     let Some(spot) = ground.open_ahead(shot.spot) else {
         return None;
     };
-    match holder(players, spot) {
+    match players.holder(spot) {
         Some(number) => {
             hit(players, shot.owner as usize, number);
             None
@@ -112,7 +117,7 @@ fn fly(ground: &Ground, players: &mut [Player], shot: Shot) -> Option<Shot>
 // that fly on, which move up in the list. It is kept apart from a beat's code, since most beats
 // have no shots.
 #[inline(never)]
-fn fly_each(ground: &Ground, players: &mut [Player], shots: &mut ArrayVec<Shot, MOST_SHOTS>)
+fn fly_each(ground: &Ground, players: &mut Players, shots: &mut ArrayVec<Shot, MOST_SHOTS>)
     requires { All (λ s. s.owner < length players.old) shots.old.items }
     ensures { flights ground.now players.old shots.old.items
         ≡ record { players = players.new; shots = shots.new.items } }
@@ -130,7 +135,7 @@ fn fly_each(ground: &Ground, players: &mut [Player], shots: &mut ArrayVec<Shot, 
 /// The first part of a beat: the shots of a world fly, and become those that fly on. Where there is
 /// none nothing changes.
 #[tactic(auto, unfolding(crate::specs::Beat::flights))]
-pub fn fly_shots(ground: &Ground, players: &mut [Player], shots: &mut ArrayVec<Shot, MOST_SHOTS>)
+pub fn fly_shots(ground: &Ground, players: &mut Players, shots: &mut ArrayVec<Shot, MOST_SHOTS>)
     requires { All (λ s. s.owner < length players.old) shots.old.items }
     ensures { flights ground.now players.old shots.old.items
         ≡ record { players = players.new; shots = shots.new.items } }

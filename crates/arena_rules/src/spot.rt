@@ -3,8 +3,10 @@
 ghost use Rattle.std.specs.Prelude.{◌≡◌};
 ghost use Rattle.arena_rules.specs.Setup.{spot_cell};
 ghost use Rattle.arena_rules.specs.Command.{ahead};
+ghost use Rattle.arena_rules.specs.Kept.{cell_number};
 
 use crate::face::Face;
+use crate::number::cell_number;
 
 /// A cell and a facing. In a grid x is from 0 to 63 and rises to the east, and y is from 0 to 63
 /// and rises to the south.
@@ -19,6 +21,13 @@ pub struct Spot {
 }
 
 impl Spot {
+    // The number of the cell.
+    pub(crate) fn cell_number(self) -> u16
+        ensures { result ≡ cell_number self.x self.y }
+    {
+        cell_number(self.x, self.y)
+    }
+
     // The column and the row of the cell ahead, which may be outside the grid.
     pub(crate) fn ahead(self) -> (i32, i32)
         ensures { result ≡ ahead self.face (spot_cell self) }

@@ -2,14 +2,14 @@ use Rattle.std.proofs.Common.{refl}
 use Rattle.arena_rules.specs.Beat.{flown}
 use Rattle.arena_rules.proofs.shot.fly.Goals as goal
 
-pub returns-in_default : goal.returns-in_default
+pub returns-in_default-clause-flown : goal.returns-in_default-clause-flown
 unfolding flown
-returns-in_default c = rw (← c.open_ahead.ensures, c.in_default.is) refl
+returns-in_default-clause-flown c = rw (← c.open_ahead.ensures, c.in_default.is) refl
 
-pub returns-in-Some-holder : goal.returns-in-Some-holder
+pub returns-in-Some-holder-clause-flown : goal.returns-in-Some-holder-clause-flown
 unfolding flown
-returns-in-Some-holder c = rw (← c.open_ahead.ensures, c.in-Some.is, ← c.holder.ensures, c.in-Some-holder.is, c.hit.ensures) refl
+returns-in-Some-holder-clause-flown c = rw (← c.open_ahead.ensures, c.in-Some.is, ← c.holder.ensures, c.in-Some-holder.is, c.hit.ensures.hit) refl
 
-pub returns-in-None : goal.returns-in-None
+pub returns-in-None-clause-flown : goal.returns-in-None-clause-flown
 unfolding flown
-returns-in-None c = rw (← c.open_ahead.ensures, c.in-Some.is, ← c.holder.ensures, c.in-None.is, c.flying.ensures) refl
+returns-in-None-clause-flown c = rw (← c.open_ahead.ensures, c.in-Some.is, ← c.holder.ensures, c.in-None.is, c.flying.ensures) refl
