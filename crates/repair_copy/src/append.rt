@@ -1,26 +1,42 @@
-//! A tick put at the list's end, where another executed it.
+//! Ticks put at the list's end, where they are executed elsewhere or later.
 
 ghost use Rattle.std.specs.Prelude.{◌≡◌, ◌+◌, ◌-◌, ◌<◌, ◌≤◌, ◌^◌, [], ◌∷◌, ◌++◌, map, length};
 ghost use Rattle.game_trait.specs.declared.command.Item.TheVariants.{Cmd, Beat};
-ghost use Rattle.game_trait.specs.Ordered.{tick_of, due_at};
+ghost use Rattle.game_trait.specs.Ordered.{ordered, tick_of, due_at};
 ghost use Rattle.executed_list.specs.Segments.{run_grown};
+ghost use Rattle.pending_list.specs.Buckets.{start_of};
 
 use executed_list::Segments;
 use game_trait::{Item, Tick};
 use pending_list::Buckets;
 
-// Appends a tick's commands in key order to the list.
-fn append_commands(list: &Buckets, t: Tick, run: &mut Segments)
-    requires { length (due_at list.now.all t) ≤ run.old.spare }
-    ensures { run.new ≡ run_grown run.old (map Cmd (due_at list.now.all t)) }
+// Appends a tick's commands in key order, from their start on. Answers where the next tick's begin.
+fn append_commands(list: &Buckets, start: u32, t: Tick, run: &mut Segments) -> u32
+    requires start { start ≡ start_of list.now.all t }
+    requires room { length (due_at list.now.all t) ≤ run.old.spare }
+    ensures run { run.new ≡ run_grown run.old (map Cmd (due_at list.now.all t)) }
+    ensures next { result ≡ start_of list.now.all (t + 1) }
 {
     let _ = run.len();
-    let start = list.start(t);
     let mut place = start;
     while let Some(x) = list.due(place, t) {
         run.push(&Item::Cmd(x));
         place += 1;
     }
+    place
+}
+
+// Appends a whole tick, whose commands start there in key order. Answers where the next tick's
+// begin.
+fn append_from(list: &Buckets, start: u32, t: Tick, run: &mut Segments) -> u32
+    requires start { start ≡ start_of list.now.all t }
+    requires room { length (due_at list.now.all t) < run.old.spare }
+    ensures run { run.new ≡ run_grown run.old (tick_of list.now.all t) }
+    ensures next { result ≡ start_of list.now.all (t + 1) }
+{
+    let next = append_commands(list, start, t, run);
+    run.push(&Item::Beat);
+    next
 }
 
 /// Appends a whole tick, for whose items there is room, to the list. It isn't executed here.
@@ -28,8 +44,23 @@ pub fn append_tick(list: &Buckets, t: Tick, run: &mut Segments)
     requires { length (tick_of list.now.all t) ≤ run.old.spare }
     ensures { run.new ≡ run_grown run.old (tick_of list.now.all t) }
 {
-    append_commands(list, t, run);
-    run.push(&Item::Beat);
+    let start = list.start(t);
+    append_from(list, start, t, run);
+}
+
+/// Appends the ticks from `start` up to `stop` in time order, for whose items there is room, to the
+/// list. They aren't executed here. One search finds the first tick's commands; those of the ticks
+/// behind follow them.
+pub fn append_ticks(list: &Buckets, start: Tick, stop: Tick, run: &mut Segments)
+    requires order { start ≤ stop }
+    requires room { length (ordered list.now.all start stop) ≤ run.old.spare }
+    ensures { run.new ≡ run_grown run.old (ordered list.now.all start stop) }
+{
+    let _ = run.len();
+    let mut place = list.start(start);
+    for t in start..stop {
+        place = append_from(list, place, t, run);
+    }
 }
 
 /// How many items a whole tick has.

@@ -1,20 +1,19 @@
 use Rattle.std.proofs.Common.{arith}
-use Rattle.pending_list.proofs.Walks.{walk-begun, walk-more, walk-left}
+use Rattle.pending_list.proofs.Walks.{walk-begun, walk-more, walk-left, walk-done}
 use Rattle.repair_copy.proofs.Walking.{room-more, appended-none, appended-more, appended-all}
 use Rattle.repair_copy.proofs.append.append_commands.Goals as goal
 
 pub loop-x-init : goal.loop-x-init
 loop-x-init c = record {
-  walked =
-      (walk-begun c.args.list.now.all c.args.t c.start-start.result c.start-start.ensures.start).0;
+  walked = (walk-begun c.args.list.now.all c.args.t c.args.start c.requires.start).0;
   run =
-      appended-none c.args.list.now.all c.args.t c.start-start.result c.args.run.now
-      c.start-start.ensures.start c.len.ensures.first;
+      appended-none c.args.list.now.all c.args.t c.args.start c.args.run.now c.requires.start
+      c.len.ensures.first;
 }
 
 pub push-requires : goal.push-requires
 push-requires c =
-    room-more c.loop-x.invariant.walked c.args.run.now c.loop-x.run c.in-Some.x c.requires
+    room-more c.loop-x.invariant.walked c.args.run.now c.loop-x.run c.in-Some.x c.requires.room
     c.loop-x.invariant.run c.in-Some.ensures.due
 
 pub loop-x-smaller : goal.loop-x-smaller
@@ -33,7 +32,10 @@ loop-x-preserved c =
           c.loop-x.invariant.run due c.push.ensures;
     }
 
-pub returns : goal.returns
-returns c =
+pub returns-clause-run : goal.returns-clause-run
+returns-clause-run c =
     appended-all c.loop-x.invariant.walked c.args.run.now c.loop-x.run c.loop-x.invariant.run
     c.in_default.ensures.due
+
+pub returns-clause-next : goal.returns-clause-next
+returns-clause-next c = (walk-done c.loop-x.invariant.walked c.in_default.ensures.due).1.0
