@@ -259,12 +259,18 @@ worlds-more {W} rules all kb ks old now down last e w x y d low there many at_w 
 
 -- the copies from c on up to the last stand where they shall, and those ahead of c stand where c
 -- stands
-pub record SoFar {W : Type 0} (rules : Rules W) (all : List Command) (ks : List ℕ) (last : ℕ)
-    (b : OneList) (old : List W) (c : ℕ) (s : OneList) (now : List W) :
+pub record SoFar (all : List Command) (ks : List ℕ) (last : ℕ) (b : OneList) (c : ℕ)
+    (s : OneList) :
     Type 0 where
   pub items : s.items ≡ grown_to all b.items (get_or ks c 0)
   pub ends : s.ends ≡ filled c (length s.items) (mixed last (end_to all b.items) ks b.ends)
   pub spare : s.spare + length s.items ≡ b.spare + length b.items
+
+-- the worlds of the copies from c on up to the last are made, and those ahead of c are what they
+-- were
+pub record WorldsSoFar {W : Type 0} (rules : Rules W) (all : List Command) (ks : List ℕ)
+    (last : ℕ) (b : OneList) (old : List W) (c : ℕ) (now : List W) :
+    Type 0 where
   pub worlds :
       (d : W)
       → now
@@ -272,23 +278,18 @@ pub record SoFar {W : Type 0} (rules : Rules W) (all : List Command) (ks : List 
       ++ drop c (mixed last (world_to rules all (beats b.items) (get_or old last d)) ks old)
 
 -- what the repair is given
-pub record Given {W : Type 0} (all : List Command) (ks : List ℕ) (last : ℕ) (b : OneList)
-    (old : List W) :
-    Type 0 where
+pub record Given (all : List Command) (ks : List ℕ) (last : ℕ) (b : OneList) : Type 0 where
   pub there : last < length b.ends
-  pub as_many_worlds : length old ≡ length b.ends
   pub as_many_clocks : length ks ≡ length b.ends
   pub level : b.ends ≡ filled (last + 1) (length b.items) b.ends
   pub clock : get_or ks last 0 ≡ beats b.items
   pub falls : Falls ks
   pub room : length (ordered all (beats b.items) (get_or ks 0 0)) ≤ b.spare
 
-module _ {W : Type 0} (rules : Rules W) {all : List Command} {ks : List ℕ} {last : ℕ} {b : OneList}
-    {old : List W} (h : Given all ks last b old) where
-  pub start : SoFar rules all ks last b old last b old
+module _ {all : List Command} {ks : List ℕ} {last : ℕ} {b : OneList} (h : Given all ks last b) where
+  pub start : SoFar all ks last b last b
   start =
       let there = h.there in
-      let worlds = h.as_many_worlds in
       let clocks = h.as_many_clocks in
       record {
         items = items-start all b.items (get_or ks last 0) h.clock;
@@ -296,8 +297,6 @@ module _ {W : Type 0} (rules : Rules W) {all : List Command} {ks : List ℕ} {la
             ends-start last (length b.items) (end_to all b.items) ks b.ends h.there (omega arith)
             h.level;
         spare = refl;
-        worlds = λ d. worlds-start last (world_to rules all (beats b.items) (get_or old last d)) ks
-            old (omega arith);
       }
 
   pub clocks-fall : (e : ℕ) → e + 1 ≤ last → get_or ks (e + 1) 0 ≤ get_or ks e 0
@@ -320,8 +319,8 @@ module _ {W : Type 0} (rules : Rules W) {all : List Command} {ks : List ℕ} {la
   target-length : length (mixed last (end_to all b.items) ks b.ends) ≡ length b.ends
   target-length = mixed-length last (end_to all b.items) ks b.ends
 
-  module _ (e : ℕ) {s : OneList} {now : List W} (low : e + 1 ≤ last)
-      (so_far : SoFar rules all ks last b old (e + 1) s now) where
+  module _ (e : ℕ) {s : OneList} (low : e + 1 ≤ last)
+      (so_far : SoFar all ks last b (e + 1) s) where
     pub room-for : length (ordered all (get_or ks (e + 1) 0) (get_or ks e 0)) ≤ s.spare
     room-for =
         let part =
@@ -376,15 +375,11 @@ module _ {W : Type 0} (rules : Rules W) {all : List Command} {ks : List ℕ} {la
 
       -- and after that
       pub more :
-          {after : OneList} {down : List W} (x y : W)
+          {after : OneList}
           → after ≡ record grown { ends = filled (e + 1) (length grown.items) grown.ends }
-          → ((d : W) → down ≡ set now e (get_or now (e + 1) d))
-          → x ≡ get_or down e x
-          → y ≡ world_of rules x (ordered all (get_or ks (e + 1) 0) (get_or ks e 0))
-          → SoFar rules all ks last b old e after (set down e y)
-      more {after} {down} x y brought copied at_x at_y =
+          → SoFar all ks last b e after
+      more {after} brought =
           let there = h.there in
-          let worlds = h.as_many_worlds in
           let clocks = h.as_many_clocks in
           let target_long = target-length in
           let items_of :
@@ -425,24 +420,45 @@ module _ {W : Type 0} (rules : Rules W) {all : List Command} {ks : List ℕ} {la
                 ∙ ap (λ (l : List Item).
                 filled e (length l) (mixed last (end_to all b.items) ks b.ends)) (sym same);
             spare = omega arith;
-            worlds = λ d.
-                worlds-more rules all (beats b.items) ks old now down last e (get_or old last d) x y
-                d (omega arith) (omega arith) (omega arith) refl h.clock
-                (clocks-from (e + 1) low) (clocks-fall e low) (so_far.worlds d) (copied d)
-                (at_x
-                ∙ get-any down e x d (let one = ap (λ (l : List W). length l) (copied d) in
-                let two = length-set now e (get_or now (e + 1) d) in
-                let three = now-length d in omega arith)) at_y;
           }
-        where
-          now-length : (d : W) → length now ≡ length old
-          now-length d =
-              let target =
-              mixed-length last (world_to rules all (beats b.items) (get_or old last d)) ks
-              old in
-              let there = h.there in
-              let worlds = h.as_many_worlds in
-              ap (λ (l : List W). length l) (so_far.worlds d)
-              ∙ seam-length old
-              (mixed last (world_to rules all (beats b.items) (get_or old last d)) ks old)
-              (e + 1) (omega arith) (omega arith)
+
+  -- and the worlds
+  module _ {W : Type 0} (rules : Rules W) {old : List W} (worlds : length old ≡ length b.ends) where
+    pub start-worlds : WorldsSoFar rules all ks last b old last old
+    start-worlds =
+        let there = h.there in
+        let clocks = h.as_many_clocks in
+        record {
+          worlds = λ d. worlds-start last
+              (world_to rules all (beats b.items) (get_or old last d)) ks old (omega arith);
+        }
+
+    pub more-worlds :
+        (e : ℕ) {now down : List W} (x y : W) → e + 1 ≤ last
+        → WorldsSoFar rules all ks last b old (e + 1) now
+        → ((d : W) → down ≡ set now e (get_or now (e + 1) d))
+        → x ≡ get_or down e x
+        → y ≡ world_of rules x (ordered all (get_or ks (e + 1) 0) (get_or ks e 0))
+        → WorldsSoFar rules all ks last b old e (set down e y)
+    more-worlds e {now} {down} x y low so_far copied at_x at_y =
+        let there = h.there in
+        let clocks = h.as_many_clocks in
+        record {
+          worlds = λ d. worlds-more rules all (beats b.items) ks old now down last e
+              (get_or old last d) x y d (omega arith) (omega arith) (omega arith) refl h.clock
+              (clocks-from (e + 1) low) (clocks-fall e low) (so_far.worlds d) (copied d)
+              (at_x
+              ∙ get-any down e x d (let one = ap (λ (l : List W). length l) (copied d) in
+              let two = length-set now e (get_or now (e + 1) d) in
+              let three = now-length d in omega arith)) at_y;
+        }
+      where
+        now-length : (d : W) → length now ≡ length old
+        now-length d =
+            let target =
+            mixed-length last (world_to rules all (beats b.items) (get_or old last d)) ks old in
+            let there = h.there in
+            ap (λ (l : List W). length l) (so_far.worlds d)
+            ∙ seam-length old
+            (mixed last (world_to rules all (beats b.items) (get_or old last d)) ks old) (e + 1)
+            (omega arith) (omega arith)

@@ -4,7 +4,7 @@ use Rattle.std.proofs.Common.{Bool, true, false, ◌||◌, cond, ltb, List, [], 
 use Rattle.std.proofs.Common.{take, drop, get_or, set, arith, length-append, take_all, ⊎_elim}
 use Rattle.std.proofs.lemmas.Bool.{cases_lt, le-ltb, ltb-true, ltb-false}
 use Rattle.std.proofs.lemmas.List.{drop-drop, drop-set-lt, get_or-drop, get_or-set_same}
-use Rattle.std.proofs.lemmas.List.{get_or-set_other, length-set, take-append-drop, take-take}
+use Rattle.std.proofs.lemmas.List.{get_or-set_other, length-set}
 use Rattle.std.specs.List.{AllByRecursion, list_any}
 use Rattle.game_trait.specs.declared.command.Command.{Command}
 use Rattle.game_trait.specs.declared.command.Item.{Item}
@@ -32,6 +32,7 @@ use Rattle.executed_list.specs.Segments.{OneList, Falls, StartsAtMost, end_of, r
 use Rattle.executed_list.proofs.Lists.{get-any}
 use Rattle.trailing_copy.specs.Stack.{IsStack}
 use Rattle.trailing_copy.proofs.Ahead.{falls-between}
+use Rattle.trailing_copy.proofs.Fresh.{front-parts}
 use Rattle.trailing_copy.proofs.Remade.{Change, Put, run-many, clock-many, clock-at, run-at, world-at, clocks-fall}
 use Rattle.game_trait.proofs.Lists.{all-at}
 
@@ -219,11 +220,7 @@ behind-above t (k ∷ ks) i falls low there =
 
 -- a shorter front of a list is a front of a longer one
 front-within : (items : List Item) (e a : ℕ) → e ≤ a → IsPrefix (take e items) (take a items)
-front-within items e a low = (
-  drop e (take a items),
-  sym (take-append-drop e (take a items))
-      ∙ ap (λ (l : List Item). l ++ drop e (take a items)) (take-take e a items low),
-)
+front-within items e a low = (drop e (take a items), sym (front-parts items e a low))
 
 world-command :
     {W : Type 0} (rules : Rules W) (opening : W) (run : List Item) (x : Command)
@@ -233,8 +230,8 @@ world-command rules opening run x =
     ∙ sym (world_of-append rules opening run (Cmd x ∷ []))
 
 module _ {W : Type 0} {rules : Rules W} {opening : W} {ticks : ℕ} {all : List Command} {spare : ℕ}
-    {s : OneList} {worlds : List W} {clocks : List ℕ}
-    (h : IsStack rules opening ticks all spare s worlds clocks) (falls : Falls s.ends)
+    {s : OneList} {worlds : List W} {clocks : List ℕ} {stale : ℕ}
+    (h : IsStack rules opening ticks all spare s worlds clocks stale) (falls : Falls s.ends)
     (first : end_of s.ends 0 ≡ length s.items) where
   pub late-change :
       (x : Command) (f m : ℕ) → 0 < spare → list_any (same_name x) all ≡ false
@@ -302,19 +299,19 @@ module _ {W : Type 0} {rules : Rules W} {opening : W} {ticks : ℕ} {all : List 
 
   -- the worlds on which the command is executed are those of one run
   pub late-put :
-      (x : Command) (f m : ℕ) (put : List W) → m < length s.ends
+      (x : Command) (f m : ℕ) (put : List W) → stale ≤ f → m < length s.ends
       → ((i : ℕ) → f ≤ i → i ≤ m
       → copy_clock (runs_at s.items s.ends) i ≡ copy_clock (runs_at s.items s.ends) m)
       → ((d : W) (i : ℕ) → f ≤ i → i ≤ m → get_or put i d ≡ rules.apply (get_or worlds i d) x)
       → drop (m + 1) put ≡ drop (m + 1) worlds → length put ≡ length worlds
       → Put rules opening (take (end_of s.ends m) s.items ++ Cmd x ∷ []) f m worlds put
-  late-put x f m put there level each behind many =
+  late-put x f m put fresh there level each behind many =
       let e : suc m ≡ m + 1 = omega arith in
       record {
         len = many;
         here = λ i d from upto.
             each d i from upto
-            ∙ ap (λ (w : W). rules.apply w x) (world-at h falls first i d (omega arith))
+            ∙ ap (λ (w : W). rules.apply w x) (world-at h falls first i d (omega arith) (omega arith))
             ∙ ap (λ (run : List Item). rules.apply (world_of rules opening run) x)
             (same-run i m upto there (level i from upto))
             ∙ world-command rules opening (take (end_of s.ends m) s.items) x;
@@ -347,7 +344,7 @@ module _ {W : Type 0} {rules : Rules W} {opening : W} {ticks : ℕ} {all : List 
   pub early-kept :
       (x : Command) → 0 < spare → last_clock (runs_at s.items s.ends) ≤ x.time
       → list_any (is_late_at x) (runs_at s.items s.ends) ≡ false
-      → IsStack rules opening ticks (all ++ x ∷ []) (spare - 1) s worlds clocks
+      → IsStack rules opening ticks (all ++ x ∷ []) (spare - 1) s worlds clocks stale
   early-kept x some due early =
       let grown = length-append all (x ∷ []) in
       let room = h.room in
@@ -357,9 +354,10 @@ module _ {W : Type 0} {rules : Rules W} {opening : W} {ticks : ℕ} {all : List 
             (arrival_early all x (runs_at s.items s.ends) h.trailing.chained early).0
             (trailing-arrival h.trailing x due);
         clocks_are = h.clocks_are;
+        as_many_worlds = h.as_many_worlds;
         worlds_are = h.worlds_are;
+        few_stale = h.few_stale;
         within = h.within;
-        some_copy = h.some_copy;
         few_copies = h.few_copies;
         few_ticks = h.few_ticks;
         room = omega arith;

@@ -20,8 +20,8 @@ use Rattle.sync_model.specs.Staggered.{IsTrailing}
 use Rattle.sync_model.proofs.Rebuilt.{step_front}
 use Rattle.sync_model.proofs.Trailing.{trailing-step, beats-step}
 use Rattle.executed_list.specs.Segments.{OneList, Falls, end_of, runs_at}
-use Rattle.trailing_copy.specs.Stack.{IsStack}
-use Rattle.trailing_copy.proofs.Remade.{run-many, run-at, end-inside}
+use Rattle.trailing_copy.specs.Stack.{IsStack, AreWorlds}
+use Rattle.trailing_copy.proofs.Remade.{run-many, run-at, end-inside, worlds-whole}
 use Rattle.trailing_copy.proofs.Steps.{clock-read, new-run, behind-ahead}
 
 -- two tests that follow from each other are one
@@ -89,8 +89,8 @@ front-same items e a due inside ahead none =
     none-more (x ∷ xs) = ap (λ (m : List Item). x ∷ m) (none-more xs)
 
 module _ {W : Type 0} {rules : Rules W} {opening : W} {ticks : ℕ} {all : List Command} {spare : ℕ}
-    {s : OneList} {worlds : List W} {clocks : List ℕ}
-    (h : IsStack rules opening ticks all spare s worlds clocks) (falls : Falls s.ends)
+    {s : OneList} {worlds : List W} {clocks : List ℕ} {stale : ℕ}
+    (h : IsStack rules opening ticks all spare s worlds clocks stale) (falls : Falls s.ends)
     (first : end_of s.ends 0 ≡ length s.items)
     (c t : ℕ) (there : suc c < length (runs_at s.items s.ends)) (at : t ≡ get_or clocks (suc c) t)
     (below : beats (get_or (runs_at s.items s.ends) (suc c) []) < ticks)
@@ -166,19 +166,21 @@ module _ {W : Type 0} {rules : Rules W} {opening : W} {ticks : ℕ} {all : List 
   passed-repaired = sym (step_front all (runs_at s.items s.ends) c h.trailing.chained front).1
 
   pub passed-kept :
-      (w : W)
+      (w : W) → stale ≡ 0
       → w ≡ world_of rules opening (with_tick all (get_or (runs_at s.items s.ends) (suc c) []))
       → IsStack rules opening ticks all spare
       (record s { ends = set s.ends (suc c) (end_of s.ends (suc c) + length (tick_of all t)) })
-      (set worlds (suc c) w) (set clocks (suc c) (t + 1))
-  passed-kept w at_w =
+      (set worlds (suc c) w) (set clocks (suc c) (t + 1)) stale
+  passed-kept w fresh at_w =
       let room = behind-ahead (runs_at s.items s.ends) c behind in
       let runs = runs_at s.items s.ends in
       let q = with_tick all (get_or (runs_at s.items s.ends) (suc c) []) in
       let i = inside in
       let clock = clock-read h falls first (suc c) t inside at in
       let many = length-set s.ends (suc c) (end_of s.ends (suc c) + length (tick_of all t)) in
-      let some = h.some_copy in
+      let worlds_many = length-set worlds (suc c) w in
+      let as_many = h.as_many_worlds in
+      let few_stale = h.few_stale in
       let few = h.few_copies in
       let value :
       w ≡ world_of rules opening (with_tick all (get_or (runs_at s.items s.ends) (suc c) [])) =
@@ -196,13 +198,19 @@ module _ {W : Type 0} {rules : Rules W} {opening : W} {ticks : ℕ} {all : List 
             ap (set clocks (suc c)) (ap (λ (k : ℕ). k + 1) clock)
             ∙ ap (λ (l : List ℕ). set l (suc c) (beats (get_or runs (suc c) []) + 1)) h.clocks_are
             ∙ sym (beats-step h.trailing (suc c) room) ∙ ap (map beats) (sym passed-runs);
-        worlds_are =
-            ap (set worlds (suc c)) value
-            ∙ ap (λ (l : List W). set l (suc c) (world_of rules opening q)) h.worlds_are
+        worlds_are = subst (λ (n : ℕ). AreWorlds rules opening
+            (record s {
+              ends = set s.ends (suc c) (end_of s.ends (suc c) + length (tick_of all t));
+            })
+            n (set worlds (suc c) w)) (sym fresh)
+            (ap (set worlds (suc c)) value
+            ∙ ap (λ (l : List W). set l (suc c) (world_of rules opening q))
+            (worlds-whole h falls first fresh)
             ∙ sym (map-set (world_of rules opening) runs (suc c) q)
-            ∙ ap (map (world_of rules opening)) (sym same_set);
+            ∙ ap (map (world_of rules opening)) (sym same_set));
         within = all-put (λ k. k ≤ ticks) clocks (suc c) (t + 1) h.within (omega arith);
-        some_copy = omega arith;
+        as_many_worlds = omega arith;
+        few_stale = omega arith;
         few_copies = omega arith;
         few_ticks = h.few_ticks;
         room = h.room;

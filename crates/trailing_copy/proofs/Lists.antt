@@ -1,10 +1,14 @@
 -- Lists of which the first so many are changed.
-use Rattle.std.proofs.Common.{◌≡◌, refl, ◌∙◌, sym, ap, ℕ, zero, suc, ◌+◌, ◌≤◌, ◌<◌, List, [], ◌∷◌}
+use Rattle.std.proofs.Common.{◌≡◌, refl, ◌∙◌, sym, ap, ℕ, zero, suc, ◌+◌, ◌-◌, ◌≤◌, ◌<◌, List, [], ◌∷◌}
 use Rattle.std.proofs.Common.{◌++◌, length, take, drop, get_or, set, arith, append-nil, take_all}
 use Rattle.std.proofs.lemmas.List.{length-set}
 use Rattle.executed_list.specs.Segments.{OneList, end_of, filled}
 use Rattle.executed_list.proofs.Lists.{filled-more}
 use Rattle.executed_list.proofs.Grown.{one}
+
+-- a number above 0 is one more than the one below it
+pub one-more : (c : ℕ) → 0 < c → c ≡ (c - 1) + 1
+one-more c h = omega arith
 
 drop-all : {X : Type 0} (xs : List X) → drop (length xs) xs ≡ []
 drop-all [] = refl

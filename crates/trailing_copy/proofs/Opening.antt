@@ -72,7 +72,7 @@ pub empty-stack :
     → length_ ≤ 8192
     → IsStack rules opening length_ [] room
     (record { items = []; ends = replicate n 0; spare = length_ + room }) (replicate n opening)
-    (replicate n 0)
+    (replicate n 0) 0
 empty-stack rules opening length_ n room few short =
     let count = length-replicate n zero in
     let some = few.0 in
@@ -81,9 +81,10 @@ empty-stack rules opening length_ n room few short =
     record {
       trailing = subst (IsTrailing []) back (empty-trailing n);
       clocks_are = same-count beats n [] 0 no-beats ∙ ap (map beats) back;
+      as_many_worlds = length-replicate n opening ∙ sym count;
+      few_stale = omega arith;
       worlds_are = same-count (world_of rules opening) n [] opening (world_of-none rules opening) ∙ ap (map (world_of rules opening)) back;
       within = all-same (λ k. k ≤ length_) n 0 (omega arith);
-      some_copy = omega arith;
       few_copies = omega arith;
       few_ticks = short;
       room = omega arith;

@@ -20,7 +20,8 @@ use Rattle.sync_model.specs.Staggered.{IsTrailing}
 use Rattle.executed_list.specs.Segments.{OneList, Falls, StartsAtMost, end_of, filled, runs_at, run_grown}
 use Rattle.executed_list.proofs.Lists.{within, length-filled}
 use Rattle.trailing_copy.specs.Mixed.{mixed, grown_to, end_to, world_to}
-use Rattle.trailing_copy.specs.Stack.{IsStack}
+use Rattle.trailing_copy.specs.Stack.{IsStack, AreWorlds}
+use Rattle.trailing_copy.proofs.Fresh.{from-later, from-at, left-worlds, put-worlds}
 use Rattle.trailing_copy.proofs.Lists.{filled-below, filled-at}
 use Rattle.trailing_copy.proofs.Ahead.{Given, falls-between, mixed-length}
 use Rattle.trailing_copy.proofs.Closing.{repaired-runs, repaired-worlds}
@@ -75,17 +76,14 @@ filled-twice (k ∷ ks) (suc f) (suc c) n order there =
     ap (λ (l : List ℕ). n ∷ l) (filled-twice ks f c n (omega arith) (omega arith))
 
 module _ {W : Type 0} {rules : Rules W} {opening : W} {ticks : ℕ} {all : List Command} {spare : ℕ}
-    {s : OneList} {worlds : List W} {clocks : List ℕ}
-    (h : IsStack rules opening ticks all spare s worlds clocks) (falls : Falls s.ends)
+    {s : OneList} {worlds : List W} {clocks : List ℕ} {stale : ℕ}
+    (h : IsStack rules opening ticks all spare s worlds clocks stale) (falls : Falls s.ends)
     (first : end_of s.ends 0 ≡ length s.items) where
   pub run-many : length (runs_at s.items s.ends) ≡ length s.ends
   run-many = length-map s.ends (λ (e : ℕ). take e s.items)
 
   pub clock-many : length clocks ≡ length s.ends
   clock-many = ap (λ (l : List ℕ). length l) h.clocks_are ∙ length-map (runs_at s.items s.ends) beats ∙ run-many
-
-  pub world-many : length worlds ≡ length s.ends
-  world-many = ap (λ (l : List W). length l) h.worlds_are ∙ length-map (runs_at s.items s.ends) (world_of rules opening) ∙ run-many
 
   pub clock-at : (i : ℕ) → i < length s.ends → get_or clocks i 0 ≡ beats (get_or (runs_at s.items s.ends) i [])
   clock-at i there = (let many = run-many in ap (λ (l : List ℕ). get_or l i 0) h.clocks_are ∙ get_or-map beats (runs_at s.items s.ends) i [] 0 (omega arith))
@@ -94,10 +92,17 @@ module _ {W : Type 0} {rules : Rules W} {opening : W} {ticks : ℕ} {all : List 
   run-at i there = get_or-map (λ (e : ℕ). take e s.items) s.ends i 0 [] there
 
   pub world-at :
-      (i : ℕ) (d : W) → i < length s.ends
+      (i : ℕ) (d : W) → stale ≤ i → i < length s.ends
       → get_or worlds i d ≡ world_of rules opening (take (end_of s.ends i) s.items)
-  world-at i d there =
-      (let many = run-many in ap (λ (l : List W). get_or l i d) h.worlds_are ∙ get_or-map (world_of rules opening) (runs_at s.items s.ends) i [] d (omega arith) ∙ ap (world_of rules opening) (run-at i there))
+  world-at i d fresh there =
+      (let many = run-many in
+      from-at (world_of rules opening) (runs_at s.items s.ends) worlds stale i d fresh (omega arith)
+      h.worlds_are ∙ ap (world_of rules opening) (run-at i there))
+
+  -- where no world is still to be made, each is that of its run
+  pub worlds-whole : stale ≡ 0 → worlds ≡ map (world_of rules opening) (runs_at s.items s.ends)
+  worlds-whole fresh =
+      subst (λ (n : ℕ). AreWorlds rules opening s n worlds) fresh h.worlds_are
 
   pub clocks-fall : Falls clocks
   clocks-fall =
@@ -140,8 +145,8 @@ pub record Change {W : Type 0} (rules : Rules W) (opening : W) (ticks : ℕ) (al
   pub counts : length new + left ≡ length all + spare
 
 module _ {W : Type 0} {rules : Rules W} {opening : W} {ticks : ℕ} {all : List Command} {spare : ℕ}
-    {s : OneList} {worlds : List W} {clocks : List ℕ}
-    (h : IsStack rules opening ticks all spare s worlds clocks) (falls : Falls s.ends)
+    {s : OneList} {worlds : List W} {clocks : List ℕ} {stale : ℕ}
+    (h : IsStack rules opening ticks all spare s worlds clocks stale) (falls : Falls s.ends)
     (first : end_of s.ends 0 ≡ length s.items)
     {new : List Command} {left : ℕ} {extra : List Item} {f c : ℕ} {ks : List ℕ}
     {target : List (List Item)}
@@ -296,11 +301,10 @@ module _ {W : Type 0} {rules : Rules W} {opening : W} {ticks : ℕ} {all : List 
           ))
           (cases_lt 0 c)
 
-      pub given : (put : List W) → length put ≡ length worlds → Given new ks f s3 put
-      given put put_many =
+      pub given : Given new ks f s3
+      given =
           let there = change.there in
           let order = change.order in
-          let many = world-many h falls first in
           let ends = ends-brought in
           let b = take (end_of s.ends c) s.items ++ extra in
           let filled_many =
@@ -311,7 +315,6 @@ module _ {W : Type 0} {rules : Rules W} {opening : W} {ticks : ℕ} {all : List 
           let clocks_many = change.ks_many in
           record {
             there = omega arith;
-            as_many_worlds = omega arith;
             as_many_clocks = omega arith;
             level =
                 ends
@@ -358,77 +361,133 @@ module _ {W : Type 0} {rules : Rules W} {opening : W} {ticks : ℕ} {all : List 
           (cases_lt i c)
 
       -- and what stands after it
-      module _ (s4 : OneList) {put : List W}
-          (at_put : Put rules opening (take (end_of s.ends c) s.items ++ extra) f c worlds put)
-          (remade : List W)
+      module _ (s4 : OneList)
           (items : s4.items ≡ s3.items ++ ordered new (beats s3.items) (get_or ks 0 0))
           (ends : s4.ends ≡ mixed f (end_to new s3.items) ks s3.ends)
-          (room : s4.spare + length s4.items ≡ s3.spare + length s3.items)
-          (worlds_are :
-          (d : W) → remade ≡ mixed f (world_to rules new (beats s3.items) (get_or put f d)) ks put)
-        where
-          pub runs-remade : runs_at s4.items s4.ends ≡ target
-          runs-remade =
-              let order = change.order in
-              ap (λ (l : List Item). runs_at l s4.ends)
-              (items ∙ ap (λ (l : List Item). grown_to new l (get_or ks 0 0)) items-brought)
-              ∙ ap
-              (runs_at (grown_to new (take (end_of s.ends c) s.items ++ extra) (get_or ks 0 0)))
-              (ends ∙ ap (λ (l : List Item). mixed f (end_to new l) ks s3.ends) items-brought
-              ∙ ap (mixed f (end_to new (take (end_of s.ends c) s.items ++ extra)) ks)
-              ends-brought)
-              ∙ repaired-runs new s.items extra s.ends ks f c change.order falls
-              (end-inside h falls first c change.there) change.there change.ks_many change.ks_falls
-              (λ i below. same-clocks i (omega arith)) (λ i below. low i (omega arith)) level-clocks
-              ∙ sym change.target_is
+          (room : s4.spare + length s4.items ≡ s3.spare + length s3.items) where
+        pub runs-remade : runs_at s4.items s4.ends ≡ target
+        runs-remade =
+            let order = change.order in
+            ap (λ (l : List Item). runs_at l s4.ends)
+            (items ∙ ap (λ (l : List Item). grown_to new l (get_or ks 0 0)) items-brought)
+            ∙ ap
+            (runs_at (grown_to new (take (end_of s.ends c) s.items ++ extra) (get_or ks 0 0)))
+            (ends ∙ ap (λ (l : List Item). mixed f (end_to new l) ks s3.ends) items-brought
+            ∙ ap (mixed f (end_to new (take (end_of s.ends c) s.items ++ extra)) ks)
+            ends-brought)
+            ∙ repaired-runs new s.items extra s.ends ks f c change.order falls
+            (end-inside h falls first c change.there) change.there change.ks_many change.ks_falls
+            (λ i below. same-clocks i (omega arith)) (λ i below. low i (omega arith)) level-clocks
+            ∙ sym change.target_is
 
-          worlds-remade : remade ≡ map (world_of rules opening) target
-          worlds-remade =
-              let there = change.there in
-              let order = change.order in
-              let many = world-many h falls first in
-              let runs_many = run-many h falls first in
-              let clocks_many = change.ks_many in
-              let put_many = at_put.len in
-              let b = take (end_of s.ends c) s.items ++ extra in
-              let w = world_of rules opening (take (end_of s.ends c) s.items ++ extra) in
-              worlds_are w
-              ∙ ap
-              (λ (l : List Item). mixed f (world_to rules new (beats l) (get_or put f w)) ks put)
-              items-brought
-              ∙ ap (λ (v : W). mixed f (world_to rules new (beats b) v) ks put)
-              (at_put.here f w (omega arith) change.order)
-              ∙ repaired-worlds rules opening new b w f c ks (runs_at s.items s.ends) put
-              change.order (omega arith) (omega arith) (omega arith) refl
-              (λ i below. same-clocks i (omega arith)) level-clocks
-              (λ i from upto. at_put.here i w from upto)
-              (at_put.behind ∙ ap (drop (suc c)) h.worlds_are)
-              ∙ ap (map (world_of rules opening)) (sym change.target_is)
+        -- with any worlds that are those of these runs from a copy on
+        kept-list :
+            (n : ℕ) (remade : List W) → n < length s.ends → length remade ≡ length s.ends
+            → drop n remade ≡ map (world_of rules opening) (drop n target)
+            → IsStack rules opening ticks new left s4 remade ks n
+        kept-list n remade few_n many worlds_are =
+            let there = change.there in
+            let few = h.few_copies in
+            let back = sym runs-remade in
+            let counts = change.counts in
+            let before = h.room in
+            let between = spare-brought in
+            let ends_many : length s4.ends ≡ length s.ends =
+            ap (λ (l : List ℕ). length l) ends ∙ mixed-length f (end_to new s3.items) ks s3.ends
+            ∙ ap (λ (l : List ℕ). length l) ends-brought
+            ∙ length-filled (length (take (end_of s.ends c) s.items ++ extra)) s.ends (c + 1)
+            (omega arith) in
+            record {
+              trailing = subst (IsTrailing new) back change.trailing;
+              clocks_are = sym change.target_beats ∙ ap (map beats) back;
+              as_many_worlds = omega arith;
+              worlds_are =
+                  worlds_are
+                  ∙ ap (λ (l : List (List Item)). map (world_of rules opening) (drop n l)) back;
+              few_stale = omega arith;
+              within = change.ks_within;
+              few_copies = omega arith;
+              few_ticks = h.few_ticks;
+              room = omega arith;
+            }
 
-          pub kept-remade : IsStack rules opening ticks new left s4 remade ks
-          kept-remade =
-              let there = change.there in
-              let some = h.some_copy in
-              let few = h.few_copies in
-              let back = sym runs-remade in
-              let counts = change.counts in
-              let before = h.room in
-              let between = spare-brought in
-              let ends_many : length s4.ends ≡ length s.ends =
-              ap (λ (l : List ℕ). length l) ends ∙ mixed-length f (end_to new s3.items) ks s3.ends
-              ∙ ap (λ (l : List ℕ). length l) ends-brought
-              ∙ length-filled (length (take (end_of s.ends c) s.items ++ extra)) s.ends (c + 1)
-              (omega arith) in
-              record {
-                trailing = subst (IsTrailing new) back change.trailing;
-                clocks_are = sym change.target_beats ∙ ap (map beats) back;
-                worlds_are = worlds-remade ∙ ap (map (world_of rules opening)) back;
-                within = change.ks_within;
-                some_copy = omega arith;
-                few_copies = omega arith;
-                few_ticks = h.few_ticks;
-                room = omega arith;
-              }
+        behind-worlds :
+            (put : List W) → stale ≤ suc c → drop (suc c) put ≡ drop (suc c) worlds
+            → drop (suc c) put
+            ≡ map (world_of rules opening) (drop (suc c) (runs_at s.items s.ends))
+        behind-worlds put fresh behind =
+            behind
+            ∙ from-later (world_of rules opening) (runs_at s.items s.ends) worlds stale (suc c)
+            fresh h.worlds_are
+
+        -- where the worlds ahead are still to be made
+        pub kept-stale :
+            (n : ℕ) {put : List W} → f ≤ n → stale ≤ n → n < length s.ends
+            → Put rules opening (take (end_of s.ends c) s.items ++ extra) n c worlds put
+            → IsStack rules opening ticks new left s4 put ks n
+        kept-stale n {put} order fresh few at_put =
+            let b = take (end_of s.ends c) s.items ++ extra in
+            let g = world_of rules opening in
+            let runs = runs_at s.items s.ends in
+            let there = change.there in
+            let runs_many = run-many h falls first in
+            let worlds_many = h.as_many_worlds in
+            let put_many = at_put.len in
+            kept-list n put few (omega arith) (⊎_elim
+            (λ (some : n < suc c).
+            put-worlds g new b n c runs put (omega arith) (omega arith) (omega arith)
+            (λ i from until. level-clocks i (omega arith) until) at_put.here
+            (behind-worlds put (omega arith) at_put.behind))
+            (λ (none : suc c ≤ n). left-worlds g new b c n runs worlds put none at_put.behind
+            (from-later g runs worlds stale n fresh h.worlds_are))
+            (cases_lt n (suc c))
+            ∙ ap (λ (l : List (List Item)). map (world_of rules opening) (drop n l))
+            (sym change.target_is))
+
+        -- and where they are made with the list
+        module _ {put : List W} (fresh : stale ≡ 0)
+            (at_put : Put rules opening (take (end_of s.ends c) s.items ++ extra) f c worlds put)
+            (remade : List W)
+            (worlds_are :
+            (d : W)
+            → remade ≡ mixed f (world_to rules new (beats s3.items) (get_or put f d)) ks put)
+          where
+            worlds-remade : remade ≡ map (world_of rules opening) target
+            worlds-remade =
+                let there = change.there in
+                let order = change.order in
+                let many = h.as_many_worlds in
+                let runs_many = run-many h falls first in
+                let clocks_many = change.ks_many in
+                let put_many = at_put.len in
+                let b = take (end_of s.ends c) s.items ++ extra in
+                let w = world_of rules opening (take (end_of s.ends c) s.items ++ extra) in
+                worlds_are w
+                ∙ ap
+                (λ (l : List Item).
+                mixed f (world_to rules new (beats l) (get_or put f w)) ks put)
+                items-brought
+                ∙ ap (λ (v : W). mixed f (world_to rules new (beats b) v) ks put)
+                (at_put.here f w (omega arith) change.order)
+                ∙ repaired-worlds rules opening new b w f c ks (runs_at s.items s.ends) put
+                change.order (omega arith) (omega arith) (omega arith) refl
+                (λ i below. same-clocks i (omega arith)) level-clocks
+                (λ i from upto. at_put.here i w from upto)
+                (at_put.behind ∙ ap (drop (suc c)) (worlds-whole h falls first fresh))
+                ∙ ap (map (world_of rules opening)) (sym change.target_is)
+
+            pub kept-remade : IsStack rules opening ticks new left s4 remade ks stale
+            kept-remade =
+                let some = h.few_stale in
+                let there = change.there in
+                let many = h.as_many_worlds in
+                let put_many = at_put.len in
+                let w = world_of rules opening (take (end_of s.ends c) s.items ++ extra) in
+                let remade_many : length remade ≡ length put =
+                ap (λ (l : List W). length l) (worlds_are w)
+                ∙ mixed-length f (world_to rules new (beats s3.items) (get_or put f w)) ks put in
+                subst (IsStack rules opening ticks new left s4 remade ks) (sym fresh)
+                (kept-list 0 remade (omega arith) (omega arith) worlds-remade)
 
 -- one world put in its place
 pub put-one :

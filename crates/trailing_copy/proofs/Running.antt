@@ -38,8 +38,8 @@ none-stands (Some n) items due exact =
     some-place n e = absurd cc
 
 module _ {W : Type 0} {rules : Rules W} {opening : W} {ticks : ℕ} {all : List Command} {spare : ℕ}
-    {s : OneList} {worlds : List W} {clocks : List ℕ}
-    (h : IsStack rules opening ticks all spare s worlds clocks) (falls : Falls s.ends)
+    {s : OneList} {worlds : List W} {clocks : List ℕ} {stale : ℕ}
+    (h : IsStack rules opening ticks all spare s worlds clocks stale) (falls : Falls s.ends)
     (first : end_of s.ends 0 ≡ length s.items) where
   pub test-same :
       (c t : ℕ) → 0 < c → c < length (runs_at s.items s.ends) → t ≡ get_or clocks c t
@@ -101,7 +101,8 @@ module _ {W : Type 0} {rules : Rules W} {opening : W} {ticks : ℕ} {all : List 
         ))
 
     pub front-kept :
-        (c : ℕ) (w : W) → 0 < c → c < length (runs_at s.items s.ends) → t ≡ get_or clocks c t
+        (c : ℕ) (w : W) → stale ≡ 0 → 0 < c → c < length (runs_at s.items s.ends)
+        → t ≡ get_or clocks c t
         → beats (get_or (runs_at s.items s.ends) c []) < ticks
         → beats (get_or (runs_at s.items s.ends) c [])
         < beats (get_or (runs_at s.items s.ends) (c - 1) [])
@@ -110,8 +111,8 @@ module _ {W : Type 0} {rules : Rules W} {opening : W} {ticks : ℕ} {all : List 
         → w ≡ world_of rules opening (with_tick all (get_or (runs_at s.items s.ends) c []))
         → IsStack rules opening ticks all spare
         (record s { ends = set s.ends c (end_of s.ends c + length (tick_of all t)) })
-        (set worlds c w) (set clocks c (t + 1))
-    front-kept zero w some there at below behind front at_w = absurd (omega arith)
-    front-kept (suc c) w some there at below behind front at_w =
+        (set worlds c w) (set clocks c (t + 1)) stale
+    front-kept zero w fresh some there at below behind front at_w = absurd (omega arith)
+    front-kept (suc c) w fresh some there at below behind front at_w =
         (let e : suc c - 1 ≡ c = omega arith in
-        passed-kept h falls first c t there at below (rw e at behind) (rw e at front) w at_w)
+        passed-kept h falls first c t there at below (rw e at behind) (rw e at front) w fresh at_w)

@@ -22,7 +22,7 @@ use Rattle.executed_list.proofs.Lists.{get-any, falls-set, falls-push}
 use Rattle.trailing_copy.specs.Stack.{CopyState, IsStack}
 use Rattle.std.proofs.lemmas.List.{length-set, get_or-set_same, get_or-set_other}
 use Rattle.sync_model.proofs.Lists.{all-put}
-use Rattle.trailing_copy.proofs.Remade.{Change, Put, put-one, run-many, clock-many, world-many, clock-at, run-at, world-at, clocks-fall}
+use Rattle.trailing_copy.proofs.Remade.{Change, Put, put-one, run-many, clock-many, clock-at, run-at, world-at, clocks-fall}
 use Rattle.game_trait.proofs.Lists.{all-at}
 
 pub behind-ahead :
@@ -48,8 +48,8 @@ unfolding with_tick
 ticked all run = refl
 
 module _ {W : Type 0} {rules : Rules W} {opening : W} {ticks : ℕ} {all : List Command} {spare : ℕ}
-    {s : OneList} {worlds : List W} {clocks : List ℕ}
-    (h : IsStack rules opening ticks all spare s worlds clocks) (falls : Falls s.ends)
+    {s : OneList} {worlds : List W} {clocks : List ℕ} {stale : ℕ}
+    (h : IsStack rules opening ticks all spare s worlds clocks stale) (falls : Falls s.ends)
     (first : end_of s.ends 0 ≡ length s.items) where
   -- the clock that is read
   pub clock-read :
@@ -173,11 +173,11 @@ module _ {W : Type 0} {rules : Rules W} {opening : W} {ticks : ℕ} {all : List 
 
   -- the world of a copy that ran its due tick
   pub ticked-world :
-      (c t : ℕ) (v w : W) → c < length s.ends → v ≡ get_or worlds c v
+      (c t : ℕ) (v w : W) → stale ≤ c → c < length s.ends → v ≡ get_or worlds c v
       → w ≡ world_of rules v (tick_of all t)
       → w ≡ world_of rules opening (take (end_of s.ends c) s.items ++ tick_of all t)
-  ticked-world c t v w there at ran =
-      ran ∙ ap (λ (u : W). world_of rules u (tick_of all t)) (at ∙ world-at h falls first c v there)
+  ticked-world c t v w fresh there at ran =
+      ran ∙ ap (λ (u : W). world_of rules u (tick_of all t)) (at ∙ world-at h falls first c v fresh there)
       ∙ sym (world_of-append rules opening (take (end_of s.ends c) s.items) (tick_of all t))
 
   -- or of one that another ran
@@ -199,7 +199,7 @@ module _ {W : Type 0} {rules : Rules W} {opening : W} {ticks : ℕ} {all : List 
       → Put rules opening (take (end_of s.ends c) s.items ++ tick_of all t) c c worlds
       (set worlds c w)
   apart-put c t w there own =
-      (let many = world-many h falls first in
+      (let many = h.as_many_worlds in
       put-one rules opening (take (end_of s.ends c) s.items ++ tick_of all t) c worlds w
       (omega arith) own)
 
@@ -233,13 +233,13 @@ module _ {W : Type 0} {rules : Rules W} {opening : W} {ticks : ℕ} {all : List 
 
 -- states are one where their runs are
 pub same-state :
-    {W : Type 0} (opening : W) (ticks : ℕ) (accepted : List Command) (spare : ℕ)
+    {W : Type 0} (opening : W) (ticks : ℕ) (accepted : List Command) (spare stale : ℕ)
     (a b : List (List Item)) → a ≡ b
     → Path (CopyState W)
-    (record { opening = opening; ticks = ticks; accepted = accepted; runs = a; spare = spare })
-    (record { opening = opening; ticks = ticks; accepted = accepted; runs = b; spare = spare })
-same-state opening ticks accepted spare a b e =
-    λ i. record { opening = opening; ticks = ticks; accepted = accepted; runs = e i; spare = spare }
+    (record { opening = opening; ticks = ticks; accepted = accepted; runs = a; spare = spare; stale = stale })
+    (record { opening = opening; ticks = ticks; accepted = accepted; runs = b; spare = spare; stale = stale })
+same-state opening ticks accepted spare stale a b e =
+    λ i. record { opening = opening; ticks = ticks; accepted = accepted; runs = e i; spare = spare; stale = stale }
 
 -- one tick alone
 pub one-tick : (all : List Command) (t : ℕ) → ordered all t (t + 1) ≡ tick_of all t

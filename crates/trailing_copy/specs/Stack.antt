@@ -1,5 +1,5 @@
 -- What contracts see of the copies of a mirror, and how they are kept.
-use Rattle.std.specs.Prelude.{◌≡◌, ℕ, ◌+◌, ◌<◌, ◌≤◌, List, map, length}
+use Rattle.std.specs.Prelude.{◌≡◌, ℕ, ◌+◌, ◌<◌, ◌≤◌, List, map, drop, length}
 use Rattle.std.specs.List.{AllByRecursion}
 use Rattle.game_trait.specs.declared.limits.TheConstants.{LONGEST_MATCH, MOST_COPIES}
 use Rattle.game_trait.specs.declared.command.Command.{Command}
@@ -10,25 +10,34 @@ use Rattle.sync_model.specs.Staggered.{IsTrailing}
 use Rattle.executed_list.specs.Segments.{OneList, runs_at}
 
 -- the opening world, the match's length in ticks, the accepted commands in order of acceptance, the
--- runs of the copies from copy 0 on, and for how many more commands there is room
+-- runs of the copies from copy 0 on, for how many more commands there is room, and how many copies,
+-- from copy 0 on, have worlds that are still to be made from the copy behind them
 pub record CopyState (W : Type 0) : Type 0 where
   pub opening : W
   pub ticks : ℕ
   pub accepted : List Command
   pub runs : List (List Item)
   pub spare : ℕ
+  pub stale : ℕ
+
+-- from copy n on, each world is the world of its run
+abbrev pub AreWorlds : {W : Type 0} → Rules W → W → OneList → ℕ → List W → Type 0
+AreWorlds rules opening s n worlds =
+    drop n worlds ≡ map (world_of rules opening) (drop n (runs_at s.items s.ends))
 
 -- how the fields belong together: the runs are chained, complete, in order at the last copy and
--- never early; each clock is that of its run and each world the world of its run; and there is room
--- for every tick and command that is still to come
+-- never early; each clock is that of its run; there is a world for each copy, which is the world of
+-- its run but where it is still to be made, which the last copy's never is; and there is room for
+-- every tick and command that is still to come
 pub record IsStack {W : Type 0} (rules : Rules W) (opening : W) (ticks : ℕ) (all : List Command)
-    (spare : ℕ) (s : OneList) (worlds : List W) (clocks : List ℕ) :
+    (spare : ℕ) (s : OneList) (worlds : List W) (clocks : List ℕ) (stale : ℕ) :
     Type 0 where
   pub trailing : IsTrailing all (runs_at s.items s.ends)
   pub clocks_are : clocks ≡ map beats (runs_at s.items s.ends)
-  pub worlds_are : worlds ≡ map (world_of rules opening) (runs_at s.items s.ends)
+  pub as_many_worlds : length worlds ≡ length s.ends
+  pub worlds_are : AreWorlds rules opening s stale worlds
+  pub few_stale : stale < length s.ends
   pub within : AllByRecursion (λ k. k ≤ ticks) clocks
-  pub some_copy : 0 < length s.ends
   pub few_copies : length s.ends ≤ MOST_COPIES
   pub few_ticks : ticks ≤ LONGEST_MATCH
   pub room : s.spare + length s.items ≡ (ticks + length all) + spare

@@ -29,9 +29,8 @@ pub fn bring_up(run: &mut Segments, last: u8, from: u32)
     }
 }
 
-/// Executes a command on the worlds from `first` to `last`.
+/// Executes a command on the worlds from `first` to `last`, if there are any.
 pub fn apply_to_each<G: Game>(worlds: &mut Vec<G>, first: u8, last: u8, x: &Command)
-    requires order { first ≤ last }
     requires there { last < vec_len worlds.old }
     requires few { last < MOST_COPIES }
     ensures each { (d : G) (i : ℕ) → first ≤ i → i ≤ last
@@ -42,6 +41,9 @@ pub fn apply_to_each<G: Game>(worlds: &mut Vec<G>, first: u8, last: u8, x: &Comm
     ensures behind { drop (last + 1) worlds.new.items ≡ drop (last + 1) worlds.old.items }
     ensures len { vec_len worlds.new ≡ vec_len worlds.old }
 {
+    if last < first {
+        return;
+    }
     for c in first..last + 1 {
         worlds[c as usize].apply(x);
     }

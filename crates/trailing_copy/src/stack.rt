@@ -1,7 +1,7 @@
 //! The copies of a mirror over one list of runs.
 
 ghost use Rattle.std.specs.Prelude.{◌≡◌, ℕ, ◌+◌, ◌-◌, ◌<◌, ◌≤◌, false, true, Some, IfOk, [], ◌∷◌};
-ghost use Rattle.std.specs.Prelude.{◌++◌, length, slice_get, slice_index_or, replicate};
+ghost use Rattle.std.specs.Prelude.{◌++◌, length, max, slice_get, slice_index_or, replicate};
 ghost use Rattle.std.specs.List.{list_any};
 ghost use Rattle.game_trait.specs.declared.limits.TheConstants.{LONGEST_MATCH, MOST_COPIES};
 ghost use Rattle.game_trait.specs.declared.limits.TheConstants.{MOST_ROOM};
@@ -13,9 +13,11 @@ ghost use Rattle.sync_model.specs.Change.{with_tick, proposed_by_arrival, propos
 ghost use Rattle.sync_model.specs.State.{copy_clock, last_clock};
 ghost use Rattle.sync_model.specs.Repairs.{is_late_at, IsLastLate};
 
+use crate::appends::append_ahead;
 use crate::clocks::count_above;
 use crate::due::due_of;
 use crate::repairs::{apply_to_each, bring_up, repair_ahead};
+use crate::worlds::make_worlds;
 use arrayvec::ArrayVec;
 use divergence_check::diverges;
 use executed_list::Segments;
@@ -28,9 +30,11 @@ use tss_io::NoMemory;
 
 /// The copies of a mirror, each with its run and its live world: the trailing states of the paper
 /// of 2002, which execute a late command on arrival and are compared and repaired tick by tick
-/// (this project's own). All runs are kept as one list. Contracts see the opening world, the
-/// match's length in ticks, the accepted commands in order of acceptance, the runs from copy 0 on,
-/// and for how many more commands there is room. Only `new` takes memory.
+/// (this project's own). All runs are kept as one list. The runs that an arrival repairs are made
+/// anew at once, and their worlds by `refresh`, once for all the arrivals before it. Contracts see
+/// the opening world, the match's length in ticks, the accepted commands in order of acceptance,
+/// the runs from copy 0 on, for how many more commands there is room, and how many copies, from
+/// copy 0 on, have worlds that are still to be made. Only `new` takes memory.
 #[derive(Drop)]
 pub struct CopyStack<G: Game> {
     opening: G,
@@ -38,6 +42,8 @@ pub struct CopyStack<G: Game> {
     run: Segments,
     worlds: Vec<G>,
     clocks: Vec<Tick>,
+    // how many copies, from copy 0 on, have worlds that are still to be made
+    stale: u8,
 }
 
 impl<G: Game> Model for CopyStack<G> {
@@ -52,10 +58,11 @@ impl<G: Game> Model for CopyStack<G> {
       accepted = s.list.all;
       runs = runs_at s.run.items s.run.ends;
       spare = s.list.spare;
+      stale = s.stale;
     } };
 
     ghost invariant = { λ s. IsStack G.rules s.opening s.list.ticks s.list.all s.list.spare s.run
-        s.worlds.items s.clocks.items };
+        s.worlds.items s.clocks.items s.stale };
 }
 
 impl<G: Game> CopyStack<G> {
@@ -77,6 +84,7 @@ impl<G: Game> CopyStack<G> {
           accepted = [];
           runs = replicate copies [];
           spare = room;
+          stale = 0;
         }) }
     {
         let mut worlds = Vec::with_capacity(alloc, copies as usize)?;
@@ -92,12 +100,14 @@ impl<G: Game> CopyStack<G> {
             run: Segments::new(alloc, copies, length + room)?,
             worlds,
             clocks,
+            stale: 0,
         })
     }
 
     // A tick of copy 0, or of a copy whose new run the copy ahead doesn't begin with. The copies
     // ahead are repaired.
     fn tick_apart(&mut self, copy: u8)
+        requires fresh { self.old.stale ≡ 0 }
         requires copy { copy < length self.old.runs }
         requires below { copy_clock self.old.runs copy < self.old.ticks }
         requires behind { 0 < copy
@@ -133,6 +143,7 @@ impl<G: Game> CopyStack<G> {
 
     // The same of a tick that another executed, and whose world it hands over.
     fn commit_apart(&mut self, copy: u8, world: &G)
+        requires fresh { self.old.stale ≡ 0 }
         requires copy { copy < length self.old.runs }
         requires below { copy_clock self.old.runs copy < self.old.ticks }
         requires behind { 0 < copy
@@ -172,6 +183,7 @@ impl<G: Game> CopyStack<G> {
 
     // A tick of a copy whose new run the copy ahead begins with.
     fn tick_front(&mut self, copy: u8)
+        requires fresh { self.old.stale ≡ 0 }
         requires copy { (0 < copy) × (copy < length self.old.runs) }
         requires below { copy_clock self.old.runs copy < self.old.ticks }
         requires behind { copy_clock self.old.runs copy < copy_clock self.old.runs (copy - 1) }
@@ -196,6 +208,7 @@ impl<G: Game> CopyStack<G> {
 
     // The same of a tick that another executed, and whose world it hands over.
     fn commit_front(&mut self, copy: u8, world: &G)
+        requires fresh { self.old.stale ≡ 0 }
         requires copy { (0 < copy) × (copy < length self.old.runs) }
         requires below { copy_clock self.old.runs copy < self.old.ticks }
         requires behind { copy_clock self.old.runs copy < copy_clock self.old.runs (copy - 1) }
@@ -241,6 +254,7 @@ impl<G: Game> CopyStack<G> {
     /// copies ahead are repaired. Answers how many were repaired. Where none is, it costs the tick
     /// alone.
     pub fn run_tick(&mut self, copy: u8) -> u8
+        requires fresh { self.old.stale ≡ 0 }
         requires there { copy < length self.old.runs }
         requires below { copy_clock self.old.runs copy < self.old.ticks }
         requires behind { 0 < copy
@@ -268,6 +282,7 @@ impl<G: Game> CopyStack<G> {
     /// Does what `run_tick` does, with the copy's world after its due tick given, which isn't
     /// executed again.
     pub fn commit_tick(&mut self, copy: u8, world: &G) -> u8
+        requires fresh { self.old.stale ≡ 0 }
         requires there { copy < length self.old.runs }
         requires below { copy_clock self.old.runs copy < self.old.ticks }
         requires behind { 0 < copy
@@ -296,7 +311,7 @@ impl<G: Game> CopyStack<G> {
     }
 
     // The arrival of a command that is late at the copies up to `last`, of which those from `first`
-    // on have one clock.
+    // on have one clock. The worlds ahead of these are left to be made.
     fn arrive_late(&mut self, x: &Command, first: u8, last: u8)
         requires room { 0 < self.old.spare }
         requires within { x.now.time < self.old.ticks }
@@ -310,22 +325,19 @@ impl<G: Game> CopyStack<G> {
           accepted = self.old.accepted ++ x.now ∷ [];
           runs = settle (self.old.accepted ++ x.now ∷ []) (proposed_by_arrival x.now self.old.runs);
           spare = self.old.spare - 1;
+          stale = max self.old.stale first;
         } }
     {
         let _ = self.run.len();
         self.list.insert(x);
         self.run.cut(last);
         let from = self.run.len();
-        apply_to_each(&mut self.worlds, first, last, x);
         self.run.push(&Item::Cmd(*x));
         bring_up(&mut self.run, last, from);
-        repair_ahead(
-            &mut self.worlds,
-            &mut self.run,
-            &self.list,
-            &self.clocks,
-            first,
-        );
+        append_ahead(&mut self.run, &self.list, &self.clocks, first);
+        let stale = self.stale.max(first);
+        apply_to_each(&mut self.worlds, stale, last, x);
+        self.stale = stale;
     }
 
     // The arrival of a command that is late at no copy.
@@ -346,9 +358,11 @@ impl<G: Game> CopyStack<G> {
     }
 
     /// Accepts a command of a new name that is due within the match and not before the last copy's
-    /// clock, where there is room. The copies at which it is late execute it at once; those whose
-    /// clock is above that of the last of these are repaired. Answers how many were repaired. Where
-    /// none is, it costs the command's place alone.
+    /// clock, where there is room. Of the copies at which it is late, those with the last one's
+    /// clock have it as their next item; their worlds execute it at once, but where they are still
+    /// to be made. Those with a greater clock are repaired: their runs at once, and their worlds by
+    /// `refresh`. Answers how many were repaired. Where none is late, it costs the command's place
+    /// alone.
     pub fn accept(&mut self, x: &Command) -> u8
         requires room { 0 < self.old.spare }
         requires within { x.now.time < self.old.ticks }
@@ -358,6 +372,7 @@ impl<G: Game> CopyStack<G> {
           accepted = self.old.accepted ++ x.now ∷ [];
           runs = settle (self.old.accepted ++ x.now ∷ []) (proposed_by_arrival x.now self.old.runs);
           spare = self.old.spare - 1;
+          stale = max self.old.stale result;
         } }
         ensures repaired { result
             ≡ repaired (self.old.accepted ++ x.now ∷ []) (proposed_by_arrival x.now self.old.runs) }
@@ -372,6 +387,17 @@ impl<G: Game> CopyStack<G> {
         let repaired = count_above(&self.clocks, self.clocks[last as usize]);
         self.arrive_late(x, repaired, last);
         repaired
+    }
+
+    /// Makes the worlds that are still to be made, each from that of the copy behind it and from
+    /// the items between their ends. However many arrivals left them so, each item is executed
+    /// once.
+    pub fn refresh(&mut self)
+        ensures { self.new ≡ record self.old { stale = 0 } }
+    {
+        let _ = self.run.len();
+        make_worlds(&mut self.worlds, &self.run, self.stale);
+        self.stale = 0;
     }
 
     /// The opening world, a twin of the one that `new` was given.
@@ -422,9 +448,11 @@ impl<G: Game> CopyStack<G> {
         self.clocks[copy as usize]
     }
 
-    /// The copy's live world, which is the world of its run. The copy is there.
+    /// The copy's live world, which is the world of its run. The copy is there, and its world isn't
+    /// still to be made.
     pub fn world(&self, copy: u8) -> &G
-        requires { copy < length self.now.runs }
+        requires there { copy < length self.now.runs }
+        requires fresh { self.now.stale ≤ copy }
         ensures { result.now
             ≡ world_of G.rules self.now.opening (slice_index_or self.now.runs copy []) }
     {

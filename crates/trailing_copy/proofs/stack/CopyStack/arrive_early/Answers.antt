@@ -12,5 +12,5 @@ invariant_of-self g c =
 pub returns : goal.returns
 returns g c =
     rw (← c.self.view_is, c.insert.ensures)
-    (same-state _ _ _ _ _ _ (early-settled c.self.invariant c.len.ensures.falls c.len.ensures.first
+    (same-state _ _ _ _ _ _ _ (early-settled c.self.invariant c.len.ensures.falls c.len.ensures.first
     c.args.x.now (rw (← c.self.view_is) at c.requires.early)))

@@ -2,7 +2,7 @@ use Rattle.std.proofs.Common.{◌∙◌, sym, arith}
 use Rattle.executed_list.proofs.Grown.{grown-push}
 use Rattle.trailing_copy.proofs.Arriving.{late-change, late-put}
 use Rattle.trailing_copy.proofs.Steps.{same-state}
-use Rattle.trailing_copy.proofs.Remade.{room-before, ends-at, given, runs-remade, kept-remade}
+use Rattle.trailing_copy.proofs.Remade.{room-before, ends-at, given, runs-remade, kept-stale}
 use Rattle.trailing_copy.proofs.stack.CopyStack.arrive_late.Goals as goal
 
 pub push-requires : goal.push-requires
@@ -27,8 +27,8 @@ bring_up-requires-clause-at g c =
     λ j some upto. ends-at c.self.invariant c.len.ensures.falls c.len.ensures.first change
     c.cut.ensures grown j some upto ∙ sym c.len-from.ensures.len
 
-pub repair_ahead-requires-clause-level : goal.repair_ahead-requires-clause-level
-repair_ahead-requires-clause-level g c =
+pub append_ahead-requires-clause-level : goal.append_ahead-requires-clause-level
+append_ahead-requires-clause-level g c =
     let late = rw (← c.self.view_is) at c.requires.late in
     let change =
     late-change c.self.invariant c.len.ensures.falls c.len.ensures.first c.args.x.now
@@ -36,19 +36,11 @@ repair_ahead-requires-clause-level g c =
     (rw (← c.self.view_is) at c.requires.new_name) (rw (← c.self.view_is) at c.requires.due)
     late c.requires.order (rw (← c.self.view_is) at c.requires.level) in
     let grown = c.push.ensures ∙ grown-push c.cut.new.self _ in
-    let len = c.apply_to_each.ensures.len in
-    let old = c.self.inside.worlds.ok.0 in
-    let new = c.apply_to_each.new.worlds.ok.0 in
-    let put =
-    late-put c.self.invariant c.len.ensures.falls c.len.ensures.first c.args.x.now c.args.first
-    c.args.last c.apply_to_each.new.worlds.items change.there
-    (rw (← c.self.view_is) at c.requires.level) c.apply_to_each.ensures.each
-    c.apply_to_each.ensures.behind (omega arith) in
     (given c.self.invariant c.len.ensures.falls c.len.ensures.first change c.cut.ensures grown
-    c.bring_up.ensures _ put.len).level
+    c.bring_up.ensures).level
 
-pub repair_ahead-requires-clause-clock : goal.repair_ahead-requires-clause-clock
-repair_ahead-requires-clause-clock g c =
+pub append_ahead-requires-clause-clock : goal.append_ahead-requires-clause-clock
+append_ahead-requires-clause-clock g c =
     let late = rw (← c.self.view_is) at c.requires.late in
     let change =
     late-change c.self.invariant c.len.ensures.falls c.len.ensures.first c.args.x.now
@@ -56,19 +48,11 @@ repair_ahead-requires-clause-clock g c =
     (rw (← c.self.view_is) at c.requires.new_name) (rw (← c.self.view_is) at c.requires.due)
     late c.requires.order (rw (← c.self.view_is) at c.requires.level) in
     let grown = c.push.ensures ∙ grown-push c.cut.new.self _ in
-    let len = c.apply_to_each.ensures.len in
-    let old = c.self.inside.worlds.ok.0 in
-    let new = c.apply_to_each.new.worlds.ok.0 in
-    let put =
-    late-put c.self.invariant c.len.ensures.falls c.len.ensures.first c.args.x.now c.args.first
-    c.args.last c.apply_to_each.new.worlds.items change.there
-    (rw (← c.self.view_is) at c.requires.level) c.apply_to_each.ensures.each
-    c.apply_to_each.ensures.behind (omega arith) in
-    rw (c.deref.ensures.value) (given c.self.invariant c.len.ensures.falls c.len.ensures.first
-    change c.cut.ensures grown c.bring_up.ensures _ put.len).clock
+    rw c.deref.ensures.value (given c.self.invariant c.len.ensures.falls c.len.ensures.first change c.cut.ensures grown
+    c.bring_up.ensures).clock
 
-pub repair_ahead-requires-clause-falls : goal.repair_ahead-requires-clause-falls
-repair_ahead-requires-clause-falls g c =
+pub append_ahead-requires-clause-falls : goal.append_ahead-requires-clause-falls
+append_ahead-requires-clause-falls g c =
     let late = rw (← c.self.view_is) at c.requires.late in
     let change =
     late-change c.self.invariant c.len.ensures.falls c.len.ensures.first c.args.x.now
@@ -76,19 +60,11 @@ repair_ahead-requires-clause-falls g c =
     (rw (← c.self.view_is) at c.requires.new_name) (rw (← c.self.view_is) at c.requires.due)
     late c.requires.order (rw (← c.self.view_is) at c.requires.level) in
     let grown = c.push.ensures ∙ grown-push c.cut.new.self _ in
-    let len = c.apply_to_each.ensures.len in
-    let old = c.self.inside.worlds.ok.0 in
-    let new = c.apply_to_each.new.worlds.ok.0 in
-    let put =
-    late-put c.self.invariant c.len.ensures.falls c.len.ensures.first c.args.x.now c.args.first
-    c.args.last c.apply_to_each.new.worlds.items change.there
-    (rw (← c.self.view_is) at c.requires.level) c.apply_to_each.ensures.each
-    c.apply_to_each.ensures.behind (omega arith) in
-    rw (c.deref.ensures.value) (given c.self.invariant c.len.ensures.falls c.len.ensures.first
-    change c.cut.ensures grown c.bring_up.ensures _ put.len).falls
+    rw c.deref.ensures.value (given c.self.invariant c.len.ensures.falls c.len.ensures.first change c.cut.ensures grown
+    c.bring_up.ensures).falls
 
-pub repair_ahead-requires-clause-room : goal.repair_ahead-requires-clause-room
-repair_ahead-requires-clause-room g c =
+pub append_ahead-requires-clause-room : goal.append_ahead-requires-clause-room
+append_ahead-requires-clause-room g c =
     let late = rw (← c.self.view_is) at c.requires.late in
     let change =
     late-change c.self.invariant c.len.ensures.falls c.len.ensures.first c.args.x.now
@@ -96,16 +72,8 @@ repair_ahead-requires-clause-room g c =
     (rw (← c.self.view_is) at c.requires.new_name) (rw (← c.self.view_is) at c.requires.due)
     late c.requires.order (rw (← c.self.view_is) at c.requires.level) in
     let grown = c.push.ensures ∙ grown-push c.cut.new.self _ in
-    let len = c.apply_to_each.ensures.len in
-    let old = c.self.inside.worlds.ok.0 in
-    let new = c.apply_to_each.new.worlds.ok.0 in
-    let put =
-    late-put c.self.invariant c.len.ensures.falls c.len.ensures.first c.args.x.now c.args.first
-    c.args.last c.apply_to_each.new.worlds.items change.there
-    (rw (← c.self.view_is) at c.requires.level) c.apply_to_each.ensures.each
-    c.apply_to_each.ensures.behind (omega arith) in
-    rw (c.deref.ensures.value, c.insert.ensures) (given c.self.invariant c.len.ensures.falls
-    c.len.ensures.first change c.cut.ensures grown c.bring_up.ensures _ put.len).room
+    rw (c.deref.ensures.value, c.insert.ensures) (given c.self.invariant c.len.ensures.falls c.len.ensures.first change c.cut.ensures grown
+    c.bring_up.ensures).room
 
 pub invariant_of-self : goal.invariant_of-self
 invariant_of-self g c =
@@ -119,18 +87,19 @@ invariant_of-self g c =
     let len = c.apply_to_each.ensures.len in
     let old = c.self.inside.worlds.ok.0 in
     let new = c.apply_to_each.new.worlds.ok.0 in
+    let inside = change.there in
+    let order = change.order in
+    let stale = c.self.invariant.few_stale in
     let put =
-    late-put c.self.invariant c.len.ensures.falls c.len.ensures.first c.args.x.now c.args.first
-    c.args.last c.apply_to_each.new.worlds.items change.there
-    (rw (← c.self.view_is) at c.requires.level) c.apply_to_each.ensures.each
-    c.apply_to_each.ensures.behind (omega arith) in
-    rw c.insert.ensures (kept-remade c.self.invariant c.len.ensures.falls c.len.ensures.first change
-    c.cut.ensures grown c.bring_up.ensures c.repair_ahead.new.run put
-    c.repair_ahead.new.worlds.items
-    (rw (c.deref.ensures.value, c.insert.ensures) at c.repair_ahead.ensures.items)
-    (rw (c.deref.ensures.value, c.insert.ensures) at c.repair_ahead.ensures.ends)
-    c.repair_ahead.ensures.spare
-    (rw (c.deref.ensures.value, c.insert.ensures) at c.repair_ahead.ensures.worlds))
+    late-put c.self.invariant c.len.ensures.falls c.len.ensures.first c.args.x.now
+    c.max-stale.result c.args.last c.apply_to_each.new.worlds.items (omega arith) change.there
+    (λ i from upto. (rw (← c.self.view_is) at c.requires.level) i (omega arith) upto)
+    c.apply_to_each.ensures.each c.apply_to_each.ensures.behind (omega arith) in
+    rw c.insert.ensures (kept-stale c.self.invariant c.len.ensures.falls c.len.ensures.first change
+    c.cut.ensures grown c.bring_up.ensures c.append_ahead.new.run
+    (rw (c.deref.ensures.value, c.insert.ensures) at c.append_ahead.ensures.items)
+    (rw (c.deref.ensures.value, c.insert.ensures) at c.append_ahead.ensures.ends)
+    c.append_ahead.ensures.spare c.max-stale.result (omega arith) (omega arith) (omega arith) put)
 
 pub returns : goal.returns
 returns g c =
@@ -141,18 +110,9 @@ returns g c =
     (rw (← c.self.view_is) at c.requires.new_name) (rw (← c.self.view_is) at c.requires.due)
     late c.requires.order (rw (← c.self.view_is) at c.requires.level) in
     let grown = c.push.ensures ∙ grown-push c.cut.new.self _ in
-    let len = c.apply_to_each.ensures.len in
-    let old = c.self.inside.worlds.ok.0 in
-    let new = c.apply_to_each.new.worlds.ok.0 in
-    let put =
-    late-put c.self.invariant c.len.ensures.falls c.len.ensures.first c.args.x.now c.args.first
-    c.args.last c.apply_to_each.new.worlds.items change.there
-    (rw (← c.self.view_is) at c.requires.level) c.apply_to_each.ensures.each
-    c.apply_to_each.ensures.behind (omega arith) in
-    rw (← c.self.view_is, c.insert.ensures) (same-state _ _ _ _ _ _
+    rw (← c.self.view_is, c.insert.ensures, c.max-stale.ensures) (same-state _ _ _ _ _ _ _
     (runs-remade c.self.invariant c.len.ensures.falls c.len.ensures.first change c.cut.ensures
-    grown c.bring_up.ensures c.repair_ahead.new.run put c.repair_ahead.new.worlds.items
-    (rw (c.deref.ensures.value, c.insert.ensures) at c.repair_ahead.ensures.items)
-    (rw (c.deref.ensures.value, c.insert.ensures) at c.repair_ahead.ensures.ends)
-    c.repair_ahead.ensures.spare
-    (rw (c.deref.ensures.value, c.insert.ensures) at c.repair_ahead.ensures.worlds)))
+    grown c.bring_up.ensures c.append_ahead.new.run
+    (rw (c.deref.ensures.value, c.insert.ensures) at c.append_ahead.ensures.items)
+    (rw (c.deref.ensures.value, c.insert.ensures) at c.append_ahead.ensures.ends)
+    c.append_ahead.ensures.spare))

@@ -32,15 +32,8 @@ repair_ahead-requires-clause-clock g c =
     c.index-t.result.now there c.index-t.ensures (rw (← c.self.view_is) at c.requires.below)
     (rw (← c.self.view_is) at c.requires.behind) (rw (← c.self.view_is) at c.requires.apart) in
     let grown = c.append_tick.ensures in
-    let own =
-    handed-world c.self.invariant c.len.ensures.falls c.len.ensures.first c.args.copy
-    c.index-t.result.now c.set_from.new.self change.there c.index-t.ensures
-    (c.set_from.ensures ∙ (rw (← c.self.view_is) at c.requires.world)) in
-    let put =
-    apart-put c.self.invariant c.len.ensures.falls c.len.ensures.first c.args.copy
-    c.index-t.result.now c.set_from.new.self change.there own in
     rw c.deref.ensures.value (given c.self.invariant c.len.ensures.falls c.len.ensures.first change
-    c.cut.ensures grown c.bring_up.ensures _ put.len).clock
+    c.cut.ensures grown c.bring_up.ensures).clock
 
 pub repair_ahead-requires-clause-falls : goal.repair_ahead-requires-clause-falls
 repair_ahead-requires-clause-falls g c =
@@ -50,15 +43,8 @@ repair_ahead-requires-clause-falls g c =
     c.index-t.result.now there c.index-t.ensures (rw (← c.self.view_is) at c.requires.below)
     (rw (← c.self.view_is) at c.requires.behind) (rw (← c.self.view_is) at c.requires.apart) in
     let grown = c.append_tick.ensures in
-    let own =
-    handed-world c.self.invariant c.len.ensures.falls c.len.ensures.first c.args.copy
-    c.index-t.result.now c.set_from.new.self change.there c.index-t.ensures
-    (c.set_from.ensures ∙ (rw (← c.self.view_is) at c.requires.world)) in
-    let put =
-    apart-put c.self.invariant c.len.ensures.falls c.len.ensures.first c.args.copy
-    c.index-t.result.now c.set_from.new.self change.there own in
     rw c.deref.ensures.value (given c.self.invariant c.len.ensures.falls c.len.ensures.first change
-    c.cut.ensures grown c.bring_up.ensures _ put.len).falls
+    c.cut.ensures grown c.bring_up.ensures).falls
 
 pub repair_ahead-requires-clause-room : goal.repair_ahead-requires-clause-room
 repair_ahead-requires-clause-room g c =
@@ -68,15 +54,8 @@ repair_ahead-requires-clause-room g c =
     c.index-t.result.now there c.index-t.ensures (rw (← c.self.view_is) at c.requires.below)
     (rw (← c.self.view_is) at c.requires.behind) (rw (← c.self.view_is) at c.requires.apart) in
     let grown = c.append_tick.ensures in
-    let own =
-    handed-world c.self.invariant c.len.ensures.falls c.len.ensures.first c.args.copy
-    c.index-t.result.now c.set_from.new.self change.there c.index-t.ensures
-    (c.set_from.ensures ∙ (rw (← c.self.view_is) at c.requires.world)) in
-    let put =
-    apart-put c.self.invariant c.len.ensures.falls c.len.ensures.first c.args.copy
-    c.index-t.result.now c.set_from.new.self change.there own in
     rw c.deref.ensures.value (given c.self.invariant c.len.ensures.falls c.len.ensures.first change
-    c.cut.ensures grown c.bring_up.ensures _ put.len).room
+    c.cut.ensures grown c.bring_up.ensures).room
 
 pub invariant_of-self : goal.invariant_of-self
 invariant_of-self g c =
@@ -94,10 +73,11 @@ invariant_of-self g c =
     apart-put c.self.invariant c.len.ensures.falls c.len.ensures.first c.args.copy
     c.index-t.result.now c.set_from.new.self change.there own in
     kept-remade c.self.invariant c.len.ensures.falls c.len.ensures.first change c.cut.ensures grown
-    c.bring_up.ensures c.repair_ahead.new.run put c.repair_ahead.new.worlds.items
+    c.bring_up.ensures c.repair_ahead.new.run
     (rw c.deref.ensures.value at c.repair_ahead.ensures.items)
     (rw c.deref.ensures.value at c.repair_ahead.ensures.ends)
-    c.repair_ahead.ensures.spare
+    c.repair_ahead.ensures.spare (rw (← c.self.view_is) at c.requires.fresh) put
+    c.repair_ahead.new.worlds.items
     (rw c.deref.ensures.value at c.repair_ahead.ensures.worlds)
 
 pub returns-clause-runs : goal.returns-clause-runs
@@ -108,20 +88,11 @@ returns-clause-runs g c =
     c.index-t.result.now there c.index-t.ensures (rw (← c.self.view_is) at c.requires.below)
     (rw (← c.self.view_is) at c.requires.behind) (rw (← c.self.view_is) at c.requires.apart) in
     let grown = c.append_tick.ensures in
-    let own =
-    handed-world c.self.invariant c.len.ensures.falls c.len.ensures.first c.args.copy
-    c.index-t.result.now c.set_from.new.self change.there c.index-t.ensures
-    (c.set_from.ensures ∙ (rw (← c.self.view_is) at c.requires.world)) in
-    let put =
-    apart-put c.self.invariant c.len.ensures.falls c.len.ensures.first c.args.copy
-    c.index-t.result.now c.set_from.new.self change.there own in
-    rw (← c.self.view_is) (same-state _ _ _ _ _ _ (runs-remade c.self.invariant c.len.ensures.falls
-    c.len.ensures.first change c.cut.ensures grown c.bring_up.ensures c.repair_ahead.new.run put
-    c.repair_ahead.new.worlds.items
+    rw (← c.self.view_is) (same-state _ _ _ _ _ _ _ (runs-remade c.self.invariant c.len.ensures.falls
+    c.len.ensures.first change c.cut.ensures grown c.bring_up.ensures c.repair_ahead.new.run
     (rw c.deref.ensures.value at c.repair_ahead.ensures.items)
     (rw c.deref.ensures.value at c.repair_ahead.ensures.ends)
-    c.repair_ahead.ensures.spare
-    (rw c.deref.ensures.value at c.repair_ahead.ensures.worlds)))
+    c.repair_ahead.ensures.spare))
 
 pub returns-clause-repaired : goal.returns-clause-repaired
 returns-clause-repaired g c =

@@ -36,7 +36,7 @@ invariant_of-self g c =
     let inside = there.1 in
     rw (c.pass.ensures, c.tick_len-by.ensures)
     (front-kept c.self.invariant c.len.ensures.falls c.len.ensures.first c.index-t.result.now
-    c.args.copy c.set_from.new.self there.0 there.1 c.index-t.ensures
+    c.args.copy c.set_from.new.self (rw (← c.self.view_is) at c.requires.fresh) there.0 there.1 c.index-t.ensures
     (rw (← c.self.view_is) at c.requires.below) (rw (← c.self.view_is) at c.requires.behind)
     (rw (← c.self.view_is) at c.requires.front)
     (c.set_from.ensures ∙ (rw (← c.self.view_is) at c.requires.world)))
@@ -45,7 +45,7 @@ pub returns-clause-runs : goal.returns-clause-runs
 returns-clause-runs g c =
     let there = rw (← c.self.view_is) at c.requires.copy in
     rw (← c.self.view_is, c.pass.ensures, c.tick_len-by.ensures)
-    (same-state _ _ _ _ _ _ (front-runs c.self.invariant c.len.ensures.falls c.len.ensures.first
+    (same-state _ _ _ _ _ _ _ (front-runs c.self.invariant c.len.ensures.falls c.len.ensures.first
     c.index-t.result.now c.args.copy there.0 there.1 c.index-t.ensures
     (rw (← c.self.view_is) at c.requires.below) (rw (← c.self.view_is) at c.requires.behind)
     (rw (← c.self.view_is) at c.requires.front)).0)

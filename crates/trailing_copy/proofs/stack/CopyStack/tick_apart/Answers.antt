@@ -43,18 +43,8 @@ repair_ahead-requires-clause-clock g c =
     let grown =
     c.replay.ensures.run
     ∙ ap (run_grown c.cut.new.self) (one-tick c.self.inside.list.all c.index-t.result.now) in
-    let own =
-    ticked-world c.self.invariant c.len.ensures.falls c.len.ensures.first c.args.copy
-    c.index-t.result.now c.index_mut.result.now c.replay.new.world change.there
-    c.index_mut.ensures.value
-    (c.replay.ensures.world
-    ∙ ap (world_of g.G.Game.rules c.index_mut.result.now)
-    (one-tick c.self.inside.list.all c.index-t.result.now)) in
-    let put =
-    apart-put c.self.invariant c.len.ensures.falls c.len.ensures.first c.args.copy
-    c.index-t.result.now c.replay.new.world change.there own in
     rw c.deref.ensures.value (given c.self.invariant c.len.ensures.falls c.len.ensures.first change
-    c.cut.ensures grown c.bring_up.ensures _ put.len).clock
+    c.cut.ensures grown c.bring_up.ensures).clock
 
 pub repair_ahead-requires-clause-falls : goal.repair_ahead-requires-clause-falls
 repair_ahead-requires-clause-falls g c =
@@ -66,18 +56,8 @@ repair_ahead-requires-clause-falls g c =
     let grown =
     c.replay.ensures.run
     ∙ ap (run_grown c.cut.new.self) (one-tick c.self.inside.list.all c.index-t.result.now) in
-    let own =
-    ticked-world c.self.invariant c.len.ensures.falls c.len.ensures.first c.args.copy
-    c.index-t.result.now c.index_mut.result.now c.replay.new.world change.there
-    c.index_mut.ensures.value
-    (c.replay.ensures.world
-    ∙ ap (world_of g.G.Game.rules c.index_mut.result.now)
-    (one-tick c.self.inside.list.all c.index-t.result.now)) in
-    let put =
-    apart-put c.self.invariant c.len.ensures.falls c.len.ensures.first c.args.copy
-    c.index-t.result.now c.replay.new.world change.there own in
     rw c.deref.ensures.value (given c.self.invariant c.len.ensures.falls c.len.ensures.first change
-    c.cut.ensures grown c.bring_up.ensures _ put.len).falls
+    c.cut.ensures grown c.bring_up.ensures).falls
 
 pub repair_ahead-requires-clause-room : goal.repair_ahead-requires-clause-room
 repair_ahead-requires-clause-room g c =
@@ -89,18 +69,8 @@ repair_ahead-requires-clause-room g c =
     let grown =
     c.replay.ensures.run
     ∙ ap (run_grown c.cut.new.self) (one-tick c.self.inside.list.all c.index-t.result.now) in
-    let own =
-    ticked-world c.self.invariant c.len.ensures.falls c.len.ensures.first c.args.copy
-    c.index-t.result.now c.index_mut.result.now c.replay.new.world change.there
-    c.index_mut.ensures.value
-    (c.replay.ensures.world
-    ∙ ap (world_of g.G.Game.rules c.index_mut.result.now)
-    (one-tick c.self.inside.list.all c.index-t.result.now)) in
-    let put =
-    apart-put c.self.invariant c.len.ensures.falls c.len.ensures.first c.args.copy
-    c.index-t.result.now c.replay.new.world change.there own in
     rw c.deref.ensures.value (given c.self.invariant c.len.ensures.falls c.len.ensures.first change
-    c.cut.ensures grown c.bring_up.ensures _ put.len).room
+    c.cut.ensures grown c.bring_up.ensures).room
 
 pub invariant_of-self : goal.invariant_of-self
 invariant_of-self g c =
@@ -114,7 +84,8 @@ invariant_of-self g c =
     ∙ ap (run_grown c.cut.new.self) (one-tick c.self.inside.list.all c.index-t.result.now) in
     let own =
     ticked-world c.self.invariant c.len.ensures.falls c.len.ensures.first c.args.copy
-    c.index-t.result.now c.index_mut.result.now c.replay.new.world change.there
+    c.index-t.result.now c.index_mut.result.now c.replay.new.world
+    (let fresh = rw (← c.self.view_is) at c.requires.fresh in omega arith) change.there
     c.index_mut.ensures.value
     (c.replay.ensures.world
     ∙ ap (world_of g.G.Game.rules c.index_mut.result.now)
@@ -123,10 +94,11 @@ invariant_of-self g c =
     apart-put c.self.invariant c.len.ensures.falls c.len.ensures.first c.args.copy
     c.index-t.result.now c.replay.new.world change.there own in
     kept-remade c.self.invariant c.len.ensures.falls c.len.ensures.first change c.cut.ensures grown
-    c.bring_up.ensures c.repair_ahead.new.run put c.repair_ahead.new.worlds.items
+    c.bring_up.ensures c.repair_ahead.new.run
     (rw c.deref.ensures.value at c.repair_ahead.ensures.items)
     (rw c.deref.ensures.value at c.repair_ahead.ensures.ends)
-    c.repair_ahead.ensures.spare
+    c.repair_ahead.ensures.spare (rw (← c.self.view_is) at c.requires.fresh) put
+    c.repair_ahead.new.worlds.items
     (rw c.deref.ensures.value at c.repair_ahead.ensures.worlds)
 
 pub returns-clause-runs : goal.returns-clause-runs
@@ -139,23 +111,11 @@ returns-clause-runs g c =
     let grown =
     c.replay.ensures.run
     ∙ ap (run_grown c.cut.new.self) (one-tick c.self.inside.list.all c.index-t.result.now) in
-    let own =
-    ticked-world c.self.invariant c.len.ensures.falls c.len.ensures.first c.args.copy
-    c.index-t.result.now c.index_mut.result.now c.replay.new.world change.there
-    c.index_mut.ensures.value
-    (c.replay.ensures.world
-    ∙ ap (world_of g.G.Game.rules c.index_mut.result.now)
-    (one-tick c.self.inside.list.all c.index-t.result.now)) in
-    let put =
-    apart-put c.self.invariant c.len.ensures.falls c.len.ensures.first c.args.copy
-    c.index-t.result.now c.replay.new.world change.there own in
-    rw (← c.self.view_is) (same-state _ _ _ _ _ _ (runs-remade c.self.invariant c.len.ensures.falls
-    c.len.ensures.first change c.cut.ensures grown c.bring_up.ensures c.repair_ahead.new.run put
-    c.repair_ahead.new.worlds.items
+    rw (← c.self.view_is) (same-state _ _ _ _ _ _ _ (runs-remade c.self.invariant c.len.ensures.falls
+    c.len.ensures.first change c.cut.ensures grown c.bring_up.ensures c.repair_ahead.new.run
     (rw c.deref.ensures.value at c.repair_ahead.ensures.items)
     (rw c.deref.ensures.value at c.repair_ahead.ensures.ends)
-    c.repair_ahead.ensures.spare
-    (rw c.deref.ensures.value at c.repair_ahead.ensures.worlds)))
+    c.repair_ahead.ensures.spare))
 
 pub returns-clause-repaired : goal.returns-clause-repaired
 returns-clause-repaired g c =

@@ -34,22 +34,24 @@ invariant_of-self g c =
     let there = rw (← c.self.view_is) at c.requires.copy in
     let many = run-many c.self.invariant c.len.ensures.falls c.len.ensures.first in
     let inside = there.1 in
+    let fresh = rw (← c.self.view_is) at c.requires.fresh in
     rw (c.pass.ensures, c.execute_tick-by.ensures.count)
     (front-kept c.self.invariant c.len.ensures.falls c.len.ensures.first c.index-t.result.now
-    c.args.copy c.execute_tick-by.new.world there.0 there.1 c.index-t.ensures
+    c.args.copy c.execute_tick-by.new.world (rw (← c.self.view_is) at c.requires.fresh) there.0 there.1 c.index-t.ensures
     (rw (← c.self.view_is) at c.requires.below) (rw (← c.self.view_is) at c.requires.behind)
     (rw (← c.self.view_is) at c.requires.front)
     (own-world c.self.invariant c.len.ensures.falls c.len.ensures.first c.args.copy
     c.index-t.result.now c.execute_tick-by.new.world (omega arith) c.index-t.ensures
     (ticked-world c.self.invariant c.len.ensures.falls c.len.ensures.first c.args.copy
     c.index-t.result.now c.index_mut.result.now c.execute_tick-by.new.world (omega arith)
+    (omega arith)
     c.index_mut.ensures.value c.execute_tick-by.ensures.world)))
 
 pub returns-clause-runs : goal.returns-clause-runs
 returns-clause-runs g c =
     let there = rw (← c.self.view_is) at c.requires.copy in
     rw (← c.self.view_is, c.pass.ensures, c.execute_tick-by.ensures.count)
-    (same-state _ _ _ _ _ _ (front-runs c.self.invariant c.len.ensures.falls c.len.ensures.first
+    (same-state _ _ _ _ _ _ _ (front-runs c.self.invariant c.len.ensures.falls c.len.ensures.first
     c.index-t.result.now c.args.copy there.0 there.1 c.index-t.ensures
     (rw (← c.self.view_is) at c.requires.below) (rw (← c.self.view_is) at c.requires.behind)
     (rw (← c.self.view_is) at c.requires.front)).0)

@@ -1,0 +1,13 @@
+use Rattle.std.proofs.Common.{◌≤◌}
+use Rattle.trailing_copy.proofs.Ahead.{SoFar, Given}
+use Rattle.trailing_copy.proofs.appends.append_ahead.Given as goal
+
+abbrev pub invariant-loop-c : goal.invariant-loop-c
+invariant-loop-c l = record {
+  upto : l.c ≤ l.last;
+  given : Given l.list.all l.clocks l.last l.fn.run;
+  so_far : SoFar l.list.all l.clocks l.last l.fn.run l.c l.run;
+}
+
+abbrev pub decreases-loop-c : goal.decreases-loop-c
+decreases-loop-c l = l.c

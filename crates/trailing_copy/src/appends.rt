@@ -1,0 +1,44 @@
+//! The list made anew ahead of one copy, with no world.
+
+ghost use Rattle.std.specs.Prelude.{◌≡◌, ◌+◌, ◌<◌, ◌≤◌, ◌++◌, length};
+ghost use Rattle.std.specs.Prelude.{slice_index_or, drop, replicate};
+ghost use Rattle.game_trait.specs.declared.limits.TheConstants.{MOST_COPIES};
+ghost use Rattle.game_trait.specs.Run.{beats};
+ghost use Rattle.game_trait.specs.Ordered.{ordered};
+ghost use Rattle.executed_list.specs.Segments.{filled, Falls};
+ghost use Rattle.trailing_copy.specs.Mixed.{mixed, end_to};
+
+use crate::repairs::bring_up;
+use executed_list::Segments;
+use game_trait::Tick;
+use pending_list::Buckets;
+use repair_copy::append_ticks;
+
+/// Makes the runs ahead of `last` anew up to their clocks. They all stand where `last` stands, at
+/// the list's end, and each goes on from there in time order. No tick is executed.
+pub fn append_ahead(run: &mut Segments, list: &Buckets, clocks: &[Tick], last: u8)
+    requires there { last < length run.old.ends }
+    requires few { length run.old.ends ≤ MOST_COPIES }
+    requires as_many_clocks { length clocks.now ≡ length run.old.ends }
+    requires level { run.old.ends ≡ filled (last + 1) (length run.old.items) run.old.ends }
+    requires clock { slice_index_or clocks.now last 0 ≡ beats run.old.items }
+    requires falls { Falls clocks.now }
+    requires room { length
+        (ordered list.now.all (beats run.old.items) (slice_index_or clocks.now 0 0))
+        ≤ run.old.spare }
+    ensures items { run.new.items
+        ≡ run.old.items
+        ++ ordered list.now.all (beats run.old.items) (slice_index_or clocks.now 0 0) }
+    ensures ends { run.new.ends
+        ≡ mixed last (end_to list.now.all run.old.items) clocks.now run.old.ends }
+    ensures spare { run.new.spare + length run.new.items ≡ run.old.spare + length run.old.items }
+{
+    let mut c = last;
+    while c > 0 {
+        c -= 1;
+        let copy = c as usize;
+        let from = run.len();
+        append_ticks(list, clocks[copy + 1], clocks[copy], run);
+        bring_up(run, c, from);
+    }
+}

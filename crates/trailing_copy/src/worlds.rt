@@ -1,0 +1,50 @@
+//! Worlds made from the items of the list.
+
+ghost use Rattle.std.specs.Prelude.{◌≡◌, ◌<◌, ◌≤◌, [], ◌∷◌, drop, length, take, vec_len};
+ghost use Rattle.game_trait.specs.Run.{world_of};
+ghost use Rattle.trailing_copy.specs.Stack.{AreWorlds};
+
+use crate::repairs::copy_down;
+use executed_list::Segments;
+use game_trait::{Game, Item};
+
+// Executes one item on a world.
+#[tactic(auto, unfolding(game_trait::specs::Run::world_of))]
+fn execute_item<G: Game>(world: &mut G, item: &Item)
+    ensures { world.new ≡ world_of G.rules world.old (item.now ∷ []) }
+{
+    match item {
+        Item::Cmd(x) => world.apply(x),
+        Item::Beat => world.beat(),
+    }
+}
+
+/// Executes the items of the list from one place up to another on a world.
+pub fn execute_items<G: Game>(world: &mut G, run: &Segments, start: u32, stop: u32)
+    requires order { start ≤ stop }
+    requires there { stop ≤ length run.now.items }
+    ensures { world.new ≡ world_of G.rules world.old (drop start (take stop run.now.items)) }
+{
+    for place in start..stop {
+        execute_item(world, &run.item(place));
+    }
+}
+
+/// Makes the worlds of the first `stale` copies, each from that of the copy behind it and from the
+/// items between their ends. Whatever opening world those behind go back to, these do too.
+pub fn make_worlds<G: Game>(worlds: &mut Vec<G>, run: &Segments, stale: u8)
+    requires there { stale < length run.now.ends }
+    requires as_many_worlds { vec_len worlds.old ≡ length run.now.ends }
+    ensures worlds { (opening : G) → AreWorlds G.rules opening run.now stale worlds.old.items
+        → AreWorlds G.rules opening run.now 0 worlds.new.items }
+    ensures len { vec_len worlds.new ≡ vec_len worlds.old }
+{
+    let _ = run.len();
+    let mut c = stale;
+    while c > 0 {
+        c -= 1;
+        let copy = c as usize;
+        copy_down(worlds, copy);
+        execute_items(&mut worlds[copy], run, run.end(c + 1), run.end(c));
+    }
+}
