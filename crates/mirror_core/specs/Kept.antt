@@ -51,3 +51,10 @@ pub record IsKept {W : Type 0} (s : MirrorState W) (plans : List Schedule) (is_t
   pub few_repairs : repaired ≤ MOST_COPIES * length s.history
   pub epochs : AreEpochs s numbers
   pub room_left : HasRoomLeft s room
+
+-- the same, and no world of its copies is still to be made
+pub record IsWhole {W : Type 0} (s : MirrorState W) (plans : List Schedule)
+    (is_taken : ℕ × ℕ → Bool) (repaired : ℕ) (numbers : List ℕ) (room : Room) (stale : ℕ) :
+    Type 0 where
+  pub kept : IsKept s plans is_taken repaired numbers room
+  pub fresh : stale ≡ 0

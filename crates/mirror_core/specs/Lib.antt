@@ -1,3 +1,4 @@
 pub mod Epochs
 pub mod Kept
 pub mod Drafts
+pub mod Rows

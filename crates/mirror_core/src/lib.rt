@@ -7,6 +7,7 @@ mod epochs;
 mod lists;
 mod mirror;
 mod plans;
+mod rows;
 
 pub use drafts::{Committed, Draft, Drafted, MOST_DRAFTED, Ready};
 pub use mirror::Mirror;

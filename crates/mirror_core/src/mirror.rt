@@ -1,22 +1,26 @@
 //! A mirror of a match.
 
-ghost use Rattle.std.specs.Prelude.{◌≡◌, ◌<◌, ◌≤◌, IfOk, [], length, slice_get, slice_index_or};
+ghost use Rattle.std.specs.Prelude.{◌≡◌, ◌<◌, ◌≤◌, IfOk, true, [], length, slice_get, slice_index_or};
 ghost use Rattle.std.specs.List.{AllByRecursion};
 ghost use Rattle.game_trait.specs.Run.{world_of};
 ghost use Rattle.sync_model.specs.State.{opening_state, schedule_of, step_limit};
 ghost use Rattle.sync_model.specs.State.{copy_clock as clock_of, last_clock as last_clock_of};
-ghost use Rattle.sync_model.specs.Change.{next, said, Fits};
+ghost use Rattle.sync_model.specs.Change.{next, said, after, answers, Fits};
 ghost use Rattle.sync_model.specs.Consistent.{IsConsistent};
-ghost use Rattle.sync_model.specs.History.{HasRoom, repairs as repairs_of};
+ghost use Rattle.sync_model.specs.History.{HasRoom, HasRoomAlong, repairs as repairs_of};
 ghost use Rattle.sync_model.specs.Turns.{is_drained, drain_bound};
 ghost use Rattle.sync_model.specs.Drafts.{epoch as epoch_of, ready_of, FitsReady};
 ghost use Rattle.mirror_core.specs.Kept.{delays_of_each, ticks_of_first, copies_of_first};
 ghost use Rattle.mirror_core.specs.Drafts.{drafted, committed_to, committed, IfDraft};
+ghost use Rattle.mirror_core.specs.Rows.{arrival_of, IsStill, AreMade};
+ghost use Rattle.std.specs.Option.{is_some};
 
 use crate::drafts::{Committed, Draft, Drafted, MOST_DRAFTED, Ready};
 use crate::epochs::Epochs;
 use crate::lists::Lists;
 use crate::plans::greatest;
+use crate::rows::arrival_at;
+use arrayvec::ArrayVec;
 use game_trait::limits::{MOST_PLANS, MOST_ROOM};
 use game_trait::{
     Arrived, Command, Event, Game, Item, MirrorId, Number, Reply, Stepped, Tick, Ticked,
@@ -56,7 +60,7 @@ impl<G: Game> Model for Mirror<G> {
     ghost use Rattle.std.specs.HashSet as set;
     ghost use Rattle.game_trait.specs.CommandList.{same_pair};
     ghost use Rattle.sync_model.specs.State.{MirrorState};
-    ghost use Rattle.mirror_core.specs.Kept.{delays_of_each, Room, IsKept};
+    ghost use Rattle.mirror_core.specs.Kept.{delays_of_each, Room, IsWhole};
 
     ghost Value = { MirrorState G };
 
@@ -94,7 +98,8 @@ impl<G: Game> Model for Mirror<G> {
           turned = vec_capacity m.turned;
           history = vec_capacity m.history;
         } in
-        IsKept state m.plans.items (set.contains same_pair m.names) m.repairs m.epochs room };
+        IsWhole state m.plans.items (set.contains same_pair m.names) m.repairs m.epochs room
+        m.stack.stale };
 }
 
 impl<G: Game> Mirror<G> {
@@ -208,6 +213,52 @@ impl<G: Game> Mirror<G> {
         self.history.push_reserved(Event::Restagger(plan));
     }
 
+    // Makes the arrivals that stand in a row from a place of the events on, appends their answers,
+    // and answers the place behind the row. The copies ahead are executed again once, at its end.
+    fn arrive_row<const N: usize>(
+        &mut self,
+        events: &[Event],
+        from: usize,
+        replies: &mut ArrayVec<Reply, N>,
+    ) -> usize
+        requires still { IsStill self.old events.now from replies.old.items N }
+        ensures still { IsStill self.new events.now result replies.new.items N }
+        ensures made { AreMade self.old events.now from replies.old.items self.new result
+            replies.new.items }
+        ensures moved { is_some (arrival_of (slice_get events.now from)) ≡ true → from < result }
+    {
+        let bound = self.last_clock();
+        let mut place = from;
+        while let Some(x) = arrival_at(events, place) {
+            place += 1;
+            if self.names.contains(&(x.from, x.number)) {
+                replies.push(Reply::Arrive(Arrived::Repeat));
+                continue;
+            }
+            self.spare -= 1;
+            self.history.push_reserved(Event::Arrive(x));
+            if x.time < bound {
+                self.turned.push_reserved(Turned {
+                    from: x.from,
+                    number: x.number,
+                    bound,
+                });
+                replies.push(Reply::Arrive(Arrived::Late { bound }));
+                continue;
+            }
+            match self.names.insert((x.from, x.number)) {
+                Ok(_) => {}
+                Err(_) => unreachable!(),
+            }
+            self.epochs.renew_due(&self.stack, x.time);
+            let repaired = self.stack.accept(&x);
+            self.repairs += u64::from(repaired);
+            replies.push(Reply::Arrive(Arrived::Taken { repaired }));
+        }
+        self.stack.refresh();
+        place
+    }
+
     /// A command that is due within the match arrives. Where one with the same mirror and number
     /// was accepted before, nothing changes, and the answer is Repeat. Where it is older than the
     /// last copy's clock it is turned away, answered Late with that clock. Else it is accepted: the
@@ -220,28 +271,12 @@ impl<G: Game> Mirror<G> {
         ensures state { self.new ≡ next self.old (Event.Arrive x.now) }
         ensures answer { said self.old (Event.Arrive x.now) ≡ Reply.Arrive result }
     {
-        if self.names.contains(&(x.from, x.number)) {
-            return Arrived::Repeat;
+        let mut replies: ArrayVec<Reply, 1> = ArrayVec::new();
+        self.arrive_row(&[Event::Arrive(*x)], 0, &mut replies);
+        match replies[0] {
+            Reply::Arrive(arrived) => arrived,
+            _ => unreachable!(),
         }
-        let bound = self.last_clock();
-        self.spare -= 1;
-        self.history.push_reserved(Event::Arrive(*x));
-        if x.time < bound {
-            self.turned.push_reserved(Turned {
-                from: x.from,
-                number: x.number,
-                bound,
-            });
-            return Arrived::Late { bound };
-        }
-        match self.names.insert((x.from, x.number)) {
-            Ok(_) => {}
-            Err(_) => unreachable!(),
-        }
-        self.epochs.renew_due(&self.stack, x.time);
-        let repaired = self.stack.accept(x);
-        self.repairs += u64::from(repaired);
-        Arrived::Taken { repaired }
     }
 
     /// The copy, which is there, runs one tick: the commands due then in key order, and one beat.
@@ -338,6 +373,49 @@ impl<G: Game> Mirror<G> {
                 Reply::Restaggered
             }
         }
+    }
+
+    // Makes the event at a place, which is there, and where that is an arrival the whole row that
+    // begins with it; appends the answers, and answers the place behind.
+    fn make_some<const N: usize>(
+        &mut self,
+        events: &[Event],
+        at: usize,
+        replies: &mut ArrayVec<Reply, N>,
+    ) -> usize
+        requires there { at < length events.now }
+        requires still { IsStill self.old events.now at replies.old.items N }
+        ensures still { IsStill self.new events.now result replies.new.items N }
+        ensures made { AreMade self.old events.now at replies.old.items self.new result
+            replies.new.items }
+        ensures moved { at < result }
+    {
+        if arrival_at(events, at).is_some() {
+            return self.arrive_row(events, at, replies);
+        }
+        let reply = self.make(&events[at]);
+        replies.push(reply);
+        at + 1
+    }
+
+    /// Makes events one after another, each as `make` does, and hands back what was answered to
+    /// each, in order. They fit the mirror, there is room for the arrivals and the changes of the
+    /// plan among them, and they are no more than the answer holds. After several arrivals in a row
+    /// the copies ahead are executed again once, since nobody can look at them before (this
+    /// project's own).
+    pub fn make_each<const N: usize>(&mut self, events: &[Event]) -> ArrayVec<Reply, N>
+        requires few { length events.now ≤ N }
+        requires fits { AllByRecursion (Fits self.old) events.now }
+        requires room { HasRoomAlong self.old events.now }
+        ensures state { self.new ≡ after self.old events.now }
+        ensures replies { result.items ≡ answers self.old events.now }
+    {
+        let mut replies = ArrayVec::new();
+        let mut at = 0;
+        while at < events.len() {
+            at = self.make_some(events, at, &mut replies);
+        }
+        replies
     }
 
     /// The opening world, a twin of the one that `new` was given.

@@ -5,4 +5,4 @@ pub returns : goal.returns
 returns g c =
     let schedule = c.stagger.ensures.schedule in
     rw (c.last_clock.ensures, c.length.ensures.length, schedule, ← c.self.view_is)
-    (drained-is c.self.invariant)
+    (drained-is c.self.invariant.kept)

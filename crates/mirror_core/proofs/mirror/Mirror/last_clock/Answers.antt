@@ -6,4 +6,4 @@ pub returns : goal.returns
 returns g c =
     let many = rw (← c.self.view_is) at c.stagger.ensures.copies in
     rw (← c.self.view_is)
-    (c.clock.ensures ∙ last-is c.self.invariant c.copies.result (c.copies.ensures.copies ∙ many))
+    (c.clock.ensures ∙ last-is c.self.invariant.kept c.copies.result (c.copies.ensures.copies ∙ many))

@@ -29,10 +29,14 @@ invariant_of-result g c =
       copies,
       c.greatest.ensures.greatest,
     )
-    (kept_opened c.args.opening.now c.args.plans.now c.args.room c.args.restaggers _ _
-    c.requires.some_plan c.requires.few_plans c.greatest.ensures.schedules c.requires.equal_ticks
-    c.requires.equal_copies c.requires.room c.requires.restaggers room.0
-    (λ from number. rw empty.0 refl))
+    (record {
+      kept =
+          kept_opened c.args.opening.now c.args.plans.now c.args.room c.args.restaggers _ _
+          c.requires.some_plan c.requires.few_plans c.greatest.ensures.schedules
+          c.requires.equal_ticks c.requires.equal_copies c.requires.room c.requires.restaggers room.0
+          (λ from number. rw empty.0 refl);
+      fresh = refl;
+    })
 
 pub returns : goal.returns
 returns g c =

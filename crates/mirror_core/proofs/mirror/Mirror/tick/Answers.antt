@@ -18,13 +18,13 @@ returns-then-at_end-clause-answer g c =
     rw (← c.self.view_is) (tick_over _ (sym over)).1
 
 pub overflow_add-self : goal.overflow_add-self
-overflow_add-self g c = (let small = clock-fits c.self.invariant in omega arith)
+overflow_add-self g c = (let small = clock-fits c.self.invariant.kept in omega arith)
 
 pub push_reserved-requires : goal.push_reserved-requires
 push_reserved-requires g c =
     let at : false ≡ is_at_end c.stagger.result c.self.inside.clock = c.if-at_end.ensures in
     let more = rw (c.stagger.ensures.schedule, ← c.self.view_is) at at in
-    let fits = note-moved c.self.invariant (sym more) in
+    let fits = note-moved c.self.invariant.kept (sym more) in
     let len = c.self.inside.history.ok.0 in
     omega arith
 
@@ -33,7 +33,7 @@ invariant_of-self g c =
     let at : false ≡ is_at_end c.stagger.result c.self.inside.clock = c.if-at_end.ensures in
     let more = rw (c.stagger.ensures.schedule, ← c.self.view_is) at at in
     rw (c.push_reserved.ensures.items, c.push_reserved.ensures.capacity)
-    (kept_moved c.self.invariant (sym more))
+    (record { kept = kept_moved c.self.invariant.kept (sym more); fresh = c.self.invariant.fresh })
 
 pub returns-clause-state : goal.returns-clause-state
 returns-clause-state g c =
