@@ -1,7 +1,8 @@
 mod Named
 mod Ready
 mod Steps
-mod OneMore
+mod TurnFits
+pub mod Waiting
 pub mod Telling
 mod Told
 mod Along

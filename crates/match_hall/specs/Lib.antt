@@ -3,4 +3,5 @@ pub mod Report
 pub mod Stops
 pub mod Headline
 pub mod Notes
+pub mod Waiting
 pub mod Few

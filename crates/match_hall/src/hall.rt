@@ -254,8 +254,8 @@ impl<G: Game + Shown> Hall<G> {
     /// Plays the match to watchers: each mirror, mirror 0 first, makes the script's lines that name
     /// it and is drained, and each event that changed it is told to the board with its answer. Of
     /// that only the lines of watchers that left are appended. The hall is as `new` made it of this
-    /// match. On `NoMemory` it stopped at one of the events; each mirror is the state after its
-    /// history, as always.
+    /// match. On `NoMemory` it stopped at one of the events, and that mirror may have made some more
+    /// than were told; each mirror is the state after its history, as always.
     pub fn tell(&mut self, m: &Match, board: &mut Board, out: &mut Vec<u8>) -> Result<(), NoMemory>
         requires opened { (opening : G) × (self.old ≡ opening_mirrors opening m.now) }
         ensures count { length self.new ≡ length self.old }

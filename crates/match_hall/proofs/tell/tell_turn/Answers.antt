@@ -1,4 +1,4 @@
-use Rattle.match_hall.proofs.OneMore.{turn-fits, turn-room}
+use Rattle.match_hall.proofs.TurnFits.{turn-fits, turn-room}
 use Rattle.match_hall.proofs.tell.tell_turn.Goals as goal
 
 pub tell_events-requires-clause-fits : goal.tell_events-requires-clause-fits
