@@ -116,6 +116,16 @@ impl Players {
         holder(&self.list, spot)
     }
 
+    /// Whether it is seen at once that the player of this number, who is there, is live.
+    pub fn is_live_at(&self, number: usize) -> bool
+        requires { number < length self.now }
+        ensures { (d : APlayer) → result ≡ true
+            → is_live (slice_index_or self.now number d) ≡ true }
+    {
+        let _ = self.list.len();
+        self.numbers[number] != NOWHERE
+    }
+
     /// Whether it is seen at once that all are live.
     pub fn are_live(&self) -> bool
         ensures { result ≡ true → list_all is_live self.now ≡ true }

@@ -34,11 +34,10 @@ fn return_one(players: &mut Players, number: usize)
         (returned players.old (slice_index_or players.old number d)) }
     ensures count { length players.new ≡ length players.old }
 {
-    let player = players.at(number);
-    if player.is_live() {
+    if players.is_live_at(number) {
         return;
     }
-    let after = returned(players, player);
+    let after = returned(players, players.at(number));
     players.put(number, after);
 }
 

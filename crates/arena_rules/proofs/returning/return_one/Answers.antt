@@ -1,8 +1,6 @@
-use Rattle.std.proofs.Common.{sym, ◌∙◌}
+use Rattle.std.proofs.Common.{sym}
 use Rattle.arena_rules.proofs.Returns.{returned-stays}
 use Rattle.arena_rules.proofs.returning.return_one.Goals as goal
 
-pub returns-then-is_live-clause-returned : goal.returns-then-is_live-clause-returned
-returns-then-is_live-clause-returned c d =
-    let live = rw (c.at-player.ensures d) at (sym c.is_live.ensures ∙ c.if-is_live.true) in
-    sym (returned-stays c.args.players.now c.args.number d live)
+pub returns-then-is_live_at-clause-returned : goal.returns-then-is_live_at-clause-returned
+returns-then-is_live_at-clause-returned c d = sym (returned-stays c.args.players.now c.args.number d (c.is_live_at.ensures d c.if-is_live_at.true))
