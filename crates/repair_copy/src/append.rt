@@ -49,18 +49,21 @@ pub fn append_tick(list: &Buckets, t: Tick, run: &mut Segments)
 }
 
 /// Appends the ticks from `start` up to `stop` in time order, for whose items there is room, to the
-/// list. They aren't executed here. One search finds the first tick's commands; those of the ticks
-/// behind follow them.
-pub fn append_ticks(list: &Buckets, start: Tick, stop: Tick, run: &mut Segments)
+/// list. They aren't executed here. The first tick's commands begin at this place in key order, and
+/// those of each tick behind the one before it; answers where those of `stop` begin.
+pub fn append_ticks(list: &Buckets, place: u32, start: Tick, stop: Tick, run: &mut Segments) -> u32
+    requires place { place ≡ start_of list.now.all start }
     requires order { start ≤ stop }
     requires room { length (ordered list.now.all start stop) ≤ run.old.spare }
-    ensures { run.new ≡ run_grown run.old (ordered list.now.all start stop) }
+    ensures run { run.new ≡ run_grown run.old (ordered list.now.all start stop) }
+    ensures next { result ≡ start_of list.now.all stop }
 {
     let _ = run.len();
-    let mut place = list.start(start);
+    let mut place = place;
     for t in start..stop {
         place = append_from(list, place, t, run);
     }
+    place
 }
 
 /// How many items a whole tick has.

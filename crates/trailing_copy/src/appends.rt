@@ -34,11 +34,12 @@ pub fn append_ahead(run: &mut Segments, list: &Buckets, clocks: &[Tick], last: u
     ensures spare { run.new.spare + length run.new.items ≡ run.old.spare + length run.old.items }
 {
     let mut c = last;
+    let mut place = list.start(clocks[last as usize]);
     while c > 0 {
         c -= 1;
         let copy = c as usize;
         let from = run.len();
-        append_ticks(list, clocks[copy + 1], clocks[copy], run);
+        place = append_ticks(list, place, clocks[copy + 1], clocks[copy], run);
         bring_up(run, c, from);
     }
 }

@@ -12,7 +12,7 @@ loop-t-init c =
     ordered-empty c.args.list.now.all c.args.start c.args.start (omega arith) in
     record {
       run = grown-none c.args.run.now c.len.ensures.first ∙ ap (run_grown c.args.run.now) (sym none);
-      place = c.start-place.ensures.start;
+      place = c.requires.place;
     }
 
 pub append_from-place-requires-clause-start : goal.append_from-place-requires-clause-start

@@ -15,15 +15,15 @@ loop-c-init c =
       falls = r.falls;
       room = r.room;
     } in
-    record { upto = omega arith; given = given; so_far = start given }
+    record { upto = omega arith; place = c.start-place.ensures.start; given = given; so_far = start given }
 
-pub append_ticks-requires-clause-order : goal.append_ticks-requires-clause-order
-append_ticks-requires-clause-order c =
+pub append_ticks-place-requires-clause-order : goal.append_ticks-place-requires-clause-order
+append_ticks-place-requires-clause-order c =
     clocks-fall c.loop-c.invariant.given (c.loop-c.c - 1)
     (let upto = c.loop-c.invariant.upto in let some = c.loop-c-test.true in omega arith)
 
-pub append_ticks-requires-clause-room : goal.append_ticks-requires-clause-room
-append_ticks-requires-clause-room c =
+pub append_ticks-place-requires-clause-room : goal.append_ticks-place-requires-clause-room
+append_ticks-place-requires-clause-room c =
     let upto = c.loop-c.invariant.upto in
     let some = c.loop-c-test.true in
     let so_far =
@@ -42,7 +42,7 @@ bring_up-requires-clause-few c =
     (one-more c.loop-c.c (omega arith)) c.loop-c.invariant.so_far in
     let long =
     grown-length c.loop-c.invariant.given (c.loop-c.c - 1) (omega arith) so_far
-    c.append_ticks.ensures in
+    c.append_ticks-place.ensures.run in
     let few = c.requires.few in
     omega arith
 
@@ -56,8 +56,9 @@ loop-c-preserved c =
     (one-more c.loop-c.c (omega arith)) c.loop-c.invariant.so_far in
     record {
       upto = omega arith;
+      place = c.append_ticks-place.ensures.next;
       given = c.loop-c.invariant.given;
       so_far =
           more c.loop-c.invariant.given (c.loop-c.c - 1) (omega arith) so_far
-          c.append_ticks.ensures c.bring_up.ensures;
+          c.append_ticks-place.ensures.run c.bring_up.ensures;
     }
