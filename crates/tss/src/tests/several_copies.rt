@@ -9,6 +9,7 @@ use super::counting_game::{LastCommand, OPENING, arrival, go};
 use super::mirror_core_tests::answer;
 use super::slow_mirror::{SlowMirror, world_of};
 use arena_rules::Arena;
+use arrayvec::ArrayVec;
 use game_trait::{Act, Arrived, Command, Event, Game, Item, Reply, Stepped, Tick, Ticked};
 use mirror_core::Mirror;
 use stagger_clock::Stagger;
@@ -297,7 +298,9 @@ impl Draws {
     }
 
     // A command of a match of eight ticks, of one of two mirrors and one of six numbers.
-    fn command(&mut self) -> Command {
+    fn command(&mut self) -> Command
+        ensures { result.time < 8 }
+    {
         let acts = [Act::Go, Act::Left, Act::Right, Act::Shoot, Act::Dash];
         Command {
             time: self.below(8),
@@ -423,5 +426,85 @@ fn seeds_go_like_slow<G: Compared>(
 fn drawn_events_go_like_whole_lists(rt: HostRuntime) -> Result<(), Fail> {
     seeds_go_like_slow(&rt, rt.alloc(), &OPENING)?;
     seeds_go_like_slow(&rt, rt.alloc(), &two_players())?;
+    Ok(())
+}
+
+// Makes three arrivals together.
+fn make_row<G: Compared>(
+    mirror: &mut Mirror<G>,
+    x: Command,
+    y: Command,
+    z: Command,
+) -> ArrayVec<Reply, 3>
+    requires room { 3 ≤ mirror.old.spare }
+    requires due { (x.time < 8) × (y.time < 8) × (z.time < 8) }
+    requires ticks { mirror.old.length ≡ 8 }
+    requires plans { length mirror.old.plans ≡ 2 }
+    ensures ticks { mirror.new.length ≡ 8 }
+    ensures plans { length mirror.new.plans ≡ 2 }
+{
+    mirror.make_each(&[Event::Arrive(x), Event::Arrive(y), Event::Arrive(z)])
+}
+
+// Whether a slow mirror answers these arrivals so, one by one.
+fn answers_row(
+    rt: &impl Abort,
+    alloc: Global,
+    slow: &mut SlowMirror,
+    row: &[Command],
+    replies: &[Reply],
+) -> bool {
+    for (place, x) in row.iter().enumerate() {
+        let reply = slow.answer(rt, alloc, &Event::Arrive(*x));
+        if replies.get(place).copied() != Some(reply) {
+            return false;
+        }
+    }
+    replies.len() == row.len()
+}
+
+// Whether a mirror that makes arrivals three at a time, and other drawn events between them, goes
+// like a slow one that makes them one by one.
+fn rows_go_like_slow<G: Compared>(
+    rt: &impl Abort,
+    alloc: Global,
+    mirror: &mut Mirror<G>,
+    copies: u8,
+    seed: u32,
+) -> bool
+    requires copies { 0 < copies }
+    requires ticks { mirror.old.length ≡ 8 }
+    requires plans { length mirror.old.plans ≡ 2 }
+{
+    let mut slow = SlowMirror::new(rt, alloc, copies as usize, 8, [NARROW, WIDE]);
+    let mut draws = Draws { state: seed };
+    for made in 0..40 {
+        let _ = made;
+        let (x, y, z) = (draws.command(), draws.command(), draws.command());
+        if mirror.spare() < 3 {
+            return false;
+        }
+        let replies = make_row(mirror, x, y, z);
+        if !answers_row(rt, alloc, &mut slow, &[x, y, z], &replies) || !is_alike(mirror, &slow) {
+            return false;
+        }
+        let event = draws.event(copies);
+        if answer(rt, mirror, &event) != slow.answer(rt, alloc, &event) {
+            return false;
+        }
+    }
+    true
+}
+
+#[test]
+fn rows_of_arrivals_go_like_whole_lists(rt: HostRuntime) -> Result<(), Fail> {
+    for copies in 1..9 {
+        for seed in 0..12 {
+            let mut numbers = opened(rt.alloc(), &OPENING, copies)?;
+            assert!(rt; rows_go_like_slow(&rt, rt.alloc(), &mut numbers, copies, seed));
+            let mut arenas = opened(rt.alloc(), &two_players(), copies)?;
+            assert!(rt; rows_go_like_slow(&rt, rt.alloc(), &mut arenas, copies, seed));
+        }
+    }
     Ok(())
 }

@@ -1,4 +1,4 @@
-use Rattle.std.proofs.Common.{◌≡◌, ◌∙◌, ap, ℕ, List, length}
+use Rattle.std.proofs.Common.{◌∙◌}
 use Rattle.game_trait.specs.declared.event.Event.TheVariants.{Tick, Arrive, Step, Restagger}
 use Rattle.sync_model.proofs.Cases.{next-fixed}
 use Rattle.tss.proofs.tests.mirror_core_tests.answer.Goals as goal
