@@ -1,7 +1,7 @@
 -- Numbers of cells beside players and pickups: where a cell's number isn't among them, nobody and nothing is in the cell.
-use Rattle.std.proofs.Common.{◌≡◌, ◌==◌, ◌&&◌, ◌-◌, ℕ, zero, suc, Bool, not, true, false, None, Some, List, [], ◌∷◌, map, take, length, set, refl, ap, arith}
+use Rattle.std.proofs.Common.{◌||◌, ◌≡◌, ◌==◌, ◌&&◌, ◌-◌, ℕ, zero, suc, Bool, not, true, false, None, Some, List, [], ◌∷◌, map, take, length, set, refl, sym, ap, ◌∙◌, arith}
 use Rattle.std.specs.List.{list_any, list_all, prefix_len}
-use Rattle.std.proofs.lemmas.Bool.{or_parts}
+use Rattle.std.proofs.lemmas.Bool.{and_parts, or_parts, not-false}
 use Rattle.std.proofs.lemmas.Bool.Decides.{nat_tests}
 use Rattle.arena_rules.specs.Setup.{Cell}
 use Rattle.arena_rules.specs.Player.{place_in, same_place, stands_in, is_held, holder, is_live, is_live_state}
@@ -89,3 +89,18 @@ take-set xs i zero x = refl
 take-set [] i (suc n) x = refl
 take-set (y ∷ xs) zero (suc n) x = refl
 take-set (y ∷ xs) (suc i) (suc n) x = ap (λ l. y ∷ l) (take-set xs i n x)
+
+-- a live player put among live ones
+list_all-set : {X : Type 0} (test : X → Bool) (xs : List X) (i : ℕ) (x : X) → list_all test xs ≡ true → test x ≡ true → list_all test (set xs i x) ≡ true
+list_all-set test [] i x all this = refl
+list_all-set test (y ∷ xs) zero x all this = rw (this, (and_parts (test y) (list_all test xs) all).1) refl
+list_all-set test (y ∷ xs) (suc i) x all this =
+    let parts = and_parts (test y) (list_all test xs) all in
+    let first : test y ≡ true = parts.0 in
+    let rest : list_all test (set xs i x) ≡ true = list_all-set test xs i x parts.1 this in
+    rw (first, rest) refl
+
+pub are_live-put : (players : List Player) (number : ℕ) (player : Player) (may_be_dead live : Bool) → live ≡ is_live player → (may_be_dead ≡ false → list_all is_live players ≡ true) → (may_be_dead || not live) ≡ false → list_all is_live (set players number player) ≡ true
+are_live-put players number player may_be_dead live is were none =
+    let parts = or_parts may_be_dead (not live) none in
+    list_all-set is_live players number player (were parts.0) (sym is ∙ not-false live parts.1)

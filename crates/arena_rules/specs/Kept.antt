@@ -1,8 +1,10 @@
 -- How the parts of a world are kept, so that most questions are answered by one pass over plain
 -- numbers. No rule speaks of it.
-use Rattle.std.specs.Prelude.{◌≡◌, ℕ, ◌+◌, ◌-◌, ◌*◌, ◌≤◌, if◌then◌else◌, List, map, take, length, All, Option, option_map, find}
+use Rattle.std.specs.Prelude.{◌≡◌, ℕ, ◌+◌, ◌-◌, ◌*◌, ◌≤◌, Bool, true, false, if◌then◌else◌, List, map, take, length, All, Option, option_map, find}
 use Rattle.game_trait.specs.declared.limits.TheConstants.{MOST_PLAYERS, MOST_PICKUPS}
+use Rattle.std.specs.List.{list_all}
 use Rattle.arena_rules.specs.Setup.{Cell}
+use Rattle.arena_rules.specs.Player.{is_live}
 use Rattle.arena_rules.specs.Pickup.{lies_ready}
 use Rattle.arena_rules.specs.declared.pickup.Kind.{Kind}
 use Rattle.arena_rules.specs.declared.pickup.Pickup.{Pickup}
@@ -20,10 +22,13 @@ abbrev pub place_number : State → ℕ
 place_number (Live body) = cell_number body.spot.x body.spot.y
 place_number (Dead wait) = 65535
 
--- the players, no more than a match has, and at the front of a table their numbers
-pub record AreNumbered (players : List Player) (numbers : List ℕ) : Type 0 where
+-- the players, no more than a match has, and at the front of a table their numbers; where nobody may
+-- be dead all are live
+pub record AreNumbered (players : List Player) (numbers : List ℕ) (may_be_dead : Bool) :
+    Type 0 where
   pub count : length players ≤ MOST_PLAYERS
   pub front : take (length players) numbers ≡ map (λ p. place_number p.state) players
+  pub live : may_be_dead ≡ false → list_all is_live players ≡ true
 
 -- a pickup as it is seen after so many beats
 abbrev pub pickup_at : ℕ → Resting → Pickup

@@ -22,6 +22,8 @@ use std::marker::Model;
 pub struct Players {
     list: ArrayVec<Player, MOST_PLAYERS>,
     numbers: [u16; MOST_PLAYERS],
+    // whether somebody may be dead
+    may_be_dead: bool,
 }
 
 impl Model for Players {
@@ -33,7 +35,7 @@ impl Model for Players {
 
     ghost view = { λ p. p.list.items };
 
-    ghost invariant = { λ p. AreNumbered p.list.items p.numbers };
+    ghost invariant = { λ p. AreNumbered p.list.items p.numbers p.may_be_dead };
 }
 
 impl Players {
@@ -45,6 +47,7 @@ impl Players {
         let mut players = Players {
             list: ArrayVec::new(),
             numbers: [UNUSED; MOST_PLAYERS],
+            may_be_dead: false,
         };
         for home in homes {
             players.push(Player::at_home(*home));
@@ -58,6 +61,7 @@ impl Players {
         ensures { self.new ≡ self.old ++ player ∷ [] }
     {
         self.numbers[self.list.len()] = player.place_number();
+        self.may_be_dead |= !player.is_live();
         self.list.push(player);
     }
 
@@ -90,6 +94,7 @@ impl Players {
     {
         self.list[number] = player;
         self.numbers[number] = player.place_number();
+        self.may_be_dead |= !player.is_live();
     }
 
     // Whether the number of this cell is among the players' numbers.
@@ -130,7 +135,14 @@ impl Players {
     pub fn are_live(&self) -> bool
         ensures { result ≡ true → list_all is_live self.now ≡ true }
     {
-        !has_number(&self.numbers, NOWHERE)
+        !self.may_be_dead
+    }
+
+    /// Sees again whether all are live, after some came back.
+    pub fn look_for_dead(&mut self)
+        ensures { self.new ≡ self.old }
+    {
+        self.may_be_dead = has_number(&self.numbers, NOWHERE);
     }
 
     /// Makes them the same as others.
@@ -139,6 +151,7 @@ impl Players {
     {
         copy_into(&mut self.list, &other.list);
         self.numbers = other.numbers;
+        self.may_be_dead = other.may_be_dead;
     }
 
     /// Others that are the same.
@@ -148,6 +161,7 @@ impl Players {
         Players {
             list: self.list.clone().unwrap(),
             numbers: self.numbers,
+            may_be_dead: self.may_be_dead,
         }
     }
 }

@@ -61,4 +61,5 @@ pub fn return_all(players: &mut Players)
         return;
     }
     return_each(players);
+    players.look_for_dead();
 }
