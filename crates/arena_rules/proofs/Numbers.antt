@@ -6,7 +6,7 @@ use Rattle.std.proofs.lemmas.Bool.Decides.{nat_tests}
 use Rattle.arena_rules.specs.Setup.{Cell}
 use Rattle.arena_rules.specs.Player.{place_in, same_place, stands_in, is_held, holder, is_live, is_live_state}
 use Rattle.arena_rules.specs.Pickup.{lies_ready, ready_kind}
-use Rattle.arena_rules.specs.Kept.{cell_number, place_number, pickup_at}
+use Rattle.arena_rules.specs.Kept.{cell_number, place_number, seen_at}
 use Rattle.arena_rules.specs.declared.player.Player.{Player}
 use Rattle.arena_rules.specs.declared.player.State.{State}
 use Rattle.arena_rules.specs.declared.player.State.TheVariants.{Live, Dead}
@@ -72,16 +72,16 @@ lies_elsewhere : (a b wait x y : ℕ) → (cell_number a b == cell_number x y) �
 lies_elsewhere a b wait x y other = grind (arith, nat_tests)
 
 -- where no pickup has the number of a cell, nothing lies there
-nothing_lies : (x y beats : ℕ) (pickups : List Resting) → list_any (λ n. n == cell_number x y) (map (λ p. cell_number p.place.x p.place.y) pickups) ≡ false → list_any (lies_ready (record { x = x; y = y })) (map (pickup_at beats) pickups) ≡ false
+nothing_lies : (x y beats : ℕ) (pickups : List Resting) → list_any (λ n. n == cell_number x y) (map (λ p. cell_number p.place.x p.place.y) pickups) ≡ false → list_any (lies_ready (record { x = x; y = y })) (map (seen_at beats) pickups) ≡ false
 nothing_lies x y beats [] none = refl
 nothing_lies x y beats (p ∷ pickups) none =
     let parts = or_parts (cell_number p.place.x p.place.y == cell_number x y) (list_any (λ n. n == cell_number x y) (map (λ p. cell_number p.place.x p.place.y) pickups)) none in
-    let first : lies_ready (record { x = x; y = y }) (pickup_at beats p) ≡ false = lies_elsewhere p.place.x p.place.y (p.until - beats) x y parts.0 in
-    let rest : list_any (lies_ready (record { x = x; y = y })) (map (pickup_at beats) pickups) ≡ false = nothing_lies x y beats pickups parts.1 in
+    let first : lies_ready (record { x = x; y = y }) (seen_at beats p) ≡ false = lies_elsewhere p.place.x p.place.y (p.until - beats) x y parts.0 in
+    let rest : list_any (lies_ready (record { x = x; y = y })) (map (seen_at beats) pickups) ≡ false = nothing_lies x y beats pickups parts.1 in
     rw (first, rest) refl
 
-pub ready_kind-unnumbered : (x y beats : ℕ) (pickups : List Resting) → list_any (λ n. n == cell_number x y) (map (λ p. cell_number p.place.x p.place.y) pickups) ≡ false → ready_kind (map (pickup_at beats) pickups) (record { x = x; y = y }) ≡ None
-ready_kind-unnumbered x y beats pickups none = ready_kind-none (map (pickup_at beats) pickups) (record { x = x; y = y }) (nothing_lies x y beats pickups none)
+pub ready_kind-unnumbered : (x y beats : ℕ) (pickups : List Resting) → list_any (λ n. n == cell_number x y) (map (λ p. cell_number p.place.x p.place.y) pickups) ≡ false → ready_kind (map (seen_at beats) pickups) (record { x = x; y = y }) ≡ None
+ready_kind-unnumbered x y beats pickups none = ready_kind-none (map (seen_at beats) pickups) (record { x = x; y = y }) (nothing_lies x y beats pickups none)
 
 -- a number written in the place of one at the front
 pub take-set : {X : Type 0} (xs : List X) (i n : ℕ) (x : X) → take n (set xs i x) ≡ set (take n xs) i x

@@ -4,7 +4,7 @@ use Rattle.std.proofs.lemmas.List.{length-map}
 use Rattle.std.proofs.lemmas.List.Elements.{All-map, All-weaker}
 use Rattle.arena_rules.specs.Setup.{Cell}
 use Rattle.arena_rules.specs.Pickup.{lies_ready, ready_kind, emptied, taken, waited}
-use Rattle.arena_rules.specs.Kept.{pickup_at, emptied_at, counted_anew, ready_kind_at, cell_number, AreResting}
+use Rattle.arena_rules.specs.Kept.{seen_at, emptied_at, counted_anew, ready_kind_at, cell_number, AreResting}
 use Rattle.arena_rules.specs.declared.resting.Resting.{Resting}
 
 -- a change that moves no pickup, and after which none waits for long
@@ -27,8 +27,8 @@ AreResting-map before after change pickups numbers rests room sound = record {
 
 pub Rests-emptied : (beats : ℕ) (cell : Cell) → Rests beats beats (emptied_at beats cell)
 Rests-emptied beats cell = record {
-  stays = λ p. elim (lies_ready cell (pickup_at beats p)) as (λ v. (if v then record p { until = beats + 20 } else p).place ≡ p.place) [ true ↦ refl | false ↦ refl ];
-  waits = λ p short. elim (lies_ready cell (pickup_at beats p)) as (λ v. (if v then record p { until = beats + 20 } else p).until - beats ≤ 20) [ true ↦ omega arith | false ↦ short ];
+  stays = λ p. elim (lies_ready cell (seen_at beats p)) as (λ v. (if v then record p { until = beats + 20 } else p).place ≡ p.place) [ true ↦ refl | false ↦ refl ];
+  waits = λ p short. elim (lies_ready cell (seen_at beats p)) as (λ v. (if v then record p { until = beats + 20 } else p).until - beats ≤ 20) [ true ↦ omega arith | false ↦ short ];
 }
 
 pub Rests-counted_anew : (beats : ℕ) → Rests beats 1 (counted_anew beats)
@@ -44,35 +44,35 @@ AreResting-later pickups numbers beats room sound = record {
 }
 
 -- what is taken, as it is seen
-emptied-seen : (beats : ℕ) (cell : Cell) (p : Resting) → pickup_at beats (emptied_at beats cell p) ≡ emptied cell (pickup_at beats p)
+emptied-seen : (beats : ℕ) (cell : Cell) (p : Resting) → seen_at beats (emptied_at beats cell p) ≡ emptied cell (seen_at beats p)
 emptied-seen beats cell p =
     let long : beats + 20 - beats ≡ 20 = omega arith in
-    elim (lies_ready cell (pickup_at beats p)) as (λ v. pickup_at beats (if v then record p { until = beats + 20 } else p) ≡ (if v then record (pickup_at beats p) { wait = 20 } else pickup_at beats p)) [ true ↦ rw long refl | false ↦ refl ]
+    elim (lies_ready cell (seen_at beats p)) as (λ v. seen_at beats (if v then record p { until = beats + 20 } else p) ≡ (if v then record (seen_at beats p) { wait = 20 } else seen_at beats p)) [ true ↦ rw long refl | false ↦ refl ]
 
-pub taken-seen : (beats : ℕ) (cell : Cell) (pickups : List Resting) → map (pickup_at beats) (map (emptied_at beats cell) pickups) ≡ taken (map (pickup_at beats) pickups) cell
+pub taken-seen : (beats : ℕ) (cell : Cell) (pickups : List Resting) → map (seen_at beats) (map (emptied_at beats cell) pickups) ≡ taken (map (seen_at beats) pickups) cell
 taken-seen beats cell [] = refl
 taken-seen beats cell (p ∷ pickups) = rw (emptied-seen beats cell p, taken-seen beats cell pickups) refl
 
 -- a beat later
-pub waited-seen : (beats : ℕ) (pickups : List Resting) → map (pickup_at (beats + 1)) pickups ≡ map waited (map (pickup_at beats) pickups)
+pub waited-seen : (beats : ℕ) (pickups : List Resting) → map (seen_at (beats + 1)) pickups ≡ map waited (map (seen_at beats) pickups)
 waited-seen beats [] = refl
 waited-seen beats (p ∷ pickups) =
     let less : p.until - (beats + 1) ≡ p.until - beats - 1 = omega arith in
     rw (less, waited-seen beats pickups) refl
 
 -- a beat later, with the beats counted anew
-pub counted_anew-seen : (beats : ℕ) (pickups : List Resting) → map (pickup_at 1) (map (counted_anew beats) pickups) ≡ map waited (map (pickup_at beats) pickups)
+pub counted_anew-seen : (beats : ℕ) (pickups : List Resting) → map (seen_at 1) (map (counted_anew beats) pickups) ≡ map waited (map (seen_at beats) pickups)
 counted_anew-seen beats [] = refl
 counted_anew-seen beats (p ∷ pickups) = rw (counted_anew-seen beats pickups) refl
 
 -- what lies ready, as it is seen
-pub ready_kind-seen : (beats : ℕ) (cell : Cell) (pickups : List Resting) → ready_kind_at beats pickups cell ≡ ready_kind (map (pickup_at beats) pickups) cell
+pub ready_kind-seen : (beats : ℕ) (cell : Cell) (pickups : List Resting) → ready_kind_at beats pickups cell ≡ ready_kind (map (seen_at beats) pickups) cell
 ready_kind-seen beats cell [] = refl
-ready_kind-seen beats cell (p ∷ pickups) = split (lies_ready cell (pickup_at beats p)) refl (ready_kind-seen beats cell pickups)
+ready_kind-seen beats cell (p ∷ pickups) = split (lies_ready cell (seen_at beats p)) refl (ready_kind-seen beats cell pickups)
   where
     split :
-        (b : _) → lies_ready cell (pickup_at beats p) ≡ b
-        → ready_kind_at beats pickups cell ≡ ready_kind (map (pickup_at beats) pickups) cell
-        → ready_kind_at beats (p ∷ pickups) cell ≡ ready_kind (map (pickup_at beats) (p ∷ pickups)) cell
+        (b : _) → lies_ready cell (seen_at beats p) ≡ b
+        → ready_kind_at beats pickups cell ≡ ready_kind (map (seen_at beats) pickups) cell
+        → ready_kind_at beats (p ∷ pickups) cell ≡ ready_kind (map (seen_at beats) (p ∷ pickups)) cell
     split true is rest = rw is refl
     split false is rest = rw is rest

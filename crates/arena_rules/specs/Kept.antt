@@ -31,13 +31,13 @@ pub record AreNumbered (players : List Player) (numbers : List ℕ) (may_be_dead
   pub live : may_be_dead ≡ false → list_all is_live players ≡ true
 
 -- a pickup as it is seen after so many beats
-abbrev pub pickup_at : ℕ → Resting → Pickup
-pickup_at beats resting = record { place = resting.place; wait = resting.until - beats }
+abbrev pub seen_at : ℕ → Resting → Pickup
+seen_at beats resting = record { place = resting.place; wait = resting.until - beats }
 
 -- a pickup after someone came to this cell
 abbrev pub emptied_at : ℕ → Cell → Resting → Resting
 emptied_at beats cell resting =
-    if lies_ready cell (pickup_at beats resting) then record resting { until = beats + 20 }
+    if lies_ready cell (seen_at beats resting) then record resting { until = beats + 20 }
     else resting
 
 -- a pickup with the beats counted from now on
@@ -47,7 +47,7 @@ counted_anew beats resting = record resting { until = resting.until - beats }
 -- the kind of the pickup that lies ready in this cell
 abbrev pub ready_kind_at : ℕ → List Resting → Cell → Option Kind
 ready_kind_at beats pickups cell =
-    option_map (λ p. p.place.kind) (find (λ p. lies_ready cell (pickup_at beats p)) pickups)
+    option_map (λ p. p.place.kind) (find (λ p. lies_ready cell (seen_at beats p)) pickups)
 
 -- the pickups, no more than a match has, each of which waits for at most 20 beats, and at the front
 -- of a table the numbers of their cells

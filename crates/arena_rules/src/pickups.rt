@@ -4,7 +4,7 @@ ghost use Rattle.std.specs.Prelude.{◌≡◌, ◌-◌, ◌<◌, ◌≤◌, ◌+
 ghost use Rattle.game_trait.specs.declared.limits.TheConstants.{MOST_PICKUPS};
 ghost use Rattle.arena_rules.specs.Setup.{spot_cell};
 ghost use Rattle.arena_rules.specs.Pickup.{opening_pickup, ready_kind, taken, waited};
-ghost use Rattle.arena_rules.specs.Kept.{pickup_at, emptied_at, counted_anew, ready_kind_at};
+ghost use Rattle.arena_rules.specs.Kept.{seen_at, emptied_at, counted_anew, ready_kind_at};
 
 use crate::copying::copy_into;
 use crate::number::{UNUSED, cell_number, has_number};
@@ -22,7 +22,7 @@ const MOST_BEATS: u32 = 4_294_967_275;
 fn seen_each(pickups: &[Resting], beats: u32) -> ArrayVec<Pickup, MOST_PICKUPS>
     requires count { length pickups.now ≤ MOST_PICKUPS }
     requires waits { All (λ p. p.until - beats ≤ 20) pickups.now }
-    ensures { result.items ≡ map (pickup_at beats) pickups.now }
+    ensures { result.items ≡ map (seen_at beats) pickups.now }
 {
     let mut seen = ArrayVec::new();
     for pickup in pickups {
@@ -75,11 +75,11 @@ pub struct Pickups {
 impl Model for Pickups {
     ghost use Rattle.std.specs.Prelude.{List, map};
     ghost use Rattle.arena_rules.specs.declared.pickup.Pickup.{Pickup};
-    ghost use Rattle.arena_rules.specs.Kept.{pickup_at, AreResting};
+    ghost use Rattle.arena_rules.specs.Kept.{seen_at, AreResting};
 
     ghost Value = { List Pickup };
 
-    ghost view = { λ p. map (pickup_at p.beats) p.list.items };
+    ghost view = { λ p. map (seen_at p.beats) p.list.items };
 
     ghost invariant = { λ p. AreResting p.list.items p.numbers p.beats };
 }

@@ -3,7 +3,7 @@
 ghost use Rattle.std.specs.Prelude.{◌≡◌, ◌-◌, ◌≤◌};
 ghost use Rattle.arena_rules.specs.Setup.{spot_cell};
 ghost use Rattle.arena_rules.specs.Pickup.{lies_ready};
-ghost use Rattle.arena_rules.specs.Kept.{pickup_at, emptied_at, counted_anew};
+ghost use Rattle.arena_rules.specs.Kept.{seen_at, emptied_at, counted_anew};
 
 use crate::pickup::{Pickup, PickupSpot};
 use crate::spot::Spot;
@@ -27,7 +27,7 @@ impl Resting {
     /// How it is seen after so many beats.
     pub fn seen(self, beats: u32) -> Pickup
         requires { self.until - beats ≤ 20 }
-        ensures { result ≡ pickup_at beats self }
+        ensures { result ≡ seen_at beats self }
     {
         Pickup {
             place: self.place,
@@ -37,7 +37,7 @@ impl Resting {
 
     /// Whether it lies ready in the cell of this spot after so many beats.
     pub fn lies_ready(self, spot: Spot, beats: u32) -> bool
-        ensures { result ≡ lies_ready (spot_cell spot) (pickup_at beats self) }
+        ensures { result ≡ lies_ready (spot_cell spot) (seen_at beats self) }
     {
         self.place.x == spot.x && self.place.y == spot.y && self.until <= beats
     }

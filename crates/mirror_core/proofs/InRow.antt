@@ -27,13 +27,13 @@ use Rattle.sync_model.proofs.Cases.{away, taken}
 use Rattle.sync_model.proofs.Trailing.{beats-arrival}
 use Rattle.mirror_core.specs.Epochs.{AreRenewed}
 use Rattle.mirror_core.specs.Kept.{Room, IsKept}
-use Rattle.mirror_core.specs.Rows.{arrival_of, IsStill, AreMade}
+use Rattle.mirror_core.specs.Rows.{command_arriving, IsStill, AreMadeUpTo}
 use Rattle.mirror_core.proofs.Answered.{arrive_repeat, arrive_late, arrive_taken}
 use Rattle.mirror_core.proofs.Calls.{late-at, on-time}
 use Rattle.mirror_core.proofs.Kept.{kept_away, kept_taken}
 
 -- an arrival is there
-pub arrives-at : (o : Option Event) (x : Command) → Some x ≡ arrival_of o → o ≡ Some (Arrive x)
+pub arrives-at : (o : Option Event) (x : Command) → Some x ≡ command_arriving o → o ≡ Some (Arrive x)
 arrives-at None x is = absurd (let e : Some x ≡ None = is in cc)
 arrives-at (Some Tick) x is = absurd (let e : Some x ≡ None = is in cc)
 arrives-at (Some (Arrive y)) x is = (let e : Some x ≡ Some y = is in cc)
@@ -66,9 +66,9 @@ still-next s t es place told most e r there made still =
     }
 
 -- one event more is made
-pub made-next : {W : Type 0} (s0 s t : MirrorState W) (es : List Event) (from place : ℕ) (before told : List Reply) (e : Event) (r : Reply) → slice_get es place ≡ Some e → t ≡ next s e → said s e ≡ r → AreMade s0 es from before s place told → AreMade s0 es from before t (place + 1) (told ++ r ∷ [])
+pub made_up_to-next : {W : Type 0} (s0 s t : MirrorState W) (es : List Event) (from place : ℕ) (before told : List Reply) (e : Event) (r : Reply) → slice_get es place ≡ Some e → t ≡ next s e → said s e ≡ r → AreMadeUpTo s0 es from before s place told → AreMadeUpTo s0 es from before t (place + 1) (told ++ r ∷ [])
 unfolding after answers
-made-next s0 s t es from place before told e r there made answer so_far =
+made_up_to-next s0 s t es from place before told e r there made answer so_far =
     let order = so_far.order in
     record {
       order = omega arith;
@@ -82,14 +82,14 @@ made-next s0 s t es from place before told e r there made answer so_far =
     }
 
 -- before the first
-pub made-none : {W : Type 0} (s : MirrorState W) (es : List Event) (from : ℕ) (before : List Reply) → AreMade s es from before s from before
-made-none s es from before = record { order = omega arith; state = refl; replies = refl }
+pub made_up_to-none : {W : Type 0} (s : MirrorState W) (es : List Event) (from : ℕ) (before : List Reply) → AreMadeUpTo s es from before s from before
+made_up_to-none s es from before = record { order = omega arith; state = refl; replies = refl }
 
 -- a mirror in a row of arrivals: what is always true of it but that its worlds are made, and what is still to come
 pub record IsInRow {W : Type 0} (s0 : MirrorState W) (es : List Event) (from : ℕ) (before : List Reply) (most bound : ℕ) (s : MirrorState W) (place : ℕ) (told : List Reply) (plans : List Schedule) (is_taken : ℕ × ℕ → Bool) (repaired : ℕ) (numbers : List ℕ) (room : Room) : Type 0 where
   pub kept : IsKept s plans is_taken repaired numbers room
   pub still : IsStill s es place told most
-  pub made : AreMade s0 es from before s place told
+  pub made : AreMadeUpTo s0 es from before s place told
   pub last : bound ≡ last_clock s.runs
 
 -- one arrival more
@@ -101,7 +101,7 @@ in_row-next : {W : Type 0} {s0 : MirrorState W} {es : List Event} {from : ℕ} {
 in_row-next {s0 = s0} {es} {from} {before} {most} {bound} {s} {place} {told} h t x r still n ns left there made answer clock kept = record {
   kept = kept;
   still = still-next s t es place told most (Arrive x) r there made h.still;
-  made = made-next s0 s t es from place before told (Arrive x) r there made answer h.made;
+  made = made_up_to-next s0 s t es from place before told (Arrive x) r there made answer h.made;
   last = h.last ∙ sym clock;
 }
 
@@ -161,13 +161,13 @@ module _ {W : Type 0} {s0 : MirrorState W} {es : List Event} {from : ℕ} {befor
       (kept_taken h.kept x n names_left ns still asked.0 asked.1 new in_time count names spent renewed)
 
 -- an event is an arrival or none
-not-both : (o : Option Event) → None ≡ arrival_of o → is_some (arrival_of o) ≡ true → ⊥
+not-both : (o : Option Event) → None ≡ command_arriving o → is_some (command_arriving o) ≡ true → ⊥
 not-both o none some = (let e : is_some {T = Command} None ≡ true = ap (λ (p : Option Command). is_some p) none ∙ some in cc)
 
 -- a row that begins with an arrival and has ended is past it
 pub row-moved : {W : Type 0} {s0 : MirrorState W} {es : List Event} {from : ℕ} {before : List Reply} {most bound : ℕ} {s : MirrorState W} {place : ℕ} {told : List Reply} {plans : List Schedule} {is_taken : ℕ × ℕ → Bool} {repaired_now : ℕ} {numbers : List ℕ} {room : Room}
     (h : IsInRow s0 es from before most bound s place told plans is_taken repaired_now numbers room)
-    → None ≡ arrival_of (slice_get es place) → is_some (arrival_of (slice_get es from)) ≡ true → from < place
+    → None ≡ command_arriving (slice_get es place) → is_some (command_arriving (slice_get es from)) ≡ true → from < place
 row-moved {es = es} {from} {place = place} h ended arrives = elim (cases_eq from place) [
   | inl same ↦ absurd (not-both (slice_get es place) ended (rw same at arrives))
   | inr apart ↦ (let order = h.made.order in omega arith)
@@ -186,16 +186,16 @@ unfolding said
 arrived s x = (_, refl)
 
 -- a row of one event
-pub made-one : {W : Type 0} (s t : MirrorState W) (e : Event) (place : ℕ) (told : List Reply) → AreMade s (e ∷ []) 0 [] t place told → 0 < place → place ≤ 1 → (t ≡ next s e) × (told ≡ said s e ∷ [])
+pub made_up_to-one : {W : Type 0} (s t : MirrorState W) (e : Event) (place : ℕ) (told : List Reply) → AreMadeUpTo s (e ∷ []) 0 [] t place told → 0 < place → place ≤ 1 → (t ≡ next s e) × (told ≡ said s e ∷ [])
 unfolding after answers
-made-one s t e place told made some one =
+made_up_to-one s t e place told made some one =
     let same : place ≡ 1 = omega arith in
     let all = rw same at made in
     (all.state, sym (append-nil told) ∙ all.replies)
 
 -- no event is left
-pub made-all : {W : Type 0} (s t : MirrorState W) (es : List Event) (place : ℕ) (told : List Reply) → AreMade s es 0 [] t place told → length es ≤ place → (t ≡ after s es) × (told ≡ answers s es)
+pub made_up_to-all : {W : Type 0} (s t : MirrorState W) (es : List Event) (place : ℕ) (told : List Reply) → AreMadeUpTo s es 0 [] t place told → length es ≤ place → (t ≡ after s es) × (told ≡ answers s es)
 unfolding after answers
-made-all s t es place told made past =
+made_up_to-all s t es place told made past =
     let none : drop place es ≡ [] = drop_all place es past in
     (ap (after t) (sym none) ∙ made.state, sym (append-nil told) ∙ ap (λ (l : List Event). told ++ answers t l) (sym none) ∙ made.replies)

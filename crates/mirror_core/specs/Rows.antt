@@ -10,12 +10,12 @@ use Rattle.sync_model.specs.Change.{Fits, after, answers}
 use Rattle.sync_model.specs.History.{HasRoomAlong}
 
 -- the command that arrives by an event, if there is one and it is an arrival
-abbrev pub arrival_of : Option Event → Option Command
-arrival_of None = None
-arrival_of (Some Tick) = None
-arrival_of (Some (Arrive x)) = Some x
-arrival_of (Some (Step c)) = None
-arrival_of (Some (Restagger p)) = None
+abbrev pub command_arriving : Option Event → Option Command
+command_arriving None = None
+command_arriving (Some Tick) = None
+command_arriving (Some (Arrive x)) = Some x
+command_arriving (Some (Step c)) = None
+command_arriving (Some (Restagger p)) = None
 
 -- the events from a place on may still be made by a mirror, and their answers have room beside
 -- those that are there, of at most so many
@@ -28,7 +28,7 @@ pub record IsStill {W : Type 0} (s : MirrorState W) (es : List Event) (place : �
 
 -- while the events from one place up to another were made, a mirror came from one state to another,
 -- and what was answered was appended
-pub record AreMade {W : Type 0} (s : MirrorState W) (es : List Event) (from : ℕ)
+pub record AreMadeUpTo {W : Type 0} (s : MirrorState W) (es : List Event) (from : ℕ)
     (before : List Reply) (t : MirrorState W) (to : ℕ) (told : List Reply) : Type 0 where
   pub order : from ≤ to
   pub state : after t (drop to es) ≡ after s (drop from es)

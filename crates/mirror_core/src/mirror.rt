@@ -12,7 +12,7 @@ ghost use Rattle.sync_model.specs.Turns.{is_drained, drain_bound};
 ghost use Rattle.sync_model.specs.Drafts.{epoch as epoch_of, ready_of, FitsReady};
 ghost use Rattle.mirror_core.specs.Kept.{delays_of_each, ticks_of_first, copies_of_first};
 ghost use Rattle.mirror_core.specs.Drafts.{drafted, committed_to, committed, IfDraft};
-ghost use Rattle.mirror_core.specs.Rows.{arrival_of, IsStill, AreMade};
+ghost use Rattle.mirror_core.specs.Rows.{command_arriving, IsStill, AreMadeUpTo};
 ghost use Rattle.std.specs.Option.{is_some};
 
 use crate::drafts::{Committed, Draft, Drafted, MOST_DRAFTED, Ready};
@@ -223,9 +223,9 @@ impl<G: Game> Mirror<G> {
     ) -> usize
         requires still { IsStill self.old events.now from replies.old.items N }
         ensures still { IsStill self.new events.now result replies.new.items N }
-        ensures made { AreMade self.old events.now from replies.old.items self.new result
+        ensures made { AreMadeUpTo self.old events.now from replies.old.items self.new result
             replies.new.items }
-        ensures moved { is_some (arrival_of (slice_get events.now from)) ≡ true → from < result }
+        ensures moved { is_some (command_arriving (slice_get events.now from)) ≡ true → from < result }
     {
         let bound = self.last_clock();
         let mut place = from;
@@ -386,7 +386,7 @@ impl<G: Game> Mirror<G> {
         requires there { at < length events.now }
         requires still { IsStill self.old events.now at replies.old.items N }
         ensures still { IsStill self.new events.now result replies.new.items N }
-        ensures made { AreMade self.old events.now at replies.old.items self.new result
+        ensures made { AreMadeUpTo self.old events.now at replies.old.items self.new result
             replies.new.items }
         ensures moved { at < result }
     {

@@ -1,6 +1,6 @@
 use Rattle.std.proofs.Common.{◌≡◌, map, take}
-use Rattle.arena_rules.specs.Kept.{pickup_at}
+use Rattle.arena_rules.specs.Kept.{seen_at}
 use Rattle.arena_rules.proofs.pickups.seen_each.Given as goal
 
 abbrev pub invariant-loop-pickup : goal.invariant-loop-pickup
-invariant-loop-pickup l = l.seen.items ≡ map (pickup_at l.beats) (take l.pickup-index l.pickups)
+invariant-loop-pickup l = l.seen.items ≡ map (seen_at l.beats) (take l.pickup-index l.pickups)

@@ -1,7 +1,7 @@
 use Rattle.std.proofs.Common.{sym}
 use Rattle.game_trait.specs.declared.event.Event.TheVariants.{Tick}
 use Rattle.std.proofs.lemmas.Option.{slice_get-get_or}
-use Rattle.mirror_core.proofs.InRow.{still-first, still-next, made-none, made-next}
+use Rattle.mirror_core.proofs.InRow.{still-first, still-next, made_up_to-none, made_up_to-next}
 use Rattle.mirror_core.proofs.mirror.Mirror.make_some.Goals as goal
 
 pub make-reply-requires-clause-room : goal.make-reply-requires-clause-room
@@ -16,6 +16,6 @@ returns-clause-still g c =
 pub returns-clause-made : goal.returns-clause-made
 returns-clause-made g c =
     rw c.push.ensures.items
-    (made-next c.args.self.now c.args.self.now c.make-reply.new.self c.args.events.now c.args.at c.args.at c.args.replies.now.items c.args.replies.now.items _ c.make-reply.result
+    (made_up_to-next c.args.self.now c.args.self.now c.make-reply.new.self c.args.events.now c.args.at c.args.at c.args.replies.now.items c.args.replies.now.items _ c.make-reply.result
     (slice_get-get_or c.args.events.now c.args.at Tick c.requires.there) c.make-reply.ensures.state (sym c.make-reply.ensures.answer)
-    (made-none c.args.self.now c.args.events.now c.args.at c.args.replies.now.items))
+    (made_up_to-none c.args.self.now c.args.events.now c.args.at c.args.replies.now.items))
