@@ -203,8 +203,10 @@ fn tell_turn<G: Game>(
         (w.vtable, w.value)) board.new.watchers.items) out.old.items out.new.items) }
 {
     mirror.always();
-    let events = turn_events(mirror.copies());
-    tell_events(mirror, number, events.as_slice(), board, out)
+    let turn = turn_events(mirror.copies());
+    let events = turn.as_slice();
+    let replies: ArrayVec<Reply, 9> = mirror.make_each(events);
+    tell_changes(number, events, &replies, board, out)
 }
 
 // Makes turns until the mirror is drained, at most so many.

@@ -1,8 +1,30 @@
+use Rattle.std.proofs.Common.{List, length, ap, ◌∙◌, arith}
+use Rattle.std.proofs.lemmas.Result.{on_ok_weaker}
+use Rattle.game_trait.specs.declared.event.Reply.{Reply}
+use Rattle.sync_model.proofs.Room.{from_history_reached}
+use Rattle.match_hall.proofs.Telling.{answers-count, told-together}
 use Rattle.match_hall.proofs.TurnFits.{turn-fits, turn-room}
 use Rattle.match_hall.proofs.tell.tell_turn.Goals as goal
 
-pub tell_events-requires-clause-fits : goal.tell_events-requires-clause-fits
-tell_events-requires-clause-fits g c = rw (c.as_slice.ensures.value, c.turn_events-events.ensures, c.copies.ensures) (turn-fits c.args.mirror.now)
+pub make_each-replies-requires : goal.make_each-replies-requires
+make_each-replies-requires g c = (
+  omega arith,
+  (
+    c.as_slice-events.ensures.fits,
+    (
+      rw (c.as_slice-events.ensures.value, c.turn_events-turn.ensures, c.copies.ensures) (turn-fits c.args.mirror.now),
+      rw (c.as_slice-events.ensures.value, c.turn_events-turn.ensures) (turn-room c.args.mirror.now c.copies.result),
+    ),
+  ),
+)
 
-pub tell_events-requires-clause-room : goal.tell_events-requires-clause-room
-tell_events-requires-clause-room g c = rw (c.as_slice.ensures.value, c.turn_events-events.ensures) (turn-room c.args.mirror.now c.copies.result)
+pub tell_changes-requires : goal.tell_changes-requires
+tell_changes-requires g c =
+    (omega arith, ap (λ (rs : List Reply). length rs) c.make_each-replies.ensures.replies ∙ answers-count c.as_slice-events.result.now c.args.mirror.now)
+
+pub returns-clause-told : goal.returns-clause-told
+returns-clause-told g c =
+    on_ok_weaker c.tell_changes.result
+    (λ told. told-together c.args.number c.args.mirror.now c.make_each-replies.new.self c.as_slice-events.result.now _ _ _ _ _
+    (from_history_reached c.args.mirror.now c.always.ensures.from_history) c.make_each-replies.ensures.state c.make_each-replies.ensures.replies told)
+    c.tell_changes.ensures
