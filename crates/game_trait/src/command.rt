@@ -34,10 +34,10 @@ pub enum Act {
 pub struct Command {
     /// The tick at which it is due.
     pub time: Tick,
+    /// Its number among the commands of the mirror that issued it.
+    pub number: Number,
     /// The mirror that issued it.
     pub from: MirrorId,
-    /// Its number among that mirror's commands.
-    pub number: Number,
     /// The player that acts, counted from 0.
     pub player: u8,
     /// What the player does.
