@@ -61,37 +61,6 @@ falls-between (k ∷ m ∷ ms) zero (suc j) falls low there =
     (let more = falls-between (m ∷ ms) zero j falls.1 (omega arith) (omega arith) in
     let first : m ≤ k = falls.0 in omega arith)
 
--- the seam between what is still to be made and what is made
-seam :
-    {X : Type 0} (xs ys : List X) (e : ℕ) (d : X) → e < length xs → e < length ys
-    → set (take (e + 1) xs ++ drop (e + 1) ys) e (get_or ys e d) ≡ take e xs ++ drop e ys
-seam [] ys e d a b = absurd (omega arith)
-seam (x ∷ xs) [] e d a b = absurd (omega arith)
-seam (x ∷ xs) (y ∷ ys) zero d a b = refl
-seam {X} (x ∷ xs) (y ∷ ys) (suc e) d a b =
-    (let s : suc e + 1 ≡ suc (e + 1) = omega arith in
-    rw s (ap (λ (l : List X). x ∷ l) (seam xs ys e d (omega arith) (omega arith))))
-
-get-seam :
-    {X : Type 0} (xs ys : List X) (c : ℕ) (d : X) → c < length xs
-    → get_or (take c xs ++ drop c ys) c d ≡ get_or ys c d
-get-seam [] ys c d a = absurd (omega arith)
-get-seam (x ∷ xs) ys zero d a = refl
-get-seam (x ∷ xs) [] (suc c) d a = get-none xs c d (omega arith)
-  where
-    get-none :
-        {X : Type 0} (xs : List X) (c : ℕ) (d : X) → c < length xs
-        → get_or (take c xs ++ []) c d ≡ d
-    get-none [] c d a = absurd (omega arith)
-    get-none (x ∷ xs) zero d a = refl
-    get-none (x ∷ xs) (suc c) d a = get-none xs c d (omega arith)
-get-seam (x ∷ xs) (y ∷ ys) (suc c) d a = get-seam xs ys c d (omega arith)
-
-set-twice : {X : Type 0} (xs : List X) (i : ℕ) (x y : X) → set (set xs i x) i y ≡ set xs i y
-set-twice [] i x y = refl
-set-twice (z ∷ zs) zero x y = refl
-set-twice {X} (z ∷ zs) (suc i) x y = ap (λ (l : List X). z ∷ l) (set-twice zs i x y)
-
 filled-seam :
     (ends : List ℕ) (e n : ℕ) → e < length ends → end_of ends e ≡ n
     → filled e n ends ≡ filled (e + 1) n ends
@@ -138,13 +107,6 @@ ends-start last n f ks ends there few level =
     ∙ filled-below ends (last + 1) last n (omega arith) (omega arith)))
     ∙ ap (λ (l : List ℕ). replicate last n ++ l) (sym (mixed-behind last f ks ends few))
 
-pub worlds-start :
-    {X : Type 0} (last : ℕ) (f : ℕ → X) (ks : List ℕ) (xs : List X) → last ≤ length ks
-    → xs ≡ take last xs ++ drop last (mixed last f ks xs)
-worlds-start {X} last f ks xs few =
-    sym (take-append-drop last xs)
-    ∙ ap (λ (l : List X). take last xs ++ l) (sym (mixed-behind last f ks xs few))
-
 -- the items go on
 pub items-more :
     (all : List Command) (b now after : List Item) (kc ke : ℕ) → beats b ≤ kc → kc ≤ ke
@@ -172,91 +134,6 @@ part-room all kb kc ke kz a b c =
     let four = length-append (ordered all kb kc) (ordered all kc ke) in
     omega arith
 
--- the world of a copy, through the world of the copy behind
-world-on :
-    {W : Type 0} (rules : Rules W) (all : List Command) (kb kc ke : ℕ) (w : W) → kb ≤ kc → kc ≤ ke
-    → world_of rules (world_to rules all kb w kc) (ordered all kc ke) ≡ world_to rules all kb w ke
-world-on rules all kb kc ke w low high =
-    sym (world_of-append rules w (ordered all kb kc) (ordered all kc ke))
-    ∙ ap (world_of rules w) (sym (ordered-join all kb kc ke low high))
-
-get-behind :
-    {X : Type 0} (n : ℕ) (f : ℕ → X) (ks : List ℕ) (xs : List X) (d : X) → n ≤ length ks
-    → get_or (mixed n f ks xs) n d ≡ get_or xs n d
-unfolding mixed
-get-behind zero f ks xs d a = refl
-get-behind (suc n) f [] xs d a = absurd (omega arith)
-get-behind (suc n) f (k ∷ ks) [] d a = refl
-get-behind (suc n) f (k ∷ ks) (x ∷ xs) d a = get-behind n f ks xs d (omega arith)
-
-behind-world :
-    {W : Type 0} (rules : Rules W) (all : List Command) (kb : ℕ) (ks : List ℕ) (old : List W)
-    (last c : ℕ) (w d : W)
-    → c ≤ last → last < length old → last < length ks → w ≡ get_or old last d
-    → get_or ks last 0 ≡ kb
-    → get_or (mixed last (world_to rules all kb w) ks old) c d
-    ≡ world_to rules all kb w (get_or ks c 0)
-unfolding world_of
-behind-world {W} rules all kb ks old last c w d low a b at_w clock =
-    ⊎_elim
-    (λ (below : c < last). mixed-at last (world_to rules all kb w) ks old c d below (omega arith)
-    (omega arith))
-    (λ (level : last ≤ c).
-    let same : c ≡ last = omega arith in
-    let none : ordered all kb (get_or ks last 0) ≡ [] =
-    ordered-empty all kb (get_or ks last 0) (omega arith) in
-    rw same
-    (get-behind last (world_to rules all kb w) ks old d (omega arith) ∙ sym at_w
-    ∙ sym (ap (world_of rules w) none)))
-    (cases_lt c last)
-
-seam-length :
-    {X : Type 0} (xs ys : List X) (c : ℕ) → c ≤ length xs → length ys ≡ length xs
-    → length (take c xs ++ drop c ys) ≡ length xs
-seam-length xs ys zero a b = b
-seam-length [] ys (suc c) a b = absurd (omega arith)
-seam-length (x ∷ xs) [] (suc c) a b = absurd (omega arith)
-seam-length (x ∷ xs) (y ∷ ys) (suc c) a b = ap suc (seam-length xs ys c (omega arith) (omega arith))
-
--- the worlds, once one more was brought to its clock
-pub worlds-more :
-    {W : Type 0} (rules : Rules W) (all : List Command) (kb : ℕ) (ks : List ℕ)
-    (old now down : List W) (last e : ℕ) (w x y d : W)
-    → e < last → last < length old → length ks ≡ length old → w ≡ get_or old last d
-    → get_or ks last 0 ≡ kb → kb ≤ get_or ks (e + 1) 0 → get_or ks (e + 1) 0 ≤ get_or ks e 0
-    → now ≡ take (e + 1) old ++ drop (e + 1) (mixed last (world_to rules all kb w) ks old)
-    → down ≡ set now e (get_or now (e + 1) d)
-    → x ≡ get_or down e d
-    → y ≡ world_of rules x (ordered all (get_or ks (e + 1) 0) (get_or ks e 0))
-    → set down e y ≡ take e old ++ drop e (mixed last (world_to rules all kb w) ks old)
-worlds-more {W} rules all kb ks old now down last e w x y d low there many at_w clock first falls
-    at_now at_down at_x at_y =
-    let target = mixed last (world_to rules all kb w) ks old in
-    let as_long = mixed-length last (world_to rules all kb w) ks old in
-    let behind : get_or now (e + 1) d ≡ world_to rules all kb w (get_or ks (e + 1) 0) =
-    ap (λ (l : List W). get_or l (e + 1) d) at_now ∙ get-seam old target (e + 1) d (omega arith)
-    ∙ behind-world rules all kb ks old last (e + 1) w d (omega arith) there (omega arith) at_w clock
-    in
-    let now_length : length now ≡ length old =
-    ap (λ (l : List W). length l) at_now
-    ∙ seam-length old target (e + 1) (omega arith) (omega arith) in
-    let source : x ≡ world_to rules all kb w (get_or ks (e + 1) 0) =
-    at_x ∙ ap (λ (l : List W). get_or l e d) at_down
-    ∙ get_or-set_same now e (get_or now (e + 1) d) d (omega arith) ∙ behind in
-    let made : y ≡ world_to rules all kb w (get_or ks e 0) =
-    at_y
-    ∙ ap (λ (v : W). world_of rules v (ordered all (get_or ks (e + 1) 0) (get_or ks e 0))) source
-    ∙ world-on rules all kb (get_or ks (e + 1) 0) (get_or ks e 0) w first falls in
-    let aimed : y ≡ get_or target e d =
-    made
-    ∙ sym
-    (mixed-at last (world_to rules all kb w) ks old e d low (omega arith) (omega arith)) in
-    ap (λ (l : List W). set l e y) at_down
-    ∙ set-twice now e (get_or now (e + 1) d) y
-    ∙ ap (λ (l : List W). set l e y) at_now
-    ∙ ap (set (take (e + 1) old ++ drop (e + 1) target) e) aimed
-    ∙ seam old target e d (omega arith) (omega arith)
-
 -- the copies from c on up to the last stand where they shall, and those ahead of c stand where c
 -- stands
 pub record SoFar (all : List Command) (ks : List ℕ) (last : ℕ) (b : OneList) (c : ℕ)
@@ -265,17 +142,6 @@ pub record SoFar (all : List Command) (ks : List ℕ) (last : ℕ) (b : OneList)
   pub items : s.items ≡ grown_to all b.items (get_or ks c 0)
   pub ends : s.ends ≡ filled c (length s.items) (mixed last (end_to all b.items) ks b.ends)
   pub spare : s.spare + length s.items ≡ b.spare + length b.items
-
--- the worlds of the copies from c on up to the last are made, and those ahead of c are what they
--- were
-pub record WorldsSoFar {W : Type 0} (rules : Rules W) (all : List Command) (ks : List ℕ)
-    (last : ℕ) (b : OneList) (old : List W) (c : ℕ) (now : List W) :
-    Type 0 where
-  pub worlds :
-      (d : W)
-      → now
-      ≡ take c old
-      ++ drop c (mixed last (world_to rules all (beats b.items) (get_or old last d)) ks old)
 
 -- what the repair is given
 pub record Given (all : List Command) (ks : List ℕ) (last : ℕ) (b : OneList) : Type 0 where
@@ -421,44 +287,3 @@ module _ {all : List Command} {ks : List ℕ} {last : ℕ} {b : OneList} (h : Gi
                 filled e (length l) (mixed last (end_to all b.items) ks b.ends)) (sym same);
             spare = omega arith;
           }
-
-  -- and the worlds
-  module _ {W : Type 0} (rules : Rules W) {old : List W} (worlds : length old ≡ length b.ends) where
-    pub start-worlds : WorldsSoFar rules all ks last b old last old
-    start-worlds =
-        let there = h.there in
-        let clocks = h.as_many_clocks in
-        record {
-          worlds = λ d. worlds-start last
-              (world_to rules all (beats b.items) (get_or old last d)) ks old (omega arith);
-        }
-
-    pub more-worlds :
-        (e : ℕ) {now down : List W} (x y : W) → e + 1 ≤ last
-        → WorldsSoFar rules all ks last b old (e + 1) now
-        → ((d : W) → down ≡ set now e (get_or now (e + 1) d))
-        → x ≡ get_or down e x
-        → y ≡ world_of rules x (ordered all (get_or ks (e + 1) 0) (get_or ks e 0))
-        → WorldsSoFar rules all ks last b old e (set down e y)
-    more-worlds e {now} {down} x y low so_far copied at_x at_y =
-        let there = h.there in
-        let clocks = h.as_many_clocks in
-        record {
-          worlds = λ d. worlds-more rules all (beats b.items) ks old now down last e
-              (get_or old last d) x y d (omega arith) (omega arith) (omega arith) refl h.clock
-              (clocks-from (e + 1) low) (clocks-fall e low) (so_far.worlds d) (copied d)
-              (at_x
-              ∙ get-any down e x d (let one = ap (λ (l : List W). length l) (copied d) in
-              let two = length-set now e (get_or now (e + 1) d) in
-              let three = now-length d in omega arith)) at_y;
-        }
-      where
-        now-length : (d : W) → length now ≡ length old
-        now-length d =
-            let target =
-            mixed-length last (world_to rules all (beats b.items) (get_or old last d)) ks old in
-            let there = h.there in
-            ap (λ (l : List W). length l) (so_far.worlds d)
-            ∙ seam-length old
-            (mixed last (world_to rules all (beats b.items) (get_or old last d)) ks old) (e + 1)
-            (omega arith) (omega arith)

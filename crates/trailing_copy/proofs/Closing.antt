@@ -1,21 +1,19 @@
--- What a repair leaves: the runs of the closed form, and their worlds.
+-- What a repair leaves: the runs of the closed form.
 use Rattle.std.proofs.Common.{◌≡◌, refl, ◌∙◌, sym, ap, ℕ, zero, suc, ◌+◌, ◌≤◌, ◌<◌, List, [], ◌∷◌, ◌++◌, length, map, take, drop, get_or, replicate, arith, append_assoc}
 use Rattle.std.proofs.lemmas.List.{drop-map, take-append-le, length-take-le}
 use Rattle.std.proofs.Math.Seq.{take-append_seam}
 use Rattle.std.specs.List.{AllByRecursion}
 use Rattle.game_trait.specs.declared.command.Command.{Command}
 use Rattle.game_trait.specs.declared.command.Item.{Item}
-use Rattle.game_trait.specs.Game.{Rules}
-use Rattle.game_trait.specs.Run.{beats, world_of}
+use Rattle.game_trait.specs.Run.{beats}
 use Rattle.game_trait.specs.Ordered.{ordered}
-use Rattle.game_trait.proofs.Runs.{world_of-append}
 use Rattle.game_trait.proofs.OrderedParts.{ordered-join}
 use Rattle.sync_model.specs.Settle.{rebuilt}
 use Rattle.sync_model.specs.Repairs.{rebuild}
 use Rattle.sync_model.proofs.Rebuilt.{rebuilt_level}
 use Rattle.executed_list.specs.Segments.{Falls, end_of, filled, runs_at}
 use Rattle.executed_list.proofs.Lists.{falls-below, take-take}
-use Rattle.trailing_copy.specs.Mixed.{mixed, grown_to, end_to, world_to}
+use Rattle.trailing_copy.specs.Mixed.{mixed, grown_to, end_to}
 use Rattle.trailing_copy.proofs.Ahead.{falls-between}
 
 mixed-map :
@@ -110,66 +108,6 @@ mixed-rebuild all b g (suc f) (suc c) (k ∷ ks) (r ∷ rs) order there long sam
     ap (λ (l : List Item). l ∷ mixed f g ks (replicate (suc c) b ++ drop (suc c) rs))
     (made ∙ ap (grown_to all b) own)
     ∙ ap (λ (l : List (List Item)). rebuilt all r b ∷ l) rest
-
--- their worlds
-pub repaired-worlds :
-    {W : Type 0} (rules : Rules W) (opening : W) (all : List Command) (b : List Item) (w : W)
-    (f c : ℕ) (ks : List ℕ) (runs : List (List Item)) (worlds : List W)
-    → f ≤ c → c < length runs → f ≤ length ks → length worlds ≡ length runs
-    → w ≡ world_of rules opening b
-    → ((i : ℕ) → i < f → get_or ks i 0 ≡ beats (get_or runs i []))
-    → ((i : ℕ) → f ≤ i → i ≤ c → beats (get_or runs i []) ≤ beats b)
-    → ((i : ℕ) → f ≤ i → i ≤ c → get_or worlds i w ≡ w)
-    → drop (suc c) worlds ≡ drop (suc c) (map (world_of rules opening) runs)
-    → mixed f (world_to rules all (beats b) w) ks worlds
-    ≡ map (world_of rules opening) (rebuild all b (suc c) runs)
-unfolding mixed rebuild
-repaired-worlds rules opening all b w f c ks [] worlds order there long many own same low here
-    behind =
-    absurd (omega arith)
-repaired-worlds rules opening all b w f c ks (r ∷ rs) [] order there long many own same low here
-    behind =
-    absurd (omega arith)
-repaired-worlds {W} rules opening all b w zero zero ks (r ∷ rs) (v ∷ vs) order there long many own
-    same low here behind =
-    let first : v ≡ w = here 0 (omega arith) (omega arith) in
-    ap (λ (l : List W). v ∷ l) behind
-    ∙ ap (λ (u : W). u ∷ map (world_of rules opening) rs) (first ∙ own
-    ∙ ap (world_of rules opening)
-    (sym (rebuilt_level all r b (low 0 (omega arith) (omega arith)))))
-repaired-worlds rules opening all b w (suc f) zero ks (r ∷ rs) (v ∷ vs) order there long many own
-    same low here behind =
-    absurd (omega arith)
-repaired-worlds {W} rules opening all b w zero (suc c) ks (r ∷ rs) (v ∷ vs) order there long many
-    own same low here behind =
-    let first : v ≡ w = here 0 (omega arith) (omega arith) in
-    let rest =
-    repaired-worlds rules opening all b w zero c ks rs vs (omega arith) (omega arith) (omega arith)
-    (omega arith) own (λ i h. absurd (omega arith))
-    (λ i from upto. low (suc i) (omega arith) (omega arith))
-    (λ i from upto. here (suc i) (omega arith) (omega arith)) behind in
-    ap (λ (l : List W). v ∷ l) rest
-    ∙ ap (λ (u : W). u ∷ map (world_of rules opening) (rebuild all b (suc c) rs))
-    (first ∙ own
-    ∙ ap (world_of rules opening)
-    (sym (rebuilt_level all r b (low 0 (omega arith) (omega arith)))))
-repaired-worlds rules opening all b w (suc f) (suc c) [] (r ∷ rs) (v ∷ vs) order there long many own
-    same low here behind =
-    absurd (omega arith)
-repaired-worlds {W} rules opening all b w (suc f) (suc c) (k ∷ ks) (r ∷ rs) (v ∷ vs) order there
-    long many own same low here behind =
-    let clock : k ≡ beats r = same 0 (omega arith) in
-    let rest =
-    repaired-worlds rules opening all b w f c ks rs vs (omega arith) (omega arith) (omega arith)
-    (omega arith) own (λ i h. same (suc i) (omega arith))
-    (λ i from upto. low (suc i) (omega arith) (omega arith))
-    (λ i from upto. here (suc i) (omega arith) (omega arith)) behind in
-    let made : world_to rules all (beats b) w k ≡ world_of rules opening (rebuilt all r b) =
-    ap (λ (n : ℕ). world_of rules w (ordered all (beats b) n)) clock
-    ∙ ap (λ (u : W). world_of rules u (ordered all (beats b) (beats r))) own
-    ∙ sym (world_of-append rules opening b (ordered all (beats b) (beats r))) in
-    ap (λ (u : W). u ∷ mixed f (world_to rules all (beats b) w) ks vs) made
-    ∙ ap (λ (l : List W). world_of rules opening (rebuilt all r b) ∷ l) rest
 
 pub repaired-runs :
     (all : List Command) (items extra : List Item) (ends ks : List ℕ) (f c : ℕ) → f ≤ c

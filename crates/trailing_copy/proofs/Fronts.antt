@@ -20,8 +20,8 @@ use Rattle.sync_model.specs.Staggered.{IsTrailing}
 use Rattle.sync_model.proofs.Rebuilt.{step_front}
 use Rattle.sync_model.proofs.Trailing.{trailing-step, beats-step}
 use Rattle.executed_list.specs.Segments.{OneList, Falls, end_of, runs_at}
-use Rattle.trailing_copy.specs.Stack.{IsStack, AreWorlds}
-use Rattle.trailing_copy.proofs.Remade.{run-many, run-at, end-inside, worlds-whole}
+use Rattle.trailing_copy.specs.Stack.{IsStack, put_unless_stale}
+use Rattle.trailing_copy.proofs.Remade.{run-many, run-at, end-inside, put-length, put-kept}
 use Rattle.trailing_copy.proofs.Steps.{clock-read, new-run, behind-ahead}
 
 -- two tests that follow from each other are one
@@ -166,25 +166,23 @@ module _ {W : Type 0} {rules : Rules W} {opening : W} {ticks : ℕ} {all : List 
   passed-repaired = sym (step_front all (runs_at s.items s.ends) c h.trailing.chained front).1
 
   pub passed-kept :
-      (w : W) → stale ≡ 0
-      → w ≡ world_of rules opening (with_tick all (get_or (runs_at s.items s.ends) (suc c) []))
+      (w : W)
+      → (stale ≤ suc c
+      → w ≡ world_of rules opening (with_tick all (get_or (runs_at s.items s.ends) (suc c) [])))
       → IsStack rules opening ticks all spare
       (record s { ends = set s.ends (suc c) (end_of s.ends (suc c) + length (tick_of all t)) })
-      (set worlds (suc c) w) (set clocks (suc c) (t + 1)) stale
-  passed-kept w fresh at_w =
+      (put_unless_stale stale (suc c) w worlds) (set clocks (suc c) (t + 1)) stale
+  passed-kept w own =
       let room = behind-ahead (runs_at s.items s.ends) c behind in
       let runs = runs_at s.items s.ends in
       let q = with_tick all (get_or (runs_at s.items s.ends) (suc c) []) in
       let i = inside in
       let clock = clock-read h falls first (suc c) t inside at in
       let many = length-set s.ends (suc c) (end_of s.ends (suc c) + length (tick_of all t)) in
-      let worlds_many = length-set worlds (suc c) w in
+      let worlds_many = put-length stale (suc c) w worlds in
       let as_many = h.as_many_worlds in
       let few_stale = h.few_stale in
       let few = h.few_copies in
-      let value :
-      w ≡ world_of rules opening (with_tick all (get_or (runs_at s.items s.ends) (suc c) [])) =
-      at_w in
       let same_set :
       runs_at s.items (set s.ends (suc c) (end_of s.ends (suc c) + length (tick_of all t)))
       ≡ set (runs_at s.items s.ends) (suc c)
@@ -198,16 +196,10 @@ module _ {W : Type 0} {rules : Rules W} {opening : W} {ticks : ℕ} {all : List 
             ap (set clocks (suc c)) (ap (λ (k : ℕ). k + 1) clock)
             ∙ ap (λ (l : List ℕ). set l (suc c) (beats (get_or runs (suc c) []) + 1)) h.clocks_are
             ∙ sym (beats-step h.trailing (suc c) room) ∙ ap (map beats) (sym passed-runs);
-        worlds_are = subst (λ (n : ℕ). AreWorlds rules opening
-            (record s {
-              ends = set s.ends (suc c) (end_of s.ends (suc c) + length (tick_of all t));
-            })
-            n (set worlds (suc c) w)) (sym fresh)
-            (ap (set worlds (suc c)) value
-            ∙ ap (λ (l : List W). set l (suc c) (world_of rules opening q))
-            (worlds-whole h falls first fresh)
-            ∙ sym (map-set (world_of rules opening) runs (suc c) q)
-            ∙ ap (map (world_of rules opening)) (sym same_set));
+        worlds_are =
+            put-kept (world_of rules opening) stale (suc c) runs worlds q w own h.worlds_are
+            ∙ ap (λ (l : List (List Item)). map (world_of rules opening) (drop stale l))
+            (sym same_set);
         within = all-put (λ k. k ≤ ticks) clocks (suc c) (t + 1) h.within (omega arith);
         as_many_worlds = omega arith;
         few_stale = omega arith;

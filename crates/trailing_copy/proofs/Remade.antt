@@ -1,7 +1,8 @@
 -- What a change at one copy, and the repair of the copies ahead, leave of a stack.
 use Rattle.std.proofs.Common.{◌≡◌, refl, ◌∙◌, sym, ap, subst, ℕ, zero, suc, ◌+◌, ◌-◌, ◌≤◌, ◌<◌, true, List, [], ◌∷◌, ◌++◌, length, map, take, drop, get_or, set, replicate, arith, length-append, ⊎_elim, ltb}
-use Rattle.std.proofs.lemmas.Bool.{cases_lt}
-use Rattle.std.proofs.lemmas.List.{drop-set-lt, length-set, get_or-set_same, get_or-map, length-map, length-take-le}
+use Rattle.std.proofs.lemmas.Bool.{cases_lt, lt-ltb, le-ltb}
+use Rattle.std.specs.Prelude.{max}
+use Rattle.std.proofs.lemmas.List.{drop-set-lt, drop-set-add, map-set, length-set, get_or-set_same, get_or-map, length-map, length-take-le}
 use Rattle.std.specs.List.{AllByRecursion}
 use Rattle.game_trait.specs.declared.command.Command.{Command}
 use Rattle.game_trait.specs.declared.command.Item.{Item}
@@ -19,12 +20,12 @@ use Rattle.sync_model.specs.Repairs.{rebuild}
 use Rattle.sync_model.specs.Staggered.{IsTrailing}
 use Rattle.executed_list.specs.Segments.{OneList, Falls, StartsAtMost, end_of, filled, runs_at, run_grown}
 use Rattle.executed_list.proofs.Lists.{within, length-filled}
-use Rattle.trailing_copy.specs.Mixed.{mixed, grown_to, end_to, world_to}
-use Rattle.trailing_copy.specs.Stack.{IsStack, AreWorlds}
+use Rattle.trailing_copy.specs.Mixed.{mixed, grown_to, end_to}
+use Rattle.trailing_copy.specs.Stack.{IsStack, put_unless_stale}
 use Rattle.trailing_copy.proofs.Fresh.{from-later, from-at, left-worlds, put-worlds}
 use Rattle.trailing_copy.proofs.Lists.{filled-below, filled-at}
 use Rattle.trailing_copy.proofs.Ahead.{Given, falls-between, mixed-length}
-use Rattle.trailing_copy.proofs.Closing.{repaired-runs, repaired-worlds}
+use Rattle.trailing_copy.proofs.Closing.{repaired-runs}
 use Rattle.game_trait.proofs.Lists.{all-at}
 use Rattle.game_trait.proofs.Counts.{times-all, times-most}
 
@@ -98,11 +99,6 @@ module _ {W : Type 0} {rules : Rules W} {opening : W} {ticks : ℕ} {all : List 
       (let many = run-many in
       from-at (world_of rules opening) (runs_at s.items s.ends) worlds stale i d fresh (omega arith)
       h.worlds_are ∙ ap (world_of rules opening) (run-at i there))
-
-  -- where no world is still to be made, each is that of its run
-  pub worlds-whole : stale ≡ 0 → worlds ≡ map (world_of rules opening) (runs_at s.items s.ends)
-  worlds-whole fresh =
-      subst (λ (n : ℕ). AreWorlds rules opening s n worlds) fresh h.worlds_are
 
   pub clocks-fall : Falls clocks
   clocks-fall =
@@ -444,60 +440,56 @@ module _ {W : Type 0} {rules : Rules W} {opening : W} {ticks : ℕ} {all : List 
             ∙ ap (λ (l : List (List Item)). map (world_of rules opening) (drop n l))
             (sym change.target_is))
 
-        -- and where they are made with the list
-        module _ {put : List W} (fresh : stale ≡ 0)
-            (at_put : Put rules opening (take (end_of s.ends c) s.items ++ extra) f c worlds put)
-            (remade : List W)
-            (worlds_are :
-            (d : W)
-            → remade ≡ mixed f (world_to rules new (beats s3.items) (get_or put f d)) ks put)
-          where
-            worlds-remade : remade ≡ map (world_of rules opening) target
-            worlds-remade =
-                let there = change.there in
-                let order = change.order in
-                let many = h.as_many_worlds in
-                let runs_many = run-many h falls first in
-                let clocks_many = change.ks_many in
-                let put_many = at_put.len in
-                let b = take (end_of s.ends c) s.items ++ extra in
-                let w = world_of rules opening (take (end_of s.ends c) s.items ++ extra) in
-                worlds_are w
-                ∙ ap
-                (λ (l : List Item).
-                mixed f (world_to rules new (beats l) (get_or put f w)) ks put)
-                items-brought
-                ∙ ap (λ (v : W). mixed f (world_to rules new (beats b) v) ks put)
-                (at_put.here f w (omega arith) change.order)
-                ∙ repaired-worlds rules opening new b w f c ks (runs_at s.items s.ends) put
-                change.order (omega arith) (omega arith) (omega arith) refl
-                (λ i below. same-clocks i (omega arith)) level-clocks
-                (λ i from upto. at_put.here i w from upto)
-                (at_put.behind ∙ ap (drop (suc c)) (worlds-whole h falls first fresh))
-                ∙ ap (map (world_of rules opening)) (sym change.target_is)
-
-            pub kept-remade : IsStack rules opening ticks new left s4 remade ks stale
-            kept-remade =
-                let some = h.few_stale in
-                let there = change.there in
-                let many = h.as_many_worlds in
-                let put_many = at_put.len in
-                let w = world_of rules opening (take (end_of s.ends c) s.items ++ extra) in
-                let remade_many : length remade ≡ length put =
-                ap (λ (l : List W). length l) (worlds_are w)
-                ∙ mixed-length f (world_to rules new (beats s3.items) (get_or put f w)) ks put in
-                subst (IsStack rules opening ticks new left s4 remade ks) (sym fresh)
-                (kept-list 0 remade (omega arith) (omega arith) worlds-remade)
-
--- one world put in its place
+-- one world put in its place, unless it is still to be made
 pub put-one :
-    {W : Type 0} (rules : Rules W) (opening : W) (b : List Item) (c : ℕ) (worlds : List W) (w : W)
-    → c < length worlds → w ≡ world_of rules opening b
-    → Put rules opening b c c worlds (set worlds c w)
-put-one rules opening b c worlds w there own =
-    record {
+    {W : Type 0} (rules : Rules W) (opening : W) (b : List Item) (stale c : ℕ) (worlds : List W)
+    (w : W)
+    → c < length worlds → (stale ≤ c → w ≡ world_of rules opening b)
+    → Put rules opening b (max stale c) c worlds (put_unless_stale stale c w worlds)
+put-one rules opening b stale c worlds w there own =
+    ⊎_elim
+    (λ (to_make : c < stale). rw (lt-ltb c stale to_make) (record {
+      len = refl;
+      here = λ i d from upto. absurd (omega arith);
+      behind = refl;
+    }))
+    (λ (made : stale ≤ c). rw (le-ltb c stale made) (record {
       len = length-set worlds c w;
       here = λ i d from upto.
-          (let same : i ≡ c = omega arith in rw same (get_or-set_same worlds c w d there ∙ own));
+          (let same : i ≡ c = omega arith in
+          rw same (get_or-set_same worlds c w d there ∙ own made));
       behind = drop-set-lt (suc c) worlds c w (omega arith);
-    }
+    }))
+    (cases_lt c stale)
+
+pub put-length :
+    {W : Type 0} (stale c : ℕ) (w : W) (worlds : List W)
+    → length (put_unless_stale stale c w worlds) ≡ length worlds
+put-length stale c w worlds =
+    ⊎_elim
+    (λ (to_make : c < stale). rw (lt-ltb c stale to_make) refl)
+    (λ (made : stale ≤ c). rw (le-ltb c stale made) (length-set worlds c w))
+    (cases_lt c stale)
+
+-- where the world of a copy's new run is put so, the worlds from the same copy on are those of their
+-- runs
+pub put-kept :
+    {W : Type 0} (g : List Item → W) (stale c : ℕ) (runs : List (List Item)) (worlds : List W)
+    (q : List Item) (w : W)
+    → (stale ≤ c → w ≡ g q) → drop stale worlds ≡ map g (drop stale runs)
+    → drop stale (put_unless_stale stale c w worlds) ≡ map g (drop stale (set runs c q))
+put-kept {W} g stale c runs worlds q w own from =
+    ⊎_elim
+    (λ (to_make : c < stale). rw (lt-ltb c stale to_make)
+    (from ∙ ap (map g) (sym (drop-set-lt stale runs c q to_make))))
+    (λ (made : stale ≤ c).
+    (let e : stale + (c - stale) ≡ c = omega arith in
+    rw (le-ltb c stale made)
+    (ap (λ (k : ℕ). drop stale (set worlds k w)) (sym e)
+    ∙ drop-set-add stale worlds (c - stale) w
+    ∙ ap (set (drop stale worlds) (c - stale)) (own made)
+    ∙ ap (λ (l : List W). set l (c - stale) (g q)) from
+    ∙ sym (map-set g (drop stale runs) (c - stale) q)
+    ∙ ap (map g) (sym (drop-set-add stale runs (c - stale) q)
+    ∙ ap (λ (k : ℕ). drop stale (set runs k q)) e))))
+    (cases_lt c stale)

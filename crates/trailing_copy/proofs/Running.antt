@@ -14,7 +14,7 @@ use Rattle.game_trait.proofs.Runs.{beats-map_Cmd}
 use Rattle.sync_model.specs.Settle.{settle, begins_with, repaired}
 use Rattle.sync_model.specs.Change.{with_tick}
 use Rattle.executed_list.specs.Segments.{OneList, Falls, end_of, runs_at}
-use Rattle.trailing_copy.specs.Stack.{IsStack}
+use Rattle.trailing_copy.specs.Stack.{IsStack, put_unless_stale}
 use Rattle.trailing_copy.proofs.Remade.{run-many, run-at, end-inside}
 use Rattle.trailing_copy.proofs.Steps.{new-run}
 use Rattle.trailing_copy.proofs.Fronts.{front-same, pass-fits, passed-runs, passed-repaired}
@@ -101,18 +101,19 @@ module _ {W : Type 0} {rules : Rules W} {opening : W} {ticks : ℕ} {all : List 
         ))
 
     pub front-kept :
-        (c : ℕ) (w : W) → stale ≡ 0 → 0 < c → c < length (runs_at s.items s.ends)
+        (c : ℕ) (w : W) → 0 < c → c < length (runs_at s.items s.ends)
         → t ≡ get_or clocks c t
         → beats (get_or (runs_at s.items s.ends) c []) < ticks
         → beats (get_or (runs_at s.items s.ends) c [])
         < beats (get_or (runs_at s.items s.ends) (c - 1) [])
         → begins_with (get_or (runs_at s.items s.ends) (c - 1) [])
         (with_tick all (get_or (runs_at s.items s.ends) c [])) ≡ true
-        → w ≡ world_of rules opening (with_tick all (get_or (runs_at s.items s.ends) c []))
+        → (stale ≤ c
+        → w ≡ world_of rules opening (with_tick all (get_or (runs_at s.items s.ends) c [])))
         → IsStack rules opening ticks all spare
         (record s { ends = set s.ends c (end_of s.ends c + length (tick_of all t)) })
-        (set worlds c w) (set clocks c (t + 1)) stale
-    front-kept zero w fresh some there at below behind front at_w = absurd (omega arith)
-    front-kept (suc c) w fresh some there at below behind front at_w =
+        (put_unless_stale stale c w worlds) (set clocks c (t + 1)) stale
+    front-kept zero w some there at below behind front own = absurd (omega arith)
+    front-kept (suc c) w some there at below behind front own =
         (let e : suc c - 1 ≡ c = omega arith in
-        passed-kept h falls first c t there at below (rw e at behind) (rw e at front) w fresh at_w)
+        passed-kept h falls first c t there at below (rw e at behind) (rw e at front) w own)

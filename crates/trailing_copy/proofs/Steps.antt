@@ -19,7 +19,8 @@ use Rattle.sync_model.proofs.Rebuilt.{rebuilt_level}
 use Rattle.sync_model.proofs.Trailing.{trailing-step, beats-step}
 use Rattle.executed_list.specs.Segments.{OneList, Falls, end_of, runs_at}
 use Rattle.executed_list.proofs.Lists.{get-any, falls-set, falls-push}
-use Rattle.trailing_copy.specs.Stack.{CopyState, IsStack}
+use Rattle.trailing_copy.specs.Stack.{CopyState, IsStack, put_unless_stale}
+use Rattle.std.specs.Prelude.{max}
 use Rattle.std.proofs.lemmas.List.{length-set, get_or-set_same, get_or-set_other}
 use Rattle.sync_model.proofs.Lists.{all-put}
 use Rattle.trailing_copy.proofs.Remade.{Change, Put, put-one, run-many, clock-many, clock-at, run-at, world-at, clocks-fall}
@@ -172,12 +173,12 @@ module _ {W : Type 0} {rules : Rules W} {opening : W} {ticks : ℕ} {all : List 
       }
 
   -- the world of a copy that ran its due tick
-  pub ticked-world :
-      (c t : ℕ) (v w : W) → stale ≤ c → c < length s.ends → v ≡ get_or worlds c v
-      → w ≡ world_of rules v (tick_of all t)
-      → w ≡ world_of rules opening (take (end_of s.ends c) s.items ++ tick_of all t)
-  ticked-world c t v w fresh there at ran =
-      ran ∙ ap (λ (u : W). world_of rules u (tick_of all t)) (at ∙ world-at h falls first c v fresh there)
+  pub ran-at :
+      (c t : ℕ) (d : W) → c < length s.ends → stale ≤ c
+      → world_of rules (get_or worlds c d) (tick_of all t)
+      ≡ world_of rules opening (take (end_of s.ends c) s.items ++ tick_of all t)
+  ran-at c t d there made =
+      ap (λ (w : W). world_of rules w (tick_of all t)) (world-at h falls first c d made there)
       ∙ sym (world_of-append rules opening (take (end_of s.ends c) s.items) (tick_of all t))
 
   -- or of one that another ran
@@ -193,14 +194,16 @@ module _ {W : Type 0} {rules : Rules W} {opening : W} {ticks : ℕ} {all : List 
       → w ≡ world_of rules opening (with_tick all (get_or (runs_at s.items s.ends) c []))
   own-world c t w there at own = own ∙ ap (world_of rules opening) (sym (new-run c t there at))
 
+  -- and put in its place, unless it is still to be made
   pub apart-put :
       (c t : ℕ) (w : W) → c < length s.ends
-      → w ≡ world_of rules opening (take (end_of s.ends c) s.items ++ tick_of all t)
-      → Put rules opening (take (end_of s.ends c) s.items ++ tick_of all t) c c worlds
-      (set worlds c w)
+      → (stale ≤ c
+      → w ≡ world_of rules opening (take (end_of s.ends c) s.items ++ tick_of all t))
+      → Put rules opening (take (end_of s.ends c) s.items ++ tick_of all t) (max stale c) c worlds
+      (put_unless_stale stale c w worlds)
   apart-put c t w there own =
       (let many = h.as_many_worlds in
-      put-one rules opening (take (end_of s.ends c) s.items ++ tick_of all t) c worlds w
+      put-one rules opening (take (end_of s.ends c) s.items ++ tick_of all t) stale c worlds w
       (omega arith) own)
 
   pub apart-repaired :

@@ -1,5 +1,6 @@
 -- What contracts see of the copies of a mirror, and how they are kept.
-use Rattle.std.specs.Prelude.{◌≡◌, ℕ, ◌+◌, ◌<◌, ◌≤◌, List, map, drop, length}
+use Rattle.std.specs.Prelude.{◌≡◌, ℕ, ◌+◌, ◌<◌, ◌≤◌, nat_lt, if◌then◌else◌, List, map, drop, length}
+use Rattle.std.specs.Prelude.{slice_set}
 use Rattle.std.specs.List.{AllByRecursion}
 use Rattle.game_trait.specs.declared.limits.TheConstants.{LONGEST_MATCH, MOST_COPIES}
 use Rattle.game_trait.specs.declared.command.Command.{Command}
@@ -24,6 +25,10 @@ pub record CopyState (W : Type 0) : Type 0 where
 abbrev pub AreWorlds : {W : Type 0} → Rules W → W → OneList → ℕ → List W → Type 0
 AreWorlds rules opening s n worlds =
     drop n worlds ≡ map (world_of rules opening) (drop n (runs_at s.items s.ends))
+
+-- a world put in its copy's place, unless that is one of the first so many, which are still to be made
+abbrev pub put_unless_stale : {W : Type 0} → ℕ → ℕ → W → List W → List W
+put_unless_stale stale c w worlds = if nat_lt c stale then worlds else slice_set worlds c w
 
 -- how the fields belong together: the runs are chained, complete, in order at the last copy and
 -- never early; each clock is that of its run; there is a world for each copy, which is the world of

@@ -2,11 +2,11 @@
 //! of runs, of the accepted commands and of what both are used for, and on `sync_model`.
 #![tactic(auto)]
 
-mod appends;
 mod clocks;
 mod due;
 mod repairs;
 mod stack;
+mod ticks;
 mod worlds;
 
 pub use stack::CopyStack;

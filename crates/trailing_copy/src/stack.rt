@@ -13,28 +13,28 @@ ghost use Rattle.sync_model.specs.Change.{with_tick, proposed_by_arrival, propos
 ghost use Rattle.sync_model.specs.State.{copy_clock, last_clock};
 ghost use Rattle.sync_model.specs.Repairs.{is_late_at, IsLastLate};
 
-use crate::appends::append_ahead;
 use crate::clocks::count_above;
 use crate::due::due_of;
-use crate::repairs::{apply_to_each, bring_up, repair_ahead};
-use crate::worlds::make_worlds;
+use crate::repairs::{append_ahead, bring_up};
+use crate::ticks::{execute_at, put_at, replay_at};
+use crate::worlds::{apply_to_each, make_worlds};
 use arrayvec::ArrayVec;
 use divergence_check::diverges;
 use executed_list::Segments;
 use game_trait::{Command, Game, Item, Tick};
 use pending_list::Buckets;
-use repair_copy::{append_tick, execute_tick, replay, tick_len};
+use repair_copy::{append_tick, tick_len};
 use std::alloc::Global;
 use std::marker::Model;
 use tss_io::NoMemory;
 
 /// The copies of a mirror, each with its run and its live world: the trailing states of the paper
 /// of 2002, which execute a late command on arrival and are compared and repaired tick by tick
-/// (this project's own). All runs are kept as one list. The runs that an arrival repairs are made
-/// anew at once, and their worlds by `refresh`, once for all the arrivals before it. Contracts see
-/// the opening world, the match's length in ticks, the accepted commands in order of acceptance,
-/// the runs from copy 0 on, for how many more commands there is room, and how many copies, from
-/// copy 0 on, have worlds that are still to be made. Only `new` takes memory.
+/// (this project's own). All runs are kept as one list. The runs that an arrival or a step repairs
+/// are made anew at once, and their worlds by `refresh`, once for all that came before it. Contracts
+/// see the opening world, the match's length in ticks, the accepted commands in order of acceptance,
+/// the runs from copy 0 on, for how many more commands there is room, and how many copies, from copy
+/// 0 on, have worlds that are still to be made. Only `new` takes memory.
 #[derive(Drop)]
 pub struct CopyStack<G: Game> {
     opening: G,
@@ -104,10 +104,9 @@ impl<G: Game> CopyStack<G> {
         })
     }
 
-    // A tick of copy 0, or of a copy whose new run the copy ahead doesn't begin with. The copies
-    // ahead are repaired.
+    // A tick of copy 0, or of a copy whose new run the copy ahead doesn't begin with. The runs of the
+    // copies ahead are made anew, and their worlds left to be made.
     fn tick_apart(&mut self, copy: u8)
-        requires fresh { self.old.stale ≡ 0 }
         requires copy { copy < length self.old.runs }
         requires below { copy_clock self.old.runs copy < self.old.ticks }
         requires behind { 0 < copy
@@ -119,31 +118,33 @@ impl<G: Game> CopyStack<G> {
             ≡ record self.old {
               runs =
                   settle self.old.accepted (proposed_by_step self.old.accepted self.old.runs copy);
+              stale = max self.old.stale copy;
             } }
         ensures repaired { copy
             ≡ repaired self.old.accepted (proposed_by_step self.old.accepted self.old.runs copy) }
     {
         let c = copy as usize;
         let t = self.clocks[c];
-        let next = t + 1;
         let _ = self.run.len();
         self.run.cut(copy);
         let from = self.run.len();
-        replay(&mut self.worlds[c], &self.list, t, next, &mut self.run);
-        bring_up(&mut self.run, copy, from);
-        self.clocks[c] = next;
-        repair_ahead(
+        replay_at(
             &mut self.worlds,
-            &mut self.run,
-            &self.list,
-            &self.clocks,
+            self.stale,
             copy,
+            &self.list,
+            t,
+            &mut self.run,
         );
+        bring_up(&mut self.run, copy, from);
+        self.clocks[c] = t + 1;
+        append_ahead(&mut self.run, &self.list, &self.clocks, copy);
+        let stale = self.stale.max(copy);
+        self.stale = stale;
     }
 
     // The same of a tick that another executed, and whose world it hands over.
     fn commit_apart(&mut self, copy: u8, world: &G)
-        requires fresh { self.old.stale ≡ 0 }
         requires copy { copy < length self.old.runs }
         requires below { copy_clock self.old.runs copy < self.old.ticks }
         requires behind { 0 < copy
@@ -158,32 +159,27 @@ impl<G: Game> CopyStack<G> {
             ≡ record self.old {
               runs =
                   settle self.old.accepted (proposed_by_step self.old.accepted self.old.runs copy);
+              stale = max self.old.stale copy;
             } }
         ensures repaired { copy
             ≡ repaired self.old.accepted (proposed_by_step self.old.accepted self.old.runs copy) }
     {
         let c = copy as usize;
         let t = self.clocks[c];
-        let next = t + 1;
         let _ = self.run.len();
         self.run.cut(copy);
         let from = self.run.len();
-        self.worlds[c].set_from(world);
         append_tick(&self.list, t, &mut self.run);
+        put_at(&mut self.worlds, self.stale, copy, world);
         bring_up(&mut self.run, copy, from);
-        self.clocks[c] = next;
-        repair_ahead(
-            &mut self.worlds,
-            &mut self.run,
-            &self.list,
-            &self.clocks,
-            copy,
-        );
+        self.clocks[c] = t + 1;
+        append_ahead(&mut self.run, &self.list, &self.clocks, copy);
+        let stale = self.stale.max(copy);
+        self.stale = stale;
     }
 
     // A tick of a copy whose new run the copy ahead begins with.
     fn tick_front(&mut self, copy: u8)
-        requires fresh { self.old.stale ≡ 0 }
         requires copy { (0 < copy) × (copy < length self.old.runs) }
         requires below { copy_clock self.old.runs copy < self.old.ticks }
         requires behind { copy_clock self.old.runs copy < copy_clock self.old.runs (copy - 1) }
@@ -199,16 +195,14 @@ impl<G: Game> CopyStack<G> {
     {
         let c = copy as usize;
         let t = self.clocks[c];
-        let next = t + 1;
         let _ = self.run.len();
-        let by = execute_tick(&mut self.worlds[c], &self.list, t);
+        let by = execute_at(&mut self.worlds, self.stale, copy, &self.list, t);
         self.run.pass(copy, by);
-        self.clocks[c] = next;
+        self.clocks[c] = t + 1;
     }
 
     // The same of a tick that another executed, and whose world it hands over.
     fn commit_front(&mut self, copy: u8, world: &G)
-        requires fresh { self.old.stale ≡ 0 }
         requires copy { (0 < copy) × (copy < length self.old.runs) }
         requires below { copy_clock self.old.runs copy < self.old.ticks }
         requires behind { copy_clock self.old.runs copy < copy_clock self.old.runs (copy - 1) }
@@ -227,12 +221,11 @@ impl<G: Game> CopyStack<G> {
     {
         let c = copy as usize;
         let t = self.clocks[c];
-        let next = t + 1;
         let _ = self.run.len();
         let by = tick_len(&self.list, t);
-        self.worlds[c].set_from(world);
+        put_at(&mut self.worlds, self.stale, copy, world);
         self.run.pass(copy, by);
-        self.clocks[c] = next;
+        self.clocks[c] = t + 1;
     }
 
     // Whether the run ahead begins with the copy's run and its due tick.
@@ -251,10 +244,10 @@ impl<G: Game> CopyStack<G> {
 
     /// Runs the due tick of a copy, which is there, below the match's end and behind the copy
     /// ahead, and compares it with the run ahead: where that doesn't begin with the new run, the
-    /// copies ahead are repaired. Answers how many were repaired. Where none is, it costs the tick
-    /// alone.
+    /// copies ahead are repaired, their runs at once and their worlds by `refresh`. Answers how many
+    /// were repaired. The copy's world executes the tick, but where it is still to be made. Where no
+    /// copy is repaired, it costs the tick alone.
     pub fn run_tick(&mut self, copy: u8) -> u8
-        requires fresh { self.old.stale ≡ 0 }
         requires there { copy < length self.old.runs }
         requires below { copy_clock self.old.runs copy < self.old.ticks }
         requires behind { 0 < copy
@@ -263,6 +256,7 @@ impl<G: Game> CopyStack<G> {
             ≡ record self.old {
               runs =
                   settle self.old.accepted (proposed_by_step self.old.accepted self.old.runs copy);
+              stale = max self.old.stale result;
             } }
         ensures repaired { result
             ≡ repaired self.old.accepted (proposed_by_step self.old.accepted self.old.runs copy) }
@@ -279,10 +273,10 @@ impl<G: Game> CopyStack<G> {
         copy
     }
 
-    /// Does what `run_tick` does, with the copy's world after its due tick given, which isn't
-    /// executed again.
+    /// Does what `run_tick` does, with the copy's world after its due tick given: the tick isn't
+    /// executed again, and the copy's world is made equal to this one, but where it is still to be
+    /// made.
     pub fn commit_tick(&mut self, copy: u8, world: &G) -> u8
-        requires fresh { self.old.stale ≡ 0 }
         requires there { copy < length self.old.runs }
         requires below { copy_clock self.old.runs copy < self.old.ticks }
         requires behind { 0 < copy
@@ -294,6 +288,7 @@ impl<G: Game> CopyStack<G> {
             ≡ record self.old {
               runs =
                   settle self.old.accepted (proposed_by_step self.old.accepted self.old.runs copy);
+              stale = max self.old.stale result;
             } }
         ensures repaired { result
             ≡ repaired self.old.accepted (proposed_by_step self.old.accepted self.old.runs copy) }

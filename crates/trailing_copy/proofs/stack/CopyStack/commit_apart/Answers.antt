@@ -1,7 +1,6 @@
-use Rattle.std.proofs.Common.{◌∙◌, sym}
-use Rattle.trailing_copy.proofs.Steps.{apart-change, apart-put, apart-repaired, handed-world}
-use Rattle.trailing_copy.proofs.Steps.{same-state}
-use Rattle.trailing_copy.proofs.Remade.{room-before, ends-at, given, runs-remade, kept-remade}
+use Rattle.std.proofs.Common.{◌∙◌, sym, arith}
+use Rattle.trailing_copy.proofs.Steps.{apart-change, apart-put, apart-repaired, handed-world, same-state}
+use Rattle.trailing_copy.proofs.Remade.{room-before, ends-at, given, runs-remade, kept-stale}
 use Rattle.trailing_copy.proofs.stack.CopyStack.commit_apart.Goals as goal
 
 pub append_tick-requires : goal.append_tick-requires
@@ -20,42 +19,38 @@ bring_up-requires-clause-at g c =
     apart-change c.self.invariant c.len.ensures.falls c.len.ensures.first c.args.copy
     c.index-t.result.now there c.index-t.ensures (rw (← c.self.view_is) at c.requires.below)
     (rw (← c.self.view_is) at c.requires.behind) (rw (← c.self.view_is) at c.requires.apart) in
-    let grown = c.append_tick.ensures in
     λ j some upto. ends-at c.self.invariant c.len.ensures.falls c.len.ensures.first change
-    c.cut.ensures grown j some upto ∙ sym c.len-from.ensures.len
+    c.cut.ensures c.append_tick.ensures j some upto ∙ sym c.len-from.ensures.len
 
-pub repair_ahead-requires-clause-clock : goal.repair_ahead-requires-clause-clock
-repair_ahead-requires-clause-clock g c =
+pub append_ahead-requires-clause-clock : goal.append_ahead-requires-clause-clock
+append_ahead-requires-clause-clock g c =
     let there = rw (← c.self.view_is) at c.requires.copy in
     let change =
     apart-change c.self.invariant c.len.ensures.falls c.len.ensures.first c.args.copy
     c.index-t.result.now there c.index-t.ensures (rw (← c.self.view_is) at c.requires.below)
     (rw (← c.self.view_is) at c.requires.behind) (rw (← c.self.view_is) at c.requires.apart) in
-    let grown = c.append_tick.ensures in
     rw c.deref.ensures.value (given c.self.invariant c.len.ensures.falls c.len.ensures.first change
-    c.cut.ensures grown c.bring_up.ensures).clock
+    c.cut.ensures c.append_tick.ensures c.bring_up.ensures).clock
 
-pub repair_ahead-requires-clause-falls : goal.repair_ahead-requires-clause-falls
-repair_ahead-requires-clause-falls g c =
+pub append_ahead-requires-clause-falls : goal.append_ahead-requires-clause-falls
+append_ahead-requires-clause-falls g c =
     let there = rw (← c.self.view_is) at c.requires.copy in
     let change =
     apart-change c.self.invariant c.len.ensures.falls c.len.ensures.first c.args.copy
     c.index-t.result.now there c.index-t.ensures (rw (← c.self.view_is) at c.requires.below)
     (rw (← c.self.view_is) at c.requires.behind) (rw (← c.self.view_is) at c.requires.apart) in
-    let grown = c.append_tick.ensures in
     rw c.deref.ensures.value (given c.self.invariant c.len.ensures.falls c.len.ensures.first change
-    c.cut.ensures grown c.bring_up.ensures).falls
+    c.cut.ensures c.append_tick.ensures c.bring_up.ensures).falls
 
-pub repair_ahead-requires-clause-room : goal.repair_ahead-requires-clause-room
-repair_ahead-requires-clause-room g c =
+pub append_ahead-requires-clause-room : goal.append_ahead-requires-clause-room
+append_ahead-requires-clause-room g c =
     let there = rw (← c.self.view_is) at c.requires.copy in
     let change =
     apart-change c.self.invariant c.len.ensures.falls c.len.ensures.first c.args.copy
     c.index-t.result.now there c.index-t.ensures (rw (← c.self.view_is) at c.requires.below)
     (rw (← c.self.view_is) at c.requires.behind) (rw (← c.self.view_is) at c.requires.apart) in
-    let grown = c.append_tick.ensures in
     rw c.deref.ensures.value (given c.self.invariant c.len.ensures.falls c.len.ensures.first change
-    c.cut.ensures grown c.bring_up.ensures).room
+    c.cut.ensures c.append_tick.ensures c.bring_up.ensures).room
 
 pub invariant_of-self : goal.invariant_of-self
 invariant_of-self g c =
@@ -64,21 +59,20 @@ invariant_of-self g c =
     apart-change c.self.invariant c.len.ensures.falls c.len.ensures.first c.args.copy
     c.index-t.result.now there c.index-t.ensures (rw (← c.self.view_is) at c.requires.below)
     (rw (← c.self.view_is) at c.requires.behind) (rw (← c.self.view_is) at c.requires.apart) in
-    let grown = c.append_tick.ensures in
-    let own =
-    handed-world c.self.invariant c.len.ensures.falls c.len.ensures.first c.args.copy
-    c.index-t.result.now c.set_from.new.self change.there c.index-t.ensures
-    (c.set_from.ensures ∙ (rw (← c.self.view_is) at c.requires.world)) in
+    let inside = change.there in
+    let few = c.self.invariant.few_stale in
     let put =
     apart-put c.self.invariant c.len.ensures.falls c.len.ensures.first c.args.copy
-    c.index-t.result.now c.set_from.new.self change.there own in
-    kept-remade c.self.invariant c.len.ensures.falls c.len.ensures.first change c.cut.ensures grown
-    c.bring_up.ensures c.repair_ahead.new.run
-    (rw c.deref.ensures.value at c.repair_ahead.ensures.items)
-    (rw c.deref.ensures.value at c.repair_ahead.ensures.ends)
-    c.repair_ahead.ensures.spare (rw (← c.self.view_is) at c.requires.fresh) put
-    c.repair_ahead.new.worlds.items
-    (rw c.deref.ensures.value at c.repair_ahead.ensures.worlds)
+    c.index-t.result.now c.args.world.now change.there
+    (λ made. handed-world c.self.invariant c.len.ensures.falls c.len.ensures.first c.args.copy
+    c.index-t.result.now c.args.world.now change.there c.index-t.ensures
+    (rw (← c.self.view_is) at c.requires.world)) in
+    rw (c.put_at.ensures, c.max-stale.ensures)
+    (kept-stale c.self.invariant c.len.ensures.falls c.len.ensures.first change c.cut.ensures
+    c.append_tick.ensures c.bring_up.ensures c.append_ahead.new.run
+    (rw c.deref.ensures.value at c.append_ahead.ensures.items)
+    (rw c.deref.ensures.value at c.append_ahead.ensures.ends)
+    c.append_ahead.ensures.spare _ (omega arith) (omega arith) (omega arith) put)
 
 pub returns-clause-runs : goal.returns-clause-runs
 returns-clause-runs g c =
@@ -87,12 +81,12 @@ returns-clause-runs g c =
     apart-change c.self.invariant c.len.ensures.falls c.len.ensures.first c.args.copy
     c.index-t.result.now there c.index-t.ensures (rw (← c.self.view_is) at c.requires.below)
     (rw (← c.self.view_is) at c.requires.behind) (rw (← c.self.view_is) at c.requires.apart) in
-    let grown = c.append_tick.ensures in
-    rw (← c.self.view_is) (same-state _ _ _ _ _ _ _ (runs-remade c.self.invariant c.len.ensures.falls
-    c.len.ensures.first change c.cut.ensures grown c.bring_up.ensures c.repair_ahead.new.run
-    (rw c.deref.ensures.value at c.repair_ahead.ensures.items)
-    (rw c.deref.ensures.value at c.repair_ahead.ensures.ends)
-    c.repair_ahead.ensures.spare))
+    rw (← c.self.view_is, c.max-stale.ensures) (same-state _ _ _ _ _ _ _
+    (runs-remade c.self.invariant c.len.ensures.falls c.len.ensures.first change c.cut.ensures
+    c.append_tick.ensures c.bring_up.ensures c.append_ahead.new.run
+    (rw c.deref.ensures.value at c.append_ahead.ensures.items)
+    (rw c.deref.ensures.value at c.append_ahead.ensures.ends)
+    c.append_ahead.ensures.spare))
 
 pub returns-clause-repaired : goal.returns-clause-repaired
 returns-clause-repaired g c =

@@ -32,14 +32,12 @@ tick_len-by-requires-clause-few g c =
 pub invariant_of-self : goal.invariant_of-self
 invariant_of-self g c =
     let there = rw (← c.self.view_is) at c.requires.copy in
-    let many = run-many c.self.invariant c.len.ensures.falls c.len.ensures.first in
-    let inside = there.1 in
-    rw (c.pass.ensures, c.tick_len-by.ensures)
+    rw (c.pass.ensures, c.tick_len-by.ensures, c.put_at.ensures)
     (front-kept c.self.invariant c.len.ensures.falls c.len.ensures.first c.index-t.result.now
-    c.args.copy c.set_from.new.self (rw (← c.self.view_is) at c.requires.fresh) there.0 there.1 c.index-t.ensures
+    c.args.copy c.args.world.now there.0 there.1 c.index-t.ensures
     (rw (← c.self.view_is) at c.requires.below) (rw (← c.self.view_is) at c.requires.behind)
     (rw (← c.self.view_is) at c.requires.front)
-    (c.set_from.ensures ∙ (rw (← c.self.view_is) at c.requires.world)))
+    (λ made. rw (← c.self.view_is) at c.requires.world))
 
 pub returns-clause-runs : goal.returns-clause-runs
 returns-clause-runs g c =

@@ -1,5 +1,5 @@
 use Rattle.std.proofs.Common.{arith, ◌-◌}
-use Rattle.trailing_copy.proofs.Steps.{same-state, ticked-world, own-world}
+use Rattle.trailing_copy.proofs.Steps.{same-state, ran-at, own-world}
 use Rattle.trailing_copy.proofs.Remade.{run-many, end-inside}
 use Rattle.trailing_copy.proofs.Running.{front-fits, front-runs, front-kept}
 use Rattle.trailing_copy.proofs.stack.CopyStack.tick_front.Goals as goal
@@ -7,13 +7,13 @@ use Rattle.trailing_copy.proofs.stack.CopyStack.tick_front.Goals as goal
 pub pass-requires-clause-upto : goal.pass-requires-clause-upto
 pass-requires-clause-upto g c =
     let there = rw (← c.self.view_is) at c.requires.copy in
-    rw c.execute_tick-by.ensures.count (front-fits c.self.invariant c.len.ensures.falls
+    rw c.execute_at-by.ensures.count (front-fits c.self.invariant c.len.ensures.falls
     c.len.ensures.first c.index-t.result.now c.args.copy there.0 there.1 c.index-t.ensures
     (rw (← c.self.view_is) at c.requires.below) (rw (← c.self.view_is) at c.requires.behind)
     (rw (← c.self.view_is) at c.requires.front))
 
-pub execute_tick-by-requires : goal.execute_tick-by-requires
-execute_tick-by-requires g c =
+pub execute_at-by-requires-clause-few : goal.execute_at-by-requires-clause-few
+execute_at-by-requires-clause-few g c =
     let there = rw (← c.self.view_is) at c.requires.copy in
     let fits =
     front-fits c.self.invariant c.len.ensures.falls c.len.ensures.first c.index-t.result.now
@@ -34,23 +34,21 @@ invariant_of-self g c =
     let there = rw (← c.self.view_is) at c.requires.copy in
     let many = run-many c.self.invariant c.len.ensures.falls c.len.ensures.first in
     let inside = there.1 in
-    let fresh = rw (← c.self.view_is) at c.requires.fresh in
-    rw (c.pass.ensures, c.execute_tick-by.ensures.count)
+    let d = c.self.inside.opening in
+    rw (c.pass.ensures, c.execute_at-by.ensures.count, c.execute_at-by.ensures.worlds d)
     (front-kept c.self.invariant c.len.ensures.falls c.len.ensures.first c.index-t.result.now
-    c.args.copy c.execute_tick-by.new.world (rw (← c.self.view_is) at c.requires.fresh) there.0 there.1 c.index-t.ensures
+    c.args.copy _ there.0 there.1 c.index-t.ensures
     (rw (← c.self.view_is) at c.requires.below) (rw (← c.self.view_is) at c.requires.behind)
     (rw (← c.self.view_is) at c.requires.front)
-    (own-world c.self.invariant c.len.ensures.falls c.len.ensures.first c.args.copy
-    c.index-t.result.now c.execute_tick-by.new.world (omega arith) c.index-t.ensures
-    (ticked-world c.self.invariant c.len.ensures.falls c.len.ensures.first c.args.copy
-    c.index-t.result.now c.index_mut.result.now c.execute_tick-by.new.world (omega arith)
-    (omega arith)
-    c.index_mut.ensures.value c.execute_tick-by.ensures.world)))
+    (λ made. own-world c.self.invariant c.len.ensures.falls c.len.ensures.first c.args.copy
+    c.index-t.result.now _ (omega arith) c.index-t.ensures
+    (ran-at c.self.invariant c.len.ensures.falls c.len.ensures.first c.args.copy
+    c.index-t.result.now d (omega arith) made)))
 
 pub returns-clause-runs : goal.returns-clause-runs
 returns-clause-runs g c =
     let there = rw (← c.self.view_is) at c.requires.copy in
-    rw (← c.self.view_is, c.pass.ensures, c.execute_tick-by.ensures.count)
+    rw (← c.self.view_is, c.pass.ensures, c.execute_at-by.ensures.count)
     (same-state _ _ _ _ _ _ _ (front-runs c.self.invariant c.len.ensures.falls c.len.ensures.first
     c.index-t.result.now c.args.copy there.0 there.1 c.index-t.ensures
     (rw (← c.self.view_is) at c.requires.below) (rw (← c.self.view_is) at c.requires.behind)

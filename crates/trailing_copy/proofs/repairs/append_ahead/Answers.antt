@@ -2,7 +2,7 @@ use Rattle.std.proofs.Common.{◌-◌, subst, arith, ℕ}
 use Rattle.trailing_copy.proofs.Ahead.{SoFar, Given, start, clocks-fall, room-for, grown-length}
 use Rattle.trailing_copy.proofs.Ahead.{more}
 use Rattle.trailing_copy.proofs.Lists.{one-more}
-use Rattle.trailing_copy.proofs.appends.append_ahead.Goals as goal
+use Rattle.trailing_copy.proofs.repairs.append_ahead.Goals as goal
 
 pub loop-c-init : goal.loop-c-init
 loop-c-init c =

@@ -1,6 +1,6 @@
 use Rattle.std.proofs.Common.{◌∙◌, sym, arith}
 use Rattle.trailing_copy.proofs.Lists.{copied-down}
-use Rattle.trailing_copy.proofs.repairs.copy_down.Goals as goal
+use Rattle.trailing_copy.proofs.worlds.copy_down.Goals as goal
 
 pub returns-clause-worlds : goal.returns-clause-worlds
 returns-clause-worlds g c =

@@ -1,6 +1,6 @@
 use Rattle.std.proofs.Common.{arith}
 use Rattle.trailing_copy.proofs.Arriving.{applied-none, applied-more}
-use Rattle.trailing_copy.proofs.repairs.apply_to_each.Goals as goal
+use Rattle.trailing_copy.proofs.worlds.apply_to_each.Goals as goal
 
 pub loop-c-init : goal.loop-c-init
 loop-c-init g c = applied-none g.G.Game.rules c.args.x.now c.args.first c.args.worlds.now.items
