@@ -6,4 +6,4 @@ mod Renewed
 mod Kept
 mod Opened
 mod Calls
-mod InRow
+mod Along

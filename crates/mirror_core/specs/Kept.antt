@@ -52,9 +52,8 @@ pub record IsKept {W : Type 0} (s : MirrorState W) (plans : List Schedule) (is_t
   pub epochs : AreEpochs s numbers
   pub room_left : HasRoomLeft s room
 
--- the same, and no world of its copies is still to be made
-pub record IsWhole {W : Type 0} (s : MirrorState W) (plans : List Schedule)
-    (is_taken : ℕ × ℕ → Bool) (repaired : ℕ) (numbers : List ℕ) (room : Room) (stale : ℕ) :
-    Type 0 where
-  pub kept : IsKept s plans is_taken repaired numbers room
-  pub fresh : stale ≡ 0
+-- a mirror whose copies' worlds may still be to be made: its state, and how many copies, from copy
+-- 0 on, have such worlds
+pub record LazyState (W : Type 0) : Type 0 where
+  pub state : MirrorState W
+  pub stale : ℕ

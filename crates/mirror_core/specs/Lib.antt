@@ -1,4 +1,3 @@
 pub mod Epochs
 pub mod Kept
 pub mod Drafts
-pub mod Rows

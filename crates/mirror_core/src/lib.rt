@@ -4,10 +4,10 @@
 
 mod drafts;
 mod epochs;
+mod lazy;
 mod lists;
 mod mirror;
 mod plans;
-mod rows;
 
 pub use drafts::{Committed, Draft, Drafted, MOST_DRAFTED, Ready};
 pub use mirror::Mirror;

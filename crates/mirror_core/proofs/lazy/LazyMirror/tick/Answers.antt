@@ -3,7 +3,7 @@ use Rattle.sync_model.specs.Schedule.{is_at_end}
 use Rattle.mirror_core.proofs.Answered.{tick_over, tick_moved}
 use Rattle.mirror_core.proofs.Calls.{clock-fits, note-moved}
 use Rattle.mirror_core.proofs.Kept.{kept_moved}
-use Rattle.mirror_core.proofs.mirror.Mirror.tick.Goals as goal
+use Rattle.mirror_core.proofs.lazy.LazyMirror.tick.Goals as goal
 
 pub returns-then-at_end-clause-state : goal.returns-then-at_end-clause-state
 returns-then-at_end-clause-state g c =
@@ -18,13 +18,13 @@ returns-then-at_end-clause-answer g c =
     rw (← c.self.view_is) (tick_over _ (sym over)).1
 
 pub overflow_add-self : goal.overflow_add-self
-overflow_add-self g c = (let small = clock-fits c.self.invariant.kept in omega arith)
+overflow_add-self g c = (let small = clock-fits c.self.invariant in omega arith)
 
 pub push_reserved-requires : goal.push_reserved-requires
 push_reserved-requires g c =
     let at : false ≡ is_at_end c.stagger.result c.self.inside.clock = c.if-at_end.ensures in
     let more = rw (c.stagger.ensures.schedule, ← c.self.view_is) at at in
-    let fits = note-moved c.self.invariant.kept (sym more) in
+    let fits = note-moved c.self.invariant (sym more) in
     let len = c.self.inside.history.ok.0 in
     omega arith
 
@@ -33,7 +33,7 @@ invariant_of-self g c =
     let at : false ≡ is_at_end c.stagger.result c.self.inside.clock = c.if-at_end.ensures in
     let more = rw (c.stagger.ensures.schedule, ← c.self.view_is) at at in
     rw (c.push_reserved.ensures.items, c.push_reserved.ensures.capacity)
-    (record { kept = kept_moved c.self.invariant.kept (sym more); fresh = c.self.invariant.fresh })
+    (kept_moved c.self.invariant (sym more))
 
 pub returns-clause-state : goal.returns-clause-state
 returns-clause-state g c =

@@ -1,9 +1,10 @@
 use Rattle.std.proofs.Common.{◌≡◌, ◌∙◌, ap, sym, refl, length}
 use Rattle.sync_model.specs.Schedule.{Schedule}
+use Rattle.sync_model.specs.State.{MirrorState}
 use Rattle.mirror_core.specs.Kept.{ticks_of_first, copies_of_first}
 use Rattle.mirror_core.proofs.PlanLaws.{first-ticks, first-copies}
 use Rattle.mirror_core.proofs.Opened.{kept_opened, opened_state}
-use Rattle.mirror_core.proofs.mirror.Mirror.new.Goals as goal
+use Rattle.mirror_core.proofs.lazy.LazyMirror.new.Goals as goal
 
 pub invariant_of-result : goal.invariant_of-result
 invariant_of-result g c =
@@ -29,14 +30,10 @@ invariant_of-result g c =
       copies,
       c.greatest.ensures.greatest,
     )
-    (record {
-      kept =
-          kept_opened c.args.opening.now c.args.plans.now c.args.room c.args.restaggers _ _
-          c.requires.some_plan c.requires.few_plans c.greatest.ensures.schedules
-          c.requires.equal_ticks c.requires.equal_copies c.requires.room c.requires.restaggers room.0
-          (λ from number. rw empty.0 refl);
-      fresh = refl;
-    })
+    (kept_opened c.args.opening.now c.args.plans.now c.args.room c.args.restaggers _ _
+    c.requires.some_plan c.requires.few_plans c.greatest.ensures.schedules
+    c.requires.equal_ticks c.requires.equal_copies c.requires.room c.requires.restaggers room.0
+    (λ from number. rw empty.0 refl))
 
 pub returns : goal.returns
 returns g c =
@@ -50,4 +47,5 @@ returns g c =
     ∙ first-copies c.args.plans.now _ c.requires.some_plan
     in
     rw (c.in_ok-new.ensures, c.in_ok-lists.ensures.plans, empty.1, empty.2, ticks, copies)
-    (sym (opened_state c.args.opening.now c.args.plans.now c.args.room c.args.restaggers))
+    (ap (λ (s : MirrorState _). record { state = s; stale = 0 })
+    (sym (opened_state c.args.opening.now c.args.plans.now c.args.room c.args.restaggers)))

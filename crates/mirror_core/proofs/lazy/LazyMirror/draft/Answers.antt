@@ -1,22 +1,22 @@
 use Rattle.std.proofs.Common.{◌∙◌}
 use Rattle.mirror_core.proofs.Calls.{runs-on, below-end, drafted-is}
-use Rattle.mirror_core.proofs.mirror.Mirror.draft.Goals as goal
+use Rattle.mirror_core.proofs.lazy.LazyMirror.draft.Goals as goal
 
 pub due_len-commands-requires : goal.due_len-commands-requires
 due_len-commands-requires g c =
     let more =
-    runs-on c.self.invariant.kept c.args.copy c.clock-clock.result c.limit.result
+    runs-on c.self.invariant c.args.copy c.clock-clock.result c.limit.result
     c.clock-clock.ensures (rw (← c.self.view_is) at c.limit.ensures) c.if-clock-limit.false in
-    rw c.clock-clock.ensures (below-end c.self.invariant.kept c.args.copy more)
+    rw c.clock-clock.ensures (below-end c.self.invariant c.args.copy more)
 
 pub returns-clause-fits : goal.returns-clause-fits
 returns-clause-fits g c =
-    let there = rw (← c.self.view_is) at c.requires in
+    let there = rw (← c.self.view_is) at c.requires.there in
     let more =
-    runs-on c.self.invariant.kept c.args.copy c.clock-clock.result c.limit.result
+    runs-on c.self.invariant c.args.copy c.clock-clock.result c.limit.result
     c.clock-clock.ensures (rw (← c.self.view_is) at c.limit.ensures) c.if-clock-limit.false in
     rw (← c.self.view_is)
-    (drafted-is c.self.invariant.kept g.G.Game.rules c.of-2.result c.args.copy c.clock-clock.result
+    (drafted-is c.self.invariant g.G.Game.rules c.of-2.result c.args.copy c.clock-clock.result
     c.of.result c.twin.result c.due.result.items there more
     c.of-2.ensures c.clock-clock.ensures c.of.ensures (c.twin.ensures ∙ c.world.ensures)
     c.due.ensures)

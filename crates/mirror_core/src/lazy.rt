@@ -1,0 +1,317 @@
+//! A mirror whose copies' worlds may still be to be made.
+
+ghost use Rattle.std.specs.Prelude.{◌≡◌, ◌<◌, ◌≤◌, IfOk, length};
+ghost use Rattle.std.specs.List.{AllByRecursion};
+ghost use Rattle.sync_model.specs.State.{opening_state, schedule_of, step_limit};
+ghost use Rattle.sync_model.specs.State.{last_clock as last_clock_of};
+ghost use Rattle.sync_model.specs.Change.{next, said, Fits};
+ghost use Rattle.sync_model.specs.History.{HasRoom};
+ghost use Rattle.sync_model.specs.Drafts.{epoch as epoch_of, ready_of, FitsReady};
+ghost use Rattle.mirror_core.specs.Kept.{delays_of_each, ticks_of_first, copies_of_first};
+ghost use Rattle.mirror_core.specs.Drafts.{drafted, committed_to, committed, IfDraft};
+
+use crate::drafts::{Committed, Draft, Drafted, MOST_DRAFTED, Ready};
+use crate::epochs::Epochs;
+use crate::lists::Lists;
+use crate::plans::greatest;
+use game_trait::limits::{MOST_PLANS, MOST_ROOM};
+use game_trait::{Arrived, Command, Event, Game, MirrorId, Number, Reply, Stepped, Tick, Ticked};
+use stagger_clock::Stagger;
+use std::alloc::Global;
+use std::collections::HashSet;
+use std::marker::Model;
+use sync_model::Turned;
+use trailing_copy::CopyStack;
+use tss_io::NoMemory;
+
+/// A mirror, between whose events the worlds of its first copies may still be to be made (this
+/// project's own). Contracts see its state, and how many copies, from copy 0 on, have such worlds.
+/// What an event changes and what is answered doesn't hang on them.
+#[derive(Drop)]
+pub struct LazyMirror<G: Game> {
+    // the opening, the match's length, the accepted commands and the copies
+    pub stack: CopyStack<G>,
+    pub plans: Vec<Stagger>,
+    // the number of the plan in force
+    pub plan: u8,
+    pub clock: Tick,
+    // the mirror and the number of each accepted command
+    pub names: HashSet<(MirrorId, Number)>,
+    pub turned: Vec<Turned>,
+    pub history: Vec<Event>,
+    // how many copies were repaired, in all
+    pub repairs: u64,
+    pub epochs: Epochs,
+    pub spare: u32,
+    pub plan_spare: u32,
+}
+
+impl<G: Game> Model for LazyMirror<G> {
+    ghost use Rattle.std.specs.Prelude.{vec_capacity};
+    ghost use Rattle.std.specs.HashSet as set;
+    ghost use Rattle.game_trait.specs.CommandList.{same_pair};
+    ghost use Rattle.sync_model.specs.State.{MirrorState};
+    ghost use Rattle.mirror_core.specs.Kept.{delays_of_each, Room, IsKept, LazyState};
+
+    ghost Value = { LazyState G };
+
+    ghost view = { λ m. record {
+      state = record {
+        opening = m.stack.opening;
+        length = m.stack.ticks;
+        plans = delays_of_each m.plans.items;
+        plan = m.plan;
+        clock = m.clock;
+        accepted = m.stack.accepted;
+        turned = m.turned.items;
+        runs = m.stack.runs;
+        history = m.history.items;
+        spare = m.spare;
+        plan_spare = m.plan_spare;
+      };
+      stale = m.stack.stale;
+    } };
+
+    ghost invariant = { λ m.
+        let state : MirrorState G = record {
+          opening = m.stack.opening;
+          length = m.stack.ticks;
+          plans = delays_of_each m.plans.items;
+          plan = m.plan;
+          clock = m.clock;
+          accepted = m.stack.accepted;
+          turned = m.turned.items;
+          runs = m.stack.runs;
+          history = m.history.items;
+          spare = m.spare;
+          plan_spare = m.plan_spare;
+        } in
+        let room : Room = record {
+          copies = m.stack.spare;
+          names = set.spare m.names;
+          turned = vec_capacity m.turned;
+          history = vec_capacity m.history;
+        } in
+        IsKept state m.plans.items (set.contains same_pair m.names) m.repairs m.epochs room };
+}
+
+impl<G: Game> LazyMirror<G> {
+    /// What `Mirror::new` makes. No world is still to be made.
+    pub fn new(
+        alloc: Global,
+        opening: &G,
+        plans: &[Stagger],
+        room: u32,
+        restaggers: u32,
+    ) -> Result<LazyMirror<G>, NoMemory>
+        requires some_plan { 0 < length plans.now }
+        requires few_plans { length plans.now ≤ MOST_PLANS }
+        requires equal_ticks { AllByRecursion (λ plan. plan.length ≡ ticks_of_first plans.now)
+            plans.now }
+        requires equal_copies { AllByRecursion
+            (λ plan. length plan.delays ≡ copies_of_first plans.now)
+            plans.now }
+        requires room { room ≤ MOST_ROOM }
+        requires restaggers { restaggers ≤ MOST_ROOM }
+        ensures { IfOk result (λ m. m ≡ record {
+          state =
+              opening_state opening.now (ticks_of_first plans.now) (delays_of_each plans.now) room
+              restaggers;
+          stale = 0;
+        }) }
+    {
+        let ticks = plans[0].length();
+        let copies = plans[0].copies();
+        let arrivals = room as usize;
+        let length = ticks as usize;
+        let steps = copies as usize * length;
+        let events = length + greatest(plans) as usize + steps + arrivals + restaggers as usize;
+        let lists = Lists::new(alloc, plans, arrivals, events)?;
+        Ok(LazyMirror {
+            stack: CopyStack::new(alloc, opening, copies, ticks, room)?,
+            plans: lists.plans,
+            plan: 0,
+            clock: 0,
+            names: lists.names,
+            turned: lists.turned,
+            history: lists.history,
+            repairs: 0,
+            epochs: Epochs::new(alloc, copies)?,
+            spare: room,
+            plan_spare: restaggers,
+        })
+    }
+
+    /// The plan that is in force.
+    pub fn stagger(&self) -> Stagger
+        ensures schedule { result ≡ schedule_of self.now.state }
+        ensures copies { length result.delays ≡ length self.now.state.runs }
+    {
+        self.plans[self.plan as usize]
+    }
+
+    // How far the copy, which is there, may go now.
+    fn limit(&self, copy: u8) -> Tick
+        requires { copy < length self.now.state.runs }
+        ensures { result ≡ step_limit self.now.state copy }
+    {
+        if copy == 0 {
+            return self.stagger().limit(copy, self.clock, 0);
+        }
+        let ahead = self.stack.clock(copy - 1);
+        self.stagger().limit(copy, self.clock, ahead)
+    }
+
+    /// The last copy's clock.
+    pub fn last_clock(&self) -> Tick
+        ensures { result ≡ last_clock_of self.now.state.runs }
+    {
+        self.stack.clock(self.stagger().copies() - 1)
+    }
+
+    /// What `Mirror::tick` does. As many worlds as before are still to be made.
+    pub fn tick(&mut self) -> Ticked
+        ensures state { self.new.state ≡ next self.old.state Event.Tick }
+        ensures answer { said self.old.state Event.Tick ≡ Reply.Tick result }
+        ensures stale { self.new.stale ≡ self.old.stale }
+    {
+        if self.stagger().at_end(self.clock) {
+            return Ticked::Over;
+        }
+        self.clock += 1;
+        self.history.push_reserved(Event::Tick);
+        Ticked::Moved
+    }
+
+    /// What `Mirror::restagger` does. As many worlds as before are still to be made.
+    pub fn restagger(&mut self, plan: u8)
+        requires there { plan < length self.old.state.plans }
+        requires room { 0 < self.old.state.plan_spare }
+        ensures state { self.new.state ≡ next self.old.state (Event.Restagger plan) }
+        ensures answer { said self.old.state (Event.Restagger plan) ≡ Reply.Restaggered }
+        ensures stale { self.new.stale ≡ self.old.stale }
+    {
+        self.plan = plan;
+        self.plan_spare -= 1;
+        self.epochs.renew_all();
+        self.history.push_reserved(Event::Restagger(plan));
+    }
+
+    /// What `Mirror::arrive` does. The worlds of the copies that it repairs are still to be made.
+    pub fn arrive(&mut self, x: &Command) -> Arrived
+        requires within_match { x.now.time < self.old.state.length }
+        requires room { 0 < self.old.state.spare }
+        ensures state { self.new.state ≡ next self.old.state (Event.Arrive x.now) }
+        ensures answer { said self.old.state (Event.Arrive x.now) ≡ Reply.Arrive result }
+    {
+        if self.names.contains(&(x.from, x.number)) {
+            return Arrived::Repeat;
+        }
+        let bound = self.last_clock();
+        self.spare -= 1;
+        self.history.push_reserved(Event::Arrive(*x));
+        if x.time < bound {
+            self.turned.push_reserved(Turned {
+                from: x.from,
+                number: x.number,
+                bound,
+            });
+            return Arrived::Late { bound };
+        }
+        match self.names.insert((x.from, x.number)) {
+            Ok(_) => {}
+            Err(_) => unreachable!(),
+        }
+        self.epochs.renew_due(&self.stack, x.time);
+        let repaired = self.stack.accept(x);
+        self.repairs += u64::from(repaired);
+        Arrived::Taken { repaired }
+    }
+
+    /// What `Mirror::step` does. Worlds may be left to be made.
+    pub fn step(&mut self, copy: u8) -> Stepped
+        requires { copy < length self.old.state.runs }
+        ensures state { self.new.state ≡ next self.old.state (Event.Step copy) }
+        ensures answer { said self.old.state (Event.Step copy) ≡ Reply.Step result }
+    {
+        if self.stack.clock(copy) >= self.limit(copy) {
+            return Stepped::Idle;
+        }
+        let repaired = self.stack.run_tick(copy);
+        self.epochs.renew_stepped(copy, repaired);
+        self.repairs += u64::from(repaired);
+        self.history.push_reserved(Event::Step(copy));
+        Stepped::Ran { repaired }
+    }
+
+    /// What `Mirror::draft` answers, where no world is still to be made.
+    #[inline(always)]
+    pub fn draft(&self, copy: u8) -> Drafted<G>
+        requires there { copy < length self.now.state.runs }
+        requires fresh { self.now.stale ≡ 0 }
+        ensures answer { result ≡ drafted G.rules self.now.state copy }
+        ensures fits { IfDraft result (λ d. FitsReady G.rules self.now.state (ready_of G.rules d)) }
+    {
+        let clock = self.stack.clock(copy);
+        if clock >= self.limit(copy) {
+            return Drafted::Idle;
+        }
+        let commands = self.stack.due_len(clock);
+        if commands > MOST_DRAFTED as u32 {
+            return Drafted::Wide { commands };
+        }
+        Drafted::Draft(Draft::of(
+            copy,
+            self.epochs.of(copy),
+            clock,
+            self.stack.world(copy).twin(),
+            self.stack.due(clock),
+        ))
+    }
+
+    /// What `Mirror::commit` does. Worlds may be left to be made.
+    pub fn commit(&mut self, r: &Ready<G>) -> Committed
+        requires { FitsReady G.rules self.old.state r.now }
+        ensures state { self.new.state ≡ committed_to self.old.state r.now }
+        ensures answer { result ≡ committed self.old.state r.now }
+    {
+        let copy = r.copy();
+        let now = self.epochs.of(copy);
+        if r.epoch() != now {
+            return Committed::Stale {
+                held: r.epoch(),
+                now,
+            };
+        }
+        let repaired = self.stack.commit_tick(copy, r.world());
+        self.epochs.renew_stepped(copy, repaired);
+        self.repairs += u64::from(repaired);
+        self.history.push_reserved(Event::Step(copy));
+        Committed::Ran { repaired }
+    }
+
+    /// What `Mirror::make` does. Worlds may be left to be made.
+    pub fn make(&mut self, e: &Event) -> Reply
+        requires fits { Fits self.old.state e.now }
+        requires room { HasRoom self.old.state e.now }
+        ensures state { self.new.state ≡ next self.old.state e.now }
+        ensures answer { result ≡ said self.old.state e.now }
+    {
+        match e {
+            Event::Tick => Reply::Tick(self.tick()),
+            Event::Arrive(x) => Reply::Arrive(self.arrive(x)),
+            Event::Step(copy) => Reply::Step(self.step(*copy)),
+            Event::Restagger(plan) => {
+                self.restagger(*plan);
+                Reply::Restaggered
+            }
+        }
+    }
+
+    /// Makes the worlds that are still to be made, each once.
+    pub fn refresh(&mut self)
+        ensures { self.new ≡ record self.old { stale = 0 } }
+    {
+        self.stack.refresh();
+    }
+}
