@@ -29,30 +29,6 @@ few-of-plans (p ∷ ps) ticks copies sound =
 pub few-copies : {W : Type 0} (s : MirrorState W) → IsWellFormed s → length s.runs ≤ 8
 few-copies s sound = few-of-plans s.plans s.length (length s.runs) sound.plans
 
--- a turn after its tick: its steps are left
-pub turn-begun :
-    {W : Type 0} (s t : MirrorState W) (n : ℕ) → t ≡ next s Tick → n ≡ length s.runs
-    → after t (steps_from 0 (n - 0)) ≡ turn s
-unfolding after
-turn-begun s t n ticked count = (let all : n - 0 ≡ length s.runs = omega arith in rw (all, ticked) refl)
-
-pub turn-told :
-    {W : Type 0} (s t : MirrorState W) (n : ℕ) (reply : Reply) (none told : List Reply)
-    → t ≡ next s Tick → n ≡ length s.runs → said s Tick ≡ reply → none ≡ [] → told ≡ none ++ reply ∷ []
-    → told ++ answers t (steps_from 0 (n - 0)) ≡ answers s (turn_events (length s.runs))
-unfolding answers
-turn-told s t n reply none told ticked count answered empty put =
-    (let all : n - 0 ≡ length s.runs = omega arith in rw (all, put, empty, ticked, ← answered) refl)
-
-pub step-told :
-    {W : Type 0} (s t : MirrorState W) (c n : ℕ) (reply : Reply) (old new : List Reply)
-    → c < n → t ≡ next s (Step c) → said s (Step c) ≡ reply → new ≡ old ++ reply ∷ []
-    → new ++ answers t (steps_from (c + 1) (n - (c + 1))) ≡ old ++ answers s (steps_from c (n - c))
-unfolding answers
-step-told s t c n reply old new below stepped answered put =
-    rw (steps-more c n below, put, stepped, ← answered)
-    (append_assoc old (said s (Step c) ∷ []) (answers (next s (Step c)) (steps_from (c + 1) (n - (c + 1)))))
-
 -- a turn steps copies that are there
 named-steps :
     {W : Type 0} (commands : List Command) (s : MirrorState W) (n c : ℕ) → c + n ≤ length s.runs

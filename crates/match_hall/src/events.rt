@@ -75,18 +75,13 @@ pub fn events_of(m: &Match, copies: u8, line: &ScriptLine) -> Events
 }
 
 // Makes a turn of a mirror, and hands back the answers.
-#[tactic(auto, unfolding(sync_model::specs::Change::after, sync_model::specs::Change::answers))]
 fn turn<G: Game>(mirror: &mut Mirror<G>) -> Replies
     ensures state { mirror.new ≡ turn mirror.old }
     ensures replies { result.items ≡ answers mirror.old (turn_events (length mirror.old.runs)) }
 {
     mirror.always();
-    let mut replies = ArrayVec::new();
-    replies.push(Reply::Tick(mirror.tick()));
-    for copy in 0..mirror.copies() {
-        replies.push(Reply::Step(mirror.step(copy)));
-    }
-    replies
+    let events = turn_events(mirror.copies());
+    mirror.make_each(events.as_slice())
 }
 
 /// Makes a turn of the mirror of this number, and appends what it prints. On `NoMemory` the turn

@@ -20,8 +20,9 @@ use mirror_core::Mirror;
 use tss_io::NoMemory;
 use watch_board::{Board, Watcher};
 
-// How many events are made together at most. The lines of a script make at most nine each.
-const MOST_TOGETHER: usize = 64;
+// How many events are made together at most: the copies ahead are executed again once for all of
+// them. The lines of a script make at most nine each.
+const MOST_TOGETHER: usize = 256;
 
 // Events that wait to be made together at a mirror.
 type Waiting = ArrayVec<Event, MOST_TOGETHER>;
@@ -235,7 +236,7 @@ fn tell_turns<G: Game>(
 
 /// Plays the mirror of this number along those lines of the match's script that name it, drains it,
 /// and tells the watchers of each event that changed it. The mirror stands as the match begins.
-/// Events are made up to 64 together and then told, so on `NoMemory`, when it stopped at one of the
+/// Events are made up to 256 together and then told, so on `NoMemory`, when it stopped at one of the
 /// events, the mirror may have made some more than the watchers were told of.
 pub fn tell_mirror<G: Game>(
     mirror: &mut Mirror<G>,
