@@ -429,43 +429,87 @@ fn drawn_events_go_like_whole_lists(rt: HostRuntime) -> Result<(), Fail> {
     Ok(())
 }
 
-// Makes three arrivals together.
-fn make_row<G: Compared>(
+// Arrivals and steps that are made together, with a tick among them.
+#[derive(Clone, Copy)]
+struct Mixed {
+    arrivals: (Command, Command, Command),
+    steps: (u8, u8, u8),
+}
+
+impl Draws {
+    // Of a mirror of so many copies.
+    fn mixed(&mut self, copies: u8) -> Mixed
+        requires { 0 < copies }
+        ensures due { (result.arrivals.0.time < 8) × (result.arrivals.1.time < 8)
+            × (result.arrivals.2.time < 8) }
+        ensures there { (result.steps.0 < copies) × (result.steps.1 < copies)
+            × (result.steps.2 < copies) }
+    {
+        let arrivals = (self.command(), self.command(), self.command());
+        let bound = u32::from(copies);
+        let steps = (
+            self.below(bound) as u8,
+            self.below(bound) as u8,
+            self.below(bound) as u8,
+        );
+        Mixed { arrivals, steps }
+    }
+}
+
+// Whether a slow mirror answers these events so, one by one.
+fn answers_each(
+    rt: &impl Abort,
+    alloc: Global,
+    slow: &mut SlowMirror,
+    events: &[Event],
+    replies: &[Reply],
+) -> bool {
+    for (place, event) in events.iter().enumerate() {
+        let reply = slow.answer(rt, alloc, event);
+        if replies.get(place).copied() != Some(reply) {
+            return false;
+        }
+    }
+    replies.len() == events.len()
+}
+
+// Whether a mirror that makes these events together answers them as a slow one does one by one.
+fn makes_together<G: Compared>(
+    rt: &impl Abort,
+    alloc: Global,
     mirror: &mut Mirror<G>,
-    x: Command,
-    y: Command,
-    z: Command,
-) -> ArrayVec<Reply, 3>
+    slow: &mut SlowMirror,
+    mixed: Mixed,
+) -> bool
     requires room { 3 ≤ mirror.old.spare }
-    requires due { (x.time < 8) × (y.time < 8) × (z.time < 8) }
+    requires due { (mixed.arrivals.0.time < 8) × (mixed.arrivals.1.time < 8)
+        × (mixed.arrivals.2.time < 8) }
+    requires there { (mixed.steps.0 < length mirror.old.runs)
+        × (mixed.steps.1 < length mirror.old.runs)
+        × (mixed.steps.2 < length mirror.old.runs) }
     requires ticks { mirror.old.length ≡ 8 }
     requires plans { length mirror.old.plans ≡ 2 }
     ensures ticks { mirror.new.length ≡ 8 }
     ensures plans { length mirror.new.plans ≡ 2 }
 {
-    mirror.make_each(&[Event::Arrive(x), Event::Arrive(y), Event::Arrive(z)])
+    let (x, y, z) = mixed.arrivals;
+    let (a, b, c) = mixed.steps;
+    let events = [
+        Event::Arrive(x),
+        Event::Step(a),
+        Event::Arrive(y),
+        Event::Tick,
+        Event::Step(b),
+        Event::Arrive(z),
+        Event::Step(c),
+    ];
+    let replies: ArrayVec<Reply, 7> = mirror.make_each(&events);
+    answers_each(rt, alloc, slow, &events, &replies)
 }
 
-// Whether a slow mirror answers these arrivals so, one by one.
-fn answers_row(
-    rt: &impl Abort,
-    alloc: Global,
-    slow: &mut SlowMirror,
-    row: &[Command],
-    replies: &[Reply],
-) -> bool {
-    for (place, x) in row.iter().enumerate() {
-        let reply = slow.answer(rt, alloc, &Event::Arrive(*x));
-        if replies.get(place).copied() != Some(reply) {
-            return false;
-        }
-    }
-    replies.len() == row.len()
-}
-
-// Whether a mirror that makes arrivals three at a time, and other drawn events between them, goes
-// like a slow one that makes them one by one.
-fn rows_go_like_slow<G: Compared>(
+// Whether a mirror that makes drawn events seven at a time, and others between them, goes like a
+// slow one that makes them one by one.
+fn together_goes_like_slow<G: Compared>(
     rt: &impl Abort,
     alloc: Global,
     mirror: &mut Mirror<G>,
@@ -480,12 +524,11 @@ fn rows_go_like_slow<G: Compared>(
     let mut draws = Draws { state: seed };
     for made in 0..40 {
         let _ = made;
-        let (x, y, z) = (draws.command(), draws.command(), draws.command());
-        if mirror.spare() < 3 {
+        let mixed = draws.mixed(copies);
+        if mirror.spare() < 3 || mirror.copies() != copies {
             return false;
         }
-        let replies = make_row(mirror, x, y, z);
-        if !answers_row(rt, alloc, &mut slow, &[x, y, z], &replies) || !is_alike(mirror, &slow) {
+        if !makes_together(rt, alloc, mirror, &mut slow, mixed) || !is_alike(mirror, &slow) {
             return false;
         }
         let event = draws.event(copies);
@@ -497,13 +540,13 @@ fn rows_go_like_slow<G: Compared>(
 }
 
 #[test]
-fn rows_of_arrivals_go_like_whole_lists(rt: HostRuntime) -> Result<(), Fail> {
+fn events_made_together_go_like_whole_lists(rt: HostRuntime) -> Result<(), Fail> {
     for copies in 1..9 {
         for seed in 0..12 {
             let mut numbers = opened(rt.alloc(), &OPENING, copies)?;
-            assert!(rt; rows_go_like_slow(&rt, rt.alloc(), &mut numbers, copies, seed));
+            assert!(rt; together_goes_like_slow(&rt, rt.alloc(), &mut numbers, copies, seed));
             let mut arenas = opened(rt.alloc(), &two_players(), copies)?;
-            assert!(rt; rows_go_like_slow(&rt, rt.alloc(), &mut arenas, copies, seed));
+            assert!(rt; together_goes_like_slow(&rt, rt.alloc(), &mut arenas, copies, seed));
         }
     }
     Ok(())
