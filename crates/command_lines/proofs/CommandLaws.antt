@@ -1,5 +1,5 @@
 -- The line of a command both ways, and its first fault.
-use Rattle.std.proofs.Common.{◌≡◌, ◌⊎◌, inl, inr, ℕ, ◌^◌, ◌<◌, ◌≤◌, Bool, true, false, cond, eqb, List, [], ◌∷◌, length, Some, Result, Ok, Err, refl, sym, ◌∙◌, arith, lit<, lit≤}
+use Rattle.std.proofs.Common.{◌≡◌, ◌⊎◌, inl, inr, ℕ, ◌<◌, ◌≤◌, Bool, true, false, cond, eqb, List, [], ◌∷◌, length, Some, Result, Ok, Err, refl, sym, ◌∙◌, arith, lit<, lit≤}
 use Rattle.std.specs.Prelude.{bytes_eq, codes, IfOk, IfErr}
 use Rattle.std.specs.List.{AllByRecursion}
 use Rattle.game_trait.specs.declared.command.Act.{Act}

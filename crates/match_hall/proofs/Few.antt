@@ -1,8 +1,7 @@
 -- A mirror takes in no more than its script brings.
-use Rattle.std.proofs.Common.{◌≡◌, ℕ, zero, suc, ◌+◌, ◌≤◌, ◌<◌, Bool, true, false, cond, List, [], ◌∷◌, ◌++◌, length, get_or, map, refl, ap, sym, ◌∙◌, subst, arith}
+use Rattle.std.proofs.Common.{◌≡◌, ℕ, suc, ◌+◌, ◌≤◌, ◌<◌, cond, List, [], ◌∷◌, length, get_or, map, refl, ap, ◌∙◌, subst, arith}
 use Rattle.std.specs.List.{AllByRecursion}
 use Rattle.std.proofs.lemmas.List.{length-append}
-use Rattle.game_trait.specs.declared.command.Command.{Command}
 use Rattle.game_trait.specs.declared.event.Event.{Event}
 use Rattle.game_trait.specs.declared.event.Event.TheVariants.{Tick, Arrive, Step, Restagger}
 use Rattle.game_trait.specs.Count.{times}
@@ -14,10 +13,9 @@ use Rattle.sync_model.specs.Turns.{drain}
 use Rattle.sync_model.proofs.Cases.{tick-cases, arrive-cases, step-cases, restagger-cases, after-fixed}
 use Rattle.sync_model.proofs.Drain.{draining_delivers_nothing, drain-fixed}
 use Rattle.match_file.specs.Data.{MatchData, IsMatch}
-use Rattle.match_file.specs.declared.script_line.ScriptLine.{ScriptLine}
 use Rattle.match_hall.specs.Script.{arrives_at, opening_mirror, opening_mirrors, scripted, played}
 use Rattle.match_hall.specs.Few.{IsFew}
-use Rattle.match_hall.proofs.OnWay.{OnWay, opening-length, way-copies, all-opening}
+use Rattle.match_hall.proofs.OnWay.{OnWay, way-copies, all-opening}
 use Rattle.match_hall.proofs.Headline.{all-script}
 
 -- an event brings one command at most, and only where it is an arrival

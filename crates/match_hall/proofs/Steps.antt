@@ -2,17 +2,13 @@
 use Rattle.std.proofs.Common.{◌≡◌, ℕ, zero, suc, ◌+◌, ◌-◌, ◌<◌, ◌≤◌, true, false, List, [], ◌∷◌, ◌++◌, length, get_or, set, take, drop, map, refl, sym, ap, ◌∙◌, append_assoc, arith}
 use Rattle.std.specs.List.{AllByRecursion}
 use Rattle.game_trait.specs.declared.command.Command.{Command}
-use Rattle.game_trait.specs.declared.event.Event.TheVariants.{Tick, Step}
-use Rattle.game_trait.specs.declared.event.Reply.{Reply}
 use Rattle.game_trait.specs.Count.{times}
-use Rattle.game_trait.proofs.Counts.{times-append}
 use Rattle.sync_model.specs.State.{MirrorState}
-use Rattle.sync_model.specs.Change.{next, said, after, answers}
 use Rattle.game_trait.specs.Events.{is_arrival, is_restagger}
 use Rattle.sync_model.specs.WellFormed.{ArePlans, IsWellFormed}
 use Rattle.sync_model.specs.Legal.{NamesWhatIsThere}
 use Rattle.sync_model.specs.Turns.{turns_of, steps_from, turn_events, turn, is_drained, drain_within, drain_bound, drain}
-use Rattle.sync_model.proofs.Turning.{drained-state, steps-more}
+use Rattle.sync_model.proofs.Turning.{drained-state}
 use Rattle.match_hall.specs.Report.{turn_text, drain_text, drains_text}
 use Rattle.match_hall.specs.Stops.{IsStoppedDrain, IsStoppedDraining}
 use Rattle.std.proofs.lemmas.Grind.{take_at_read}

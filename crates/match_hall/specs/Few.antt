@@ -1,5 +1,5 @@
 -- How much a mirror takes in at most.
-use Rattle.std.specs.Prelude.{◌≡◌, ℕ, ◌<◌, ◌≤◌, length}
+use Rattle.std.specs.Prelude.{◌≡◌, ◌<◌, ◌≤◌, length}
 use Rattle.game_trait.specs.declared.limits.TheConstants.{MOST_SCRIPT_LINES}
 use Rattle.sync_model.specs.State.{MirrorState}
 

@@ -1,6 +1,6 @@
 -- As many players as a world began with are there at any time.
-use Rattle.std.proofs.Common.{◌≡◌, ℕ, zero, suc, ◌+◌, ℤ, Bool, true, false, cond, List, [], ◌∷◌, ◌++◌, length, set, Option, Some, None, refl, ap, sym, ◌∙◌, arith}
-use Rattle.std.proofs.lemmas.List.{length-append, length-set}
+use Rattle.std.proofs.Common.{◌≡◌, ℕ, Bool, true, false, cond, List, [], ◌∷◌, length, Option, Some, None, refl, ◌∙◌, arith}
+use Rattle.std.proofs.lemmas.List.{length-set}
 use Rattle.game_trait.specs.declared.command.Command.{Command}
 use Rattle.game_trait.specs.declared.command.Act.{Act}
 use Rattle.game_trait.specs.declared.command.Act.TheVariants.{Go, Left, Right, Shoot, Dash}
@@ -14,9 +14,9 @@ use Rattle.arena_rules.specs.declared.player.Player.{Player}
 use Rattle.arena_rules.specs.declared.player.Body.{Body}
 use Rattle.arena_rules.specs.Ground.{Grid}
 use Rattle.arena_rules.specs.Setup.{spot_cell}
-use Rattle.arena_rules.specs.Player.{changed, holder, is_held, struck, with_gain, with_loss}
-use Rattle.arena_rules.specs.Command.{live_of, by_live, turned, turned_left, turned_right, gone_to, gone, fired, shot_by, acted, applied, arrived, open_ahead}
-use Rattle.arena_rules.specs.Beat.{is_live_at, scored, hit, flown_into, flown_to, flown, flights, returned, returns, shots_flown, beaten}
+use Rattle.arena_rules.specs.Player.{changed, holder, is_held, struck}
+use Rattle.arena_rules.specs.Command.{live_of, by_live, turned, turned_left, turned_right, gone_to, gone, fired, acted, applied, arrived, open_ahead}
+use Rattle.arena_rules.specs.Beat.{is_live_at, scored, hit, flown_into, flown_to, flown, flights, shots_flown, beaten}
 use Rattle.arena_rules.specs.World.{World, arena_rules}
 use Rattle.arena_rules.proofs.Changes.{length-changed}
 use Rattle.arena_rules.proofs.Dead.{length-returns}

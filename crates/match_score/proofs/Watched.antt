@@ -1,6 +1,5 @@
 -- The text that is told of a match to watchers, and its names.
 use Rattle.std.proofs.Common.{◌≡◌, ℕ, ◌<◌, ◌≤◌, Bool, true, false, ◌&&◌, ◌||◌, nat_le, List, [], ◌∷◌, ◌++◌, length, refl, sym, ap, subst, ◌∙◌, append_assoc, arith}
-use Rattle.std.specs.Prelude.{All}
 use Rattle.std.specs.List.{AllByRecursion, list_all}
 use Rattle.std.specs.Str.{IsAscii}
 use Rattle.std.proofs.lemmas.Bool.Decides.{nat_tests}
@@ -16,7 +15,7 @@ use Rattle.watch_board.specs.Board.{board, last_lines}
 use Rattle.watch_board.specs.Told.{AreTold}
 use Rattle.watch_board.proofs.Told.{board-closed}
 use Rattle.match_hall.specs.Notes.{notes_of_all}
-use Rattle.match_score.specs.Score.{standings, scoreboard_line, ends_of, watched_text}
+use Rattle.match_score.specs.Score.{standings, ends_of, watched_text}
 
 both : (a b : Bool) → (a && b) ≡ true → (a ≡ true) × (b ≡ true)
 both true true e = (refl, refl)

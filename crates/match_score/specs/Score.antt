@@ -1,5 +1,5 @@
 -- What is told of a match that is played to watchers.
-use Rattle.std.specs.Prelude.{◌≡◌, ℕ, ◌+◌, ◌≤◌, ℤ, List, [], ◌∷◌, ◌++◌, map, length}
+use Rattle.std.specs.Prelude.{ℕ, ◌+◌, ℤ, List, [], ◌∷◌, ◌++◌, map, length}
 use Rattle.game_trait.specs.Run.{world_of}
 use Rattle.tss_io.specs.Lines.{as_line}
 use Rattle.arena_rules.specs.World.{World, opening_world, arena_rules}

@@ -20,7 +20,7 @@ use Rattle.sync_model.proofs.Cases.{after-fixed}
 use Rattle.sync_model.proofs.History.{after-append}
 use Rattle.match_file.specs.declared.script_line.ScriptLine.{ScriptLine}
 use Rattle.match_file.specs.declared.script_line.ScriptLine.TheVariants.{Arrive, Turn}
-use Rattle.match_hall.specs.Script.{names, events_of, after_line, after_lines, opening_mirror, opening_from, opening_mirrors, scripted, played}
+use Rattle.match_hall.specs.Script.{names, events_of, after_lines, opening_mirror, opening_from, opening_mirrors, scripted, played}
 use Rattle.match_hall.proofs.Telling.{after_lines-append}
 use Rattle.match_maker.specs.Below.{joined_below, each_below}
 use Rattle.match_maker.specs.Generator.{command_at, lag, arrival_lines, arrivals, mirror_lines, tick_lines, match_of_number}

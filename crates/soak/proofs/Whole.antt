@@ -1,5 +1,5 @@
 -- What is told of the match of a number, by what is known of every number.
-use Rattle.std.proofs.Common.{◌≡◌, ℕ, ◌+◌, ◌<◌, true, List, [], ◌∷◌, ◌++◌, map, length, Some, refl, ap, sym, ◌∙◌, arith}
+use Rattle.std.proofs.Common.{◌≡◌, ℕ, ◌+◌, ◌<◌, true, List, [], ◌∷◌, ◌++◌, map, length, Some, refl, ap, ◌∙◌, arith}
 use Rattle.std.specs.Prelude.{slice_get}
 use Rattle.std.specs.List.{AllByRecursion}
 use Rattle.std.proofs.lemmas.List.{length-map}
@@ -16,7 +16,7 @@ use Rattle.match_hall.proofs.MirrorLines.{own-lines}
 use Rattle.match_maker.specs.Below.{joined_below}
 use Rattle.match_maker.specs.Generator.{match_of_number, tick_lines}
 use Rattle.soak.specs.Soak.{all_commands, IsSoaked}
-use Rattle.soak.specs.Answer.{soak_opening, soaked, soak_world, agreement_text, TellsOf, IsSoakText, soak_text, whole_lines}
+use Rattle.soak.specs.Answer.{soak_opening, soaked, soak_world, agreement_text, IsSoakText, soak_text, whole_lines}
 use Rattle.soak.proofs.Agreed.{all-gets, length-played}
 use Rattle.soak.proofs.Played.{played-soaked}
 

@@ -1,19 +1,16 @@
 -- One copy more is brought to its clock.
 use Rattle.std.proofs.Common.{◌≡◌, refl, ◌∙◌, sym, ap, ℕ, zero, suc, ◌+◌, ◌-◌, ◌≤◌, ◌<◌, List, []}
-use Rattle.std.proofs.Common.{◌∷◌, ◌++◌, length, take, drop, get_or, set, replicate, arith}
-use Rattle.std.proofs.Common.{length-append, append_assoc, ⊎_elim}
-use Rattle.std.proofs.lemmas.Bool.{cases_lt}
-use Rattle.std.proofs.lemmas.List.{append-nil, get_or-set_same, length-set, take-append-drop}
+use Rattle.std.proofs.Common.{◌∷◌, ◌++◌, length, drop, get_or, set, replicate, arith}
+use Rattle.std.proofs.Common.{length-append, append_assoc}
+use Rattle.std.proofs.lemmas.List.{append-nil, length-set}
 use Rattle.game_trait.specs.declared.command.Command.{Command}
 use Rattle.game_trait.specs.declared.command.Item.{Item}
-use Rattle.game_trait.specs.Game.{Rules}
-use Rattle.game_trait.specs.Run.{beats, world_of}
+use Rattle.game_trait.specs.Run.{beats}
 use Rattle.game_trait.specs.Ordered.{ordered}
-use Rattle.game_trait.proofs.Runs.{world_of-append}
 use Rattle.game_trait.proofs.OrderedParts.{ordered-join, ordered-empty}
 use Rattle.executed_list.specs.Segments.{Falls, StartsAtMost, OneList, end_of, filled, run_grown}
-use Rattle.executed_list.proofs.Lists.{length-filled, get-any}
-use Rattle.trailing_copy.specs.Mixed.{mixed, grown_to, end_to, world_to}
+use Rattle.executed_list.proofs.Lists.{length-filled}
+use Rattle.trailing_copy.specs.Mixed.{mixed, grown_to, end_to}
 use Rattle.trailing_copy.proofs.Lists.{filled-below}
 
 -- mixed lists

@@ -1,17 +1,14 @@
-use Rattle.std.proofs.Common.{◌≡◌, ℕ, List, map, length, sym, ap, ◌∙◌, subst}
+use Rattle.std.proofs.Common.{ℕ, List, map, length, sym, ap, ◌∙◌, subst}
 use Rattle.std.specs.List.{AllByRecursion}
 use Rattle.std.proofs.lemmas.List.{length-map}
 use Rattle.std.proofs.lemmas.Result.{IfOk-weaker}
-use Rattle.arena_rules.specs.Setup.{Layout}
 use Rattle.arena_rules.specs.Player.{opening_player}
-use Rattle.arena_rules.specs.World.{World, opening_world}
-use Rattle.sync_model.specs.State.{MirrorState}
+use Rattle.arena_rules.specs.World.{opening_world}
 use Rattle.match_file.specs.Data.{MatchData, IsMatch}
 use Rattle.report_text.specs.declared.score.ScoreRow.{ScoreRow}
 use Rattle.report_text.specs.Score.{Standing, standing_of, standings_text, score_text}
 use Rattle.report_text.proofs.Standings.{score_text-standings}
 use Rattle.match_hall.specs.Few.{IsFew}
-use Rattle.match_score.specs.Score.{standings}
 use Rattle.match_score.proofs.Watched.{names-ascii}
 use Rattle.match_score.proofs.answer.scoreboard.Goals as goal
 

@@ -1,9 +1,8 @@
-use Rattle.std.proofs.Common.{◌≡◌, ℕ, ◌+◌, ◌-◌, List, [], length, sym, ap, ◌∙◌, arith}
+use Rattle.std.proofs.Common.{◌-◌, List, [], length, ap, ◌∙◌, arith}
 use Rattle.game_trait.specs.declared.command.Command.{Command}
 use Rattle.game_trait.specs.declared.command.Item.{Item}
 use Rattle.game_trait.specs.Run.{world_of}
 use Rattle.arena_rules.specs.World.{World, arena_rules}
-use Rattle.sync_model.specs.Lists.{last_of}
 use Rattle.sync_model.specs.declared.turned.Turned.{Turned}
 use Rattle.match_score.specs.Score.{scores_of}
 use Rattle.match_score.proofs.Players.{run-players}

@@ -1,4 +1,4 @@
-use Rattle.std.proofs.Common.{◌∙◌, arith, ◌-◌}
+use Rattle.std.proofs.Common.{arith, ◌-◌}
 use Rattle.trailing_copy.proofs.Steps.{same-state}
 use Rattle.trailing_copy.proofs.Remade.{run-many, end-inside}
 use Rattle.trailing_copy.proofs.Running.{front-fits, front-runs, front-kept}
