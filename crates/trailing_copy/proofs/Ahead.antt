@@ -118,6 +118,19 @@ items-start all b k at =
     sym
     (ap (λ (l : List Item). b ++ l) (ordered-empty all (beats b) k (omega arith)) ∙ append-nil b)
 
+-- where no copy is ahead
+pub none-ahead_items :
+    (all : List Command) (b : List Item) (ks : List ℕ) (last : ℕ) → last ≡ 0
+    → get_or ks last 0 ≡ beats b
+    → b ≡ grown_to all b (get_or ks 0 0)
+none-ahead_items all b ks last none clock =
+    items-start all b (get_or ks 0 0) (ap (λ (i : ℕ). get_or ks i 0) (sym none) ∙ clock)
+
+pub none-ahead_ends :
+    (f : ℕ → ℕ) (ks ends : List ℕ) (last : ℕ) → last ≡ 0 → ends ≡ mixed last f ks ends
+unfolding mixed
+none-ahead_ends f ks ends last none = rw none refl
+
 -- the room
 pub part-room :
     (all : List Command) (kb kc ke kz : ℕ) → kb ≤ kc → kc ≤ ke → ke ≤ kz

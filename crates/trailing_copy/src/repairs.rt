@@ -48,6 +48,9 @@ pub fn append_ahead(run: &mut Segments, list: &Buckets, clocks: &[Tick], last: u
         ≡ mixed last (end_to list.now.all run.old.items) clocks.now run.old.ends }
     ensures spare { run.new.spare + length run.new.items ≡ run.old.spare + length run.old.items }
 {
+    if last == 0 {
+        return;
+    }
     let mut c = last;
     let mut place = list.start(clocks[last as usize]);
     while c > 0 {

@@ -1,8 +1,18 @@
 use Rattle.std.proofs.Common.{◌-◌, subst, arith, ℕ}
 use Rattle.trailing_copy.proofs.Ahead.{SoFar, Given, start, clocks-fall, room-for, grown-length}
-use Rattle.trailing_copy.proofs.Ahead.{more}
+use Rattle.trailing_copy.proofs.Ahead.{more, none-ahead_items, none-ahead_ends}
 use Rattle.trailing_copy.proofs.Lists.{one-more}
 use Rattle.trailing_copy.proofs.repairs.append_ahead.Goals as goal
+
+pub returns-then-last-eq0-clause-items : goal.returns-then-last-eq0-clause-items
+returns-then-last-eq0-clause-items c =
+    let none = c.if-last-eq0.true in
+    none-ahead_items c.args.list.now.all c.args.run.now.items c.args.clocks.now c.args.last
+    (omega arith) c.requires.clock
+
+pub returns-then-last-eq0-clause-ends : goal.returns-then-last-eq0-clause-ends
+returns-then-last-eq0-clause-ends c =
+    let none = c.if-last-eq0.true in none-ahead_ends _ c.args.clocks.now c.args.run.now.ends c.args.last (omega arith)
 
 pub loop-c-init : goal.loop-c-init
 loop-c-init c =
