@@ -1,6 +1,6 @@
 //! The players' names.
 
-ghost use Rattle.std.specs.Prelude.{◌≡◌, [], IfOk, OnErr, not, slice_get, option_copied};
+ghost use Rattle.std.specs.Prelude.{◌≡◌, [], length, IfOk, OnErr, not, slice_get, option_copied};
 ghost use Rattle.arena_rules.specs.Block.{name_of};
 ghost use Rattle.arena_rules.specs.Roster.{is_known, with_name, PlayerNamesDiffer};
 
@@ -52,14 +52,29 @@ impl Roster {
         Ok(true)
     }
 
+    /// How many names there are.
+    pub fn len(&self) -> usize
+        ensures { result ≡ length self.now }
+    {
+        self.names.len()
+    }
+
+    /// The name in this place, counted from 0, or None where there are no more than so many names.
+    pub fn name_at(&self, place: usize) -> Option<&[u8]>
+        ensures name { option_copied result ≡ slice_get self.now place }
+        ensures distinct { PlayerNamesDiffer self.now }
+    {
+        let name = self.names.get_index(place)?;
+        Some(name.as_slice())
+    }
+
     /// The name of the player of this number, counted from 0, or None where there are no more than
     /// so many names.
     pub fn name(&self, player: u8) -> Option<&[u8]>
         ensures name { option_copied result ≡ slice_get self.now player }
         ensures distinct { PlayerNamesDiffer self.now }
     {
-        let name = self.names.get_index(player as usize)?;
-        Some(name.as_slice())
+        self.name_at(player as usize)
     }
 
     // The name of a player as it is printed: a question mark stands for one that isn't there.

@@ -1,5 +1,5 @@
 -- What a post's answers to a draft and to its return leave on its trail.
-use Rattle.std.specs.Prelude.{ℕ, Option, None, Some, List, [], ◌∷◌}
+use Rattle.std.specs.Prelude.{◌≡◌, ℕ, Option, None, Some, List, [], ◌∷◌}
 use Rattle.game_trait.specs.declared.event.Event.TheVariants.{Step}
 use Rattle.game_trait.specs.declared.event.Reply.TheVariants.{Step as ToStep}
 use Rattle.game_trait.specs.declared.event.Stepped.TheVariants.{Ran as RanStep}
@@ -8,6 +8,8 @@ use Rattle.mirror_core.specs.declared.drafts.Committed.TheVariants.{Ran, Stale}
 use Rattle.mirror_core.specs.declared.drafts.Drafted.{Drafted}
 use Rattle.mirror_core.specs.declared.drafts.Drafted.TheVariants.{Draft, Idle, Wide}
 use Rattle.sync_model.specs.Drafts.{DraftTick}
+use Rattle.copy_workers.specs.declared.draft_post.Draw.{Draw}
+use Rattle.copy_workers.specs.declared.draft_post.Draw.TheVariants.{Draft as ADraft, Idle as NoTick, Wide as ManyDue}
 use Rattle.copy_workers.specs.declared.post.Asked.{Asked}
 use Rattle.copy_workers.specs.declared.post.TrailMark.{TrailMark}
 use Rattle.copy_workers.specs.declared.post.TrailMark.TheVariants.{Drawn, Idle as IdleMark, Wide as WideMark, Ran as RanMark, Stale as StaleMark}
@@ -19,11 +21,26 @@ draft_in (Draft d) = Some d
 draft_in Idle = None
 draft_in (Wide n) = None
 
+-- the same answer, without the draft
+abbrev pub draw_of : {W : Type 0} → Drafted W → Draw
+draw_of (Draft d) = ADraft
+draw_of Idle = NoTick
+draw_of (Wide n) = ManyDue n
+
+-- where a draft was answered it is there, and is of this copy; else there is none
+abbrev pub IsDrawn : {W : Type 0} → ℕ → Draw → Option (DraftTick W) → Type 0
+IsDrawn {W} c ADraft drawn = (d : DraftTick W) × (drawn ≡ Some d) × (d.copy ≡ c)
+IsDrawn c NoTick drawn = drawn ≡ None
+IsDrawn c (ManyDue n) drawn = drawn ≡ None
+
 -- the mark of what was answered where a draft was asked for
+abbrev pub draw_mark : ℕ → Draw → TrailMark
+draw_mark c ADraft = Drawn c
+draw_mark c NoTick = IdleMark c
+draw_mark c (ManyDue n) = WideMark c
+
 abbrev pub draft_mark : {W : Type 0} → ℕ → Drafted W → TrailMark
-draft_mark c (Draft d) = Drawn c
-draft_mark c Idle = IdleMark c
-draft_mark c (Wide n) = WideMark c
+draft_mark c drafted = draw_mark c (draw_of drafted)
 
 -- the mark of what was answered where it was given back
 abbrev pub commit_mark : ℕ → Committed → TrailMark

@@ -6,11 +6,11 @@ ghost use Rattle.game_trait.specs.declared.event.Event.TheVariants.{Step};
 ghost use Rattle.copy_workers.specs.Copied.{is_ran, IsTurn, CopyEnds};
 
 use crate::copy_job::{CopyEnd, CopyJob};
-use crate::draft_post::DraftPost;
+use crate::draft_post::{DraftPost, Draw};
 use crate::gate::Gate;
 use crate::rest::Rest;
 use game_trait::{Event, Game, Reply, Stepped, Tick};
-use mirror_core::{Committed, Drafted};
+use mirror_core::Committed;
 
 // How many ticks a copy ran by an answer.
 fn runs_by(reply: Reply) -> Tick
@@ -25,29 +25,47 @@ fn runs_by(reply: Reply) -> Tick
     }
 }
 
-// One turn: how many ticks the copy ran in it.
-fn run_turn<G: Game, P: DraftPost<G>>(post: &mut P, copy: u8) -> Tick
+// What a turn came to.
+#[derive(Clone, Copy)]
+struct Turned {
+    // How many ticks the copy ran in it.
+    ran: Tick,
+    // Whether nothing was found to do.
+    idle: bool,
+}
+
+// One turn.
+fn run_turn<G: Game, P: DraftPost<G>>(post: &mut P, copy: u8) -> Turned
     requires takes { P.takes post.old (Step copy) }
     requires calls { 2 ≤ P.calls post.old }
-    ensures turn { IsTurn copy result (P.asked post.old) (P.asked post.new)
+    ensures turn { IsTurn copy result.ran (P.asked post.old) (P.asked post.new)
         (P.trail post.old) (P.trail post.new) }
     ensures calls { P.calls post.old ≤ P.calls post.new + 2 }
     ensures takes { (e : AnEvent) → P.takes post.old e → P.takes post.new e }
     ensures same { (p : P) → P.same p post.old → P.same p post.new }
 {
     match post.draft(copy) {
-        Drafted::Idle => 0,
-        Drafted::Wide { commands: _ } => runs_by(post.ask(&Event::Step(copy))),
-        Drafted::Draft(draft) => match post.commit(draft.run()) {
-            Committed::Ran { repaired: _ } => 1,
-            Committed::Stale { held: _, now: _ } => 0,
+        Draw::Idle => Turned { ran: 0, idle: true },
+        Draw::Wide { commands: _ } => Turned {
+            ran: runs_by(post.ask(&Event::Step(copy))),
+            idle: false,
+        },
+        Draw::Draft => match post.commit() {
+            Committed::Ran { repaired: _ } => Turned {
+                ran: 1,
+                idle: false,
+            },
+            Committed::Stale { held: _, now: _ } => Turned {
+                ran: 0,
+                idle: false,
+            },
         },
     }
 }
 
 /// Runs one copy of a mirror, turn by turn, until it has run as many ticks as the match has or the
-/// budget is spent. Each turn passes the gate and asks the post for the copy's due tick. A draft is
-/// executed away from the mirror and given back; where the tick has too many commands for one, the
+/// budget is spent. Each turn passes the gate and asks the post for the copy's due tick, once one
+/// seems to be due. A draft is executed away from the mirror and given back; where the tick has too many commands for one, the
 /// copy's step is asked; where no tick is due, nothing is. It takes no memory. It may wait where
 /// the post or the gate does.
 pub fn run_copy<G: Game, P: DraftPost<G>, Q: Gate>(post: &mut P, gate: &Q, job: CopyJob) -> CopyEnd
@@ -61,9 +79,10 @@ pub fn run_copy<G: Game, P: DraftPost<G>, Q: Gate>(post: &mut P, gate: &Q, job: 
     let mut rest = Rest::new();
     'turns: while end.ran < job.length && end.turns < job.budget {
         gate.pass(job.mirror, job.copy, end.turns);
-        let ran = run_turn::<G, P>(post, job.copy);
-        rest.after(ran == 0);
-        end.ran += ran;
+        rest.until_due::<G, P>(post, job.copy);
+        let turn = run_turn::<G, P>(post, job.copy);
+        rest.after(turn.idle);
+        end.ran += turn.ran;
         end.turns += 1;
     }
     end

@@ -1,46 +1,70 @@
 //! Whom a copy's worker asks.
 
-ghost use Rattle.std.specs.Prelude.{◌≡◌, ℕ, ◌+◌, ◌<◌, [], ◌∷◌, ◌++◌, Option, Some};
+ghost use Rattle.std.specs.Prelude.{◌≡◌, ℕ, ◌+◌, ◌<◌, [], ◌∷◌, ◌++◌, Option, Some, None};
 ghost use Rattle.game_trait.specs.declared.event.Event.{Event as AnEvent};
 ghost use Rattle.game_trait.specs.declared.event.Event.TheVariants.{Step};
 
 use crate::post::Post;
 use game_trait::Game;
-use mirror_core::{Committed, Drafted, Ready};
+use mirror_core::Committed;
 
-/// A post that lets ticks be executed away from its mirror: it gives a copy's due tick as a draft,
-/// and takes it back once it is executed.
+/// What a post answers where a copy's due tick is asked for.
+#[derive(Clone, Copy, Debug, PartialEq, Eq)]
+pub enum Draw {
+    /// The tick lies at the post as a draft.
+    Draft,
+    /// No tick of the copy is due.
+    Idle,
+    /// So many commands are due at the copy's clock, more than a draft has.
+    Wide {
+        /// How many.
+        commands: u32,
+    },
+}
+
+/// A post that lets ticks be executed away from its mirror: it takes a copy's due tick out as a
+/// draft, and gives it back once it is executed. The draft lies at the post meanwhile, so that no
+/// world is handed about.
 pub trait DraftPost<G: Game>: Post {
-    ghost use Rattle.sync_model.specs.Drafts.{DraftTick, ready_of};
-    ghost use Rattle.copy_workers.specs.Trail.{draft_in, draft_mark, commit_mark, commit_asked};
-    ghost use Rattle.mirror_core.specs.Drafts.{IfDraft};
+    ghost use Rattle.sync_model.specs.Drafts.{DraftTick};
+    ghost use Rattle.copy_workers.specs.Trail.{IsDrawn, draw_mark, commit_mark, commit_asked};
 
-    /// The draft that the last call answered, and none where it answered none.
+    /// The draft that the last call answered, which lies at the post, and none where it answered
+    /// none.
     ghost drawn: { Self → Option (DraftTick G) };
 
-    /// Asks for the copy's due tick. It asks no event, and uses up a call. It may wait.
-    fn draft(&mut self, copy: u8) -> Drafted<G>
+    /// Takes out the copy's due tick. It asks no event, and uses up a call. It may wait.
+    fn draft(&mut self, copy: u8) -> Draw
         requires takes { Self.takes self.old (Step copy) }
         requires calls { 0 < Self.calls self.old }
-        ensures copy { IfDraft result (λ d. d.copy ≡ copy) }
-        ensures drawn { drawn self.new ≡ draft_in result }
-        ensures trail { Self.trail self.new ≡ Self.trail self.old ++ draft_mark copy result ∷ [] }
+        ensures drawn { IsDrawn copy result (drawn self.new) }
+        ensures trail { Self.trail self.new ≡ Self.trail self.old ++ draw_mark copy result ∷ [] }
         ensures asked { Self.asked self.new ≡ Self.asked self.old }
         ensures calls { Self.calls self.new + 1 ≡ Self.calls self.old }
         ensures grows { Self.grows self.new ≡ Self.grows self.old }
         ensures takes { (e : AnEvent) → Self.takes self.old e → Self.takes self.new e }
         ensures same { (p : Self) → Self.same p self.old → Self.same p self.new };
 
-    /// Gives back the draft that the last call answered, executed. Where it is still due, that
-    /// counts as the copy's step, asked and answered. It uses up a call. It may wait.
-    fn commit(&mut self, r: Ready<G>) -> Committed
-        requires drawn { (d : DraftTick G) × (drawn self.old ≡ Some d) × (r ≡ ready_of G.rules d) }
+    /// Executes the draft that lies at the post, away from the mirror, and gives it back. Where it
+    /// is still due, that counts as the copy's step, asked and answered. It uses up a call, and
+    /// leaves no draft at the post. It may wait.
+    fn commit(&mut self) -> Committed
+        requires drawn { (d : DraftTick G) × (drawn self.old ≡ Some d) }
         requires calls { 0 < Self.calls self.old }
-        ensures trail { Self.trail self.new
-            ≡ Self.trail self.old ++ commit_mark r.copy result ∷ [] }
-        ensures asked { Self.asked self.new ≡ Self.asked self.old ++ commit_asked r.copy result }
+        ensures trail { (d : DraftTick G) → drawn self.old ≡ Some d
+            → Self.trail self.new ≡ Self.trail self.old ++ commit_mark d.copy result ∷ [] }
+        ensures asked { (d : DraftTick G) → drawn self.old ≡ Some d
+            → Self.asked self.new ≡ Self.asked self.old ++ commit_asked d.copy result }
         ensures calls { Self.calls self.new + 1 ≡ Self.calls self.old }
         ensures grows { Self.grows self.new ≡ Self.grows self.old }
         ensures takes { (e : AnEvent) → Self.takes self.old e → Self.takes self.new e }
-        ensures same { (p : Self) → Self.same p self.old → Self.same p self.new };
+        ensures same { (p : Self) → Self.same p self.old → Self.same p self.new }
+        ensures left { drawn self.new ≡ None };
+
+    /// Whether a tick of the copy seems to be due. It is a guess that nothing is proved of: it asks
+    /// nothing, and uses up no call.
+    fn seems_due(&self, copy: u8) -> bool;
+
+    /// Where no draft is at the post, its last call answered none.
+    ghost laws: { (p : Self) → Self.bare p → drawn p ≡ None };
 }

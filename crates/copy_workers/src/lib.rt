@@ -17,7 +17,7 @@ mod sends;
 
 pub use copy_job::{CopyEnd, CopyJob};
 pub use copy_worker::run_copy;
-pub use draft_post::DraftPost;
+pub use draft_post::{DraftPost, Draw};
 pub use feeder::run_feeder;
 pub use feeder_job::{FeederEnd, FeederJob};
 pub use gate::{Gate, OpenGate};

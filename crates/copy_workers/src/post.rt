@@ -53,9 +53,11 @@ pub trait Post {
     /// Two values of one post: what tells it from other posts is the same. No call makes it another
     /// one.
     ghost same: { Self → Self → Type 0 };
+    /// No draft of a tick is at the post: its last call answered none.
+    ghost bare: { Self → Type 0 };
 
     /// Asks one event, and answers in its kind. It uses up a call, and an arrival one of the
-    /// arrivals. It may wait.
+    /// arrivals, and leaves no draft at the post. It may wait.
     fn ask(&mut self, event: &Event) -> Reply
         requires takes { takes self.old event.now }
         requires calls { 0 < calls self.old }
@@ -66,5 +68,6 @@ pub trait Post {
         ensures calls { calls self.new + 1 ≡ calls self.old }
         ensures grows { grows self.new + cond (is_arrival event.now) 1 0 ≡ grows self.old }
         ensures takes { (e : AnEvent) → takes self.old e → takes self.new e }
-        ensures same { (p : Self) → same p self.old → same p self.new };
+        ensures same { (p : Self) → same p self.old → same p self.new }
+        ensures bare { bare self.new };
 }

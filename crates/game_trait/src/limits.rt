@@ -59,5 +59,15 @@ pub const LONGEST_RECORD_TEXT: usize = 33_554_432;
 /// How many events a log of a record has at most.
 pub const MOST_LOGGED_EVENTS: usize = 131_072;
 
+/// How long a lossy text may be, in bytes: a match, and what a net does with its commands.
+pub const LONGEST_LOSSY_TEXT: usize = 16_777_216;
+
+/// How many lines of the net a lossy text has at most.
+pub const MOST_NET_LINES: usize = 262_144;
+
+/// The greatest number that a line of the net gives, of a command, of a packet or of packets that
+/// were heard of.
+pub const GREATEST_NET_NUMBER: u32 = 999_999;
+
 /// How many arrivals, and how many changes of the plan, a mirror may have room for.
 pub const MOST_ROOM: u32 = 1_048_576;

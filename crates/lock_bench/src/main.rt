@@ -40,10 +40,9 @@ impl Held for Counter {
         false
     }
 
-    fn answer(&mut self, call: &u64) -> u64 {
-        let before = self.count;
-        self.count = before.wrapping_add(*call);
-        before
+    fn answer(&mut self, call: &u64, reply: &mut u64) {
+        *reply = self.count;
+        self.count = (*reply).wrapping_add(*call);
     }
 
     ghost laws = { record { stays = λ v p q f g. tt; spends = λ v q f. Prim.omega arith } };
@@ -54,8 +53,10 @@ fn add_all<R: Wait>(rt: &R, lock: &TurnLock<Counter>, mut seat: TurnSeat<Counter
     requires { seat.seat.table_id ≡ lock.now.table.shared.table_id }
 {
     let mut greatest = 0;
+    let mut reply = 0;
     'adding: while seat.calls_left() > 0 {
-        greatest = lock.call(rt, &mut seat, &1).max(greatest);
+        lock.call(rt, &mut seat, &1, &mut reply);
+        greatest = reply.max(greatest);
     }
     greatest
 }

@@ -18,7 +18,7 @@ use Rattle.tss_io.specs.declared.fault.LineFault.TheVariants as line_faults
 use Rattle.tss_io.specs.Lines.{Lines, torn, line, lines_of, text_of, lines_text, as_line}
 use Rattle.tss_io.specs.Reading.{Gives, refused_at, Fails, FailsAt, fault_at}
 use Rattle.tss_io.specs.Results.{◌>>=◌}
-use Rattle.tss_io.specs.Runs.{Stop, is_end, ended, ahead, FirstFault}
+use Rattle.tss_io.specs.Runs.{Stop, stopped, is_end, ended, ahead, FirstFault}
 use Rattle.tss_io.proofs.Results.{then, guard_then, unless_then}
 use Rattle.tss_io.proofs.LineLaws.{text_of-lines_of}
 use Rattle.tss_io.proofs.Spaced.{Lacks, lines_of-line}
@@ -39,8 +39,10 @@ use Rattle.match_file.specs.declared.cell.Cell.{Cell}
 use Rattle.match_file.specs.Text.{head_line, number_line, grid_line, delays_line, player_lines, script_lines, plan_line, wall_line, pickup_line, walls_of, match_lines, match_text}
 use Rattle.match_file.proofs.ReadLaws.{match_takes, match_again, all_lack}
 use Rattle.match_file.proofs.ReadIsMatch.{is_match_of, walls_within, walls_rising}
-use Rattle.match_file.proofs.MatchIsRead.{opening_of, body_of, is_read, match_is}
-use Rattle.match_file.proofs.FaultLaws.{text_first, first_of_stop, match_first}
+use Rattle.match_file.proofs.MatchIsRead.{opening_of, body_of, is_read, match_is as made_again}
+use Rattle.tss_io.proofs.MachineLaws.{in_text, run_first}
+use Rattle.match_file.specs.Reading.{At, in_body}
+use Rattle.match_file.proofs.AtLaws.{at_exact, match_is}
 use Rattle.match_file.proofs.TextLength.{read_length}
 use Rattle.match_file.proofs.WallLaws.{walled_width, walled_height, walls_again}
 
@@ -77,9 +79,6 @@ read_lines o b read =
     let closing : script_lines b.script ++ codes "end" ∷ [] ≡ closing_lines b.stage b.script = sym (closing_said b.stage b.script read.ended) in
     λ i. lines_with o b (wide i) (high i) (walls i) (homes i) (closing i)
 
-pub read_text_is : (o : Opening) (b : Body) → IsRead o b → match_text (match_of o b) ≡ text_of (ahead (front_lines o ++ body_lines b) (torn []))
-read_text_is o b read = ap lines_text (read_lines o b read) ∙ sym (text_of-ahead (front_lines o ++ body_lines b))
-
 -- ---- what is read
 
 same_match : (x y : MatchData × Stop (Unit {0})) → ◌≡◌ {A = Result (MatchData × Stop (Unit {0})) Refused} (Ok x) (Ok y) → x ≡ y
@@ -109,15 +108,15 @@ match_found n lines x e = through _ _ _ e (λ (y : Opening × Stop Body) y_is e.
       number = t.number ∙ ap (λ (ls : List (List ℕ)). n + length ls) (sym said);
     }))
 
-match_said : (m : MatchData) → IsMatch m → match_lines m ≡ front_lines (opening_of m) ++ body_lines (body_of m)
-match_said m is = ap match_lines (sym (match_is m is)) ∙ read_lines (opening_of m) (body_of m) (is_read m is)
+pub match_said : (m : MatchData) → IsMatch m → match_lines m ≡ front_lines (opening_of m) ++ body_lines (body_of m)
+match_said m is = ap match_lines (sym (made_again m is)) ∙ read_lines (opening_of m) (body_of m) (is_read m is)
 
 -- the lines of a match are read as it, whatever stands behind them
 pub match_reads : (n : ℕ) (m : MatchData) (rest : Lines) → IsMatch m → read_match n (ahead (match_lines m) rest) ≡ Ok (m, record { state = tt; next = n + 6 + length (body_lines (body_of m)); rest = rest })
 unfolding read_match
 match_reads n m rest is =
     rw (match_said m is)
-    (then _ _ _ _ (match_again n (opening_of m) (body_of m) rest (is_read m is)) (ap (λ (k : MatchData). Ok (k, record { state = tt; next = n + 6 + length (body_lines (body_of m)); rest = rest })) (match_is m is)))
+    (then _ _ _ _ (match_again n (opening_of m) (body_of m) rest (is_read m is)) (ap (λ (k : MatchData). Ok (k, record { state = tt; next = n + 6 + length (body_lines (body_of m)); rest = rest })) (made_again m is)))
 
 -- lines without newlines, in front of a text
 front_lines_of : (lines : List (List ℕ)) (rest : List ℕ) → AllByRecursion (Lacks 10) lines → lines_of (lines_text lines ++ rest) ≡ ahead lines (lines_of rest)
@@ -171,24 +170,15 @@ data_of x = Ok x.0
 abbrev matched : Opening × Stop Body → Result (MatchData × Stop (Unit {0})) Refused
 matched x = Ok (as_match x)
 
-ended_some : (r : Result (Unit {0}) Refused) (x : MatchData × Stop (Unit {0})) (refused : Refused) → (r >>= λ _. data_of x) ≡ Err refused → r ≡ Err refused
-ended_some (Ok u) x refused e = absurd cc
-ended_some (Err c) x refused e = cc
-
-ended_either : (x : MatchData × Stop (Unit {0})) (refused : Refused) → (ended x.1 >>= λ _. data_of x) ≡ Err refused → ended x.1 ≡ Err refused
-ended_either x refused e = ended_some (ended x.1) x refused e
-
-end_either : (b : Bool) (x : Opening × Stop Body) (refused : Refused) → cond {A = Result (Unit {0}) Refused} b (Ok tt) (Err (refused_at x.1.next End)) ≡ Err refused → cond {A = Result Body Refused} b (Ok x.1.state) (Err (refused_at x.1.next End)) ≡ Err refused
-end_either true x refused e = absurd cc
-end_either false x refused e = cc
-
-ended_first : (r : Result (MatchData × Stop (Unit {0})) Refused) (refused : Refused) → (r >>= λ (x : MatchData × Stop (Unit {0})). ended x.1 >>= λ _. data_of x) ≡ Err refused → (r >>= λ (x : MatchData × Stop (Unit {0})). ended x.1) ≡ Err refused
-ended_first (Ok x) refused e = ended_either x refused e
-ended_first (Err c) refused e = cc
-
-parts_first : (r : Result (Opening × Stop Body) Refused) (refused : Refused) → ((r >>= λ (x : Opening × Stop Body). matched x) >>= λ (y : MatchData × Stop (Unit {0})). ended y.1) ≡ Err refused → (r >>= λ (x : Opening × Stop Body). ended x.1) ≡ Err refused
-parts_first (Ok x) refused e = end_either (is_end x.1.rest) x refused e
-parts_first (Err c) refused e = cc
+-- where a text is refused, its machine is
+same_err : (r : Result (Opening × Stop Body) Refused) (refused : Refused) → ((r >>= λ (x : Opening × Stop Body). matched x) >>= λ (x : MatchData × Stop (Unit {0})). ended x.1 >>= λ _. data_of x) ≡ Err refused
+    → ((r >>= λ (x : Opening × Stop Body). Ok (stopped (in_body x.0 x.1.state) x.1.next x.1.rest)) >>= ended) ≡ Err refused
+same_err (Ok x) refused e = end_err (is_end x.1.rest) (refused_at x.1.next End) refused x.0 x.1.state e
+  where
+    end_err : (b : Bool) (c refused : Refused) (o : Opening) (s : Body) → (cond {A = Result (Unit {0}) Refused} b (Ok tt) (Err c) >>= λ _. Ok (match_of o s)) ≡ Err refused → cond {A = Result At Refused} b (Ok (in_body o s)) (Err c) ≡ Err refused
+    end_err true c refused o s e = absurd cc
+    end_err false c refused o s e = cc
+same_err (Err c) refused e = cc
 
 pub refused_first : (text : List ℕ) (r : Result MatchData TextFault) → Gives (λ m. m) r (read_text text) → IfErr r (IsFirst text)
 unfolding read_text read_match
@@ -197,7 +187,7 @@ refused_first text (Err text_faults.NoMemory) h = tt
 refused_first text (Err (text_faults.Refused refused)) h =
     either (ltb LONGEST_MATCH_TEXT (length text)) _ _ _
     (λ long e. inl (ltb-true _ _ long, same_refusal _ _ e))
-    (λ short e. inr (ltb-false _ _ short, first_of_stop 1 (lines_of text) refused (text_first 1 (lines_of text) refused (parts_first (match_at 1 (lines_of text)) refused (ended_first _ refused e))))) h
+    (λ short e. inr (ltb-false _ _ short, run_first (in_text at_exact) 1 head_due (lines_of text) refused tt (ap (λ (r : Result (Stop At) Refused). r >>= ended) (match_is 1 (lines_of text)) ∙ same_err (match_at 1 (lines_of text)) refused e))) h
 
 -- ---- a match inside a longer text
 
@@ -226,13 +216,14 @@ left_behind text start front rest e =
     let place : length text - length rest ≡ length (take start text ++ front) = omega (arith, long) in
     rw place (subst (λ (t : List ℕ). drop (length (take start text ++ front)) t ≡ rest) (sym whole) (drop-append_seam (take start text ++ front) rest))
 
-matched_fails : (r : Result (Opening × Stop Body) Refused) (refused : Refused) → (r >>= λ (x : Opening × Stop Body). matched x) ≡ Err refused → r ≡ Err refused
-matched_fails (Ok x) refused e = absurd cc
-matched_fails (Err c) refused e = cc
+match_err : (r : Result (Opening × Stop Body) Refused) (refused : Refused) → (r >>= λ (x : Opening × Stop Body). matched x) ≡ Err refused
+    → ((r >>= λ (x : Opening × Stop Body). Ok (stopped (in_body x.0 x.1.state) x.1.next x.1.rest)) >>= ended) ≡ Err refused
+match_err (Ok x) refused e = absurd cc
+match_err (Err c) refused e = cc
 
 pub front_refused : (n : ℕ) (lines : Lines) (refused : Refused) → read_match n lines ≡ Err refused → FirstFault take_line checks_of at_last n head_due lines refused
 unfolding read_match
-front_refused n lines refused e = first_of_stop n lines refused (match_first n lines refused (matched_fails (match_at n lines) refused e))
+front_refused n lines refused e = run_first (in_text at_exact) n head_due lines refused tt (ap (λ (r : Result (Stop At) Refused). r >>= ended) (match_is n lines) ∙ match_err (match_at n lines) refused e)
 
 -- the two readings of one text agree
 pub same_reading : (r : Result (MatchData × Stop (Unit {0})) Refused) (x y : MatchData × Stop (Unit {0})) → r ≡ Ok x → r ≡ Ok y → x.0 ≡ y.0

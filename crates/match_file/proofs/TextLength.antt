@@ -1,14 +1,13 @@
 -- Every match's text is within the limit.
-use Rattle.std.proofs.Common.{◌≡◌, ℕ, zero, suc, ◌+◌, ◌*◌, ◌≤◌, List, [], ◌∷◌, ◌++◌, length, map, ap, ◌∙◌, length-append, suc-mul, arith}
+use Rattle.std.proofs.Common.{ℕ, ◌+◌, ◌≤◌, List, [], ◌∷◌, ◌++◌, length, map, ap, ◌∙◌, length-append, arith}
 use Rattle.std.specs.Prelude.{codes}
-use Rattle.std.specs.List.{AllByRecursion}
 use Rattle.std.proofs.lemmas.Bool.{ltb-false}
-use Rattle.std.proofs.lemmas.List.{length-map}
 use Rattle.game_trait.specs.declared.limits.TheConstants.{LONGEST_MATCH_TEXT}
 use Rattle.command_lines.specs.CommandLine.{command_line}
 use Rattle.tss_io.specs.declared.limits.TheConstants.{LONGEST_LINE}
 use Rattle.tss_io.specs.Lines.{as_line, lines_text}
 use Rattle.tss_io.proofs.KindLaws.{line_length, line_short}
+use Rattle.tss_io.proofs.Lengths.{lines_length, section_length}
 use Rattle.tss_io.proofs.Printing.{lines_text-append}
 use Rattle.tss_io.proofs.RunLaws.{each_all}
 use Rattle.match_file.specs.declared.body.Body.{Body}
@@ -23,32 +22,6 @@ use Rattle.match_file.specs.Text.{plan_line, wall_line, pickup_line, script_line
 use Rattle.match_file.proofs.ExactKinds.{IsSmall, short_name, length_exact, grid_exact, mirrors_exact, delays_exact, pace_exact, plan_exact, wall_exact, pickup_exact, player_exact, command_exact, tick_exact, turn_exact, arrive_exact, step_exact, world_exact, run_exact, restagger_exact}
 use Rattle.match_file.proofs.OpeningLaws.{opening_small, head_short}
 use Rattle.match_file.proofs.CountLaws.{counts_of}
-
-abbrev Short : ℕ → List (List ℕ) → Type 0
-Short k lines = AllByRecursion (λ l. length l ≤ k) lines
-
-line_more : (k n a b : ℕ) → a ≤ k → b ≤ n * (k + 1) → a + 1 + b ≤ suc n * (k + 1)
-line_more k n a b le more = omega (arith, suc-mul n (k + 1))
-
-lines_length : (k : ℕ) (lines : List (List ℕ)) → Short k lines → length (lines_text lines) ≤ length lines * (k + 1)
-unfolding lines_text
-lines_length k [] h = omega arith
-lines_length k (l ∷ lines) h =
-    let rest = line_more k (length lines) (length l) (length (lines_text lines)) h.0 (lines_length k lines h.1) in
-    omega (arith, rest, length-append (as_line l) (lines_text lines), length-append l (10 ∷ []))
-
-mul_le : (a b c : ℕ) → a ≤ b → a * c ≤ b * c
-mul_le zero b c le = omega arith
-mul_le (suc a) zero c le = absurd (omega arith)
-mul_le (suc a) (suc b) c le = let h = mul_le a b c (omega (arith, le)) in omega (arith, suc-mul a c, suc-mul b c)
-
--- a section of so many lines, each so short
-section_length : {A : Type 0} (f : A → List ℕ) (xs : List A) (k most : ℕ) → Short k (map f xs) → length xs ≤ most → length (lines_text (map f xs)) ≤ most * (k + 1)
-section_length f xs k most h few =
-    let all = lines_length k (map f xs) h in
-    let same : length (map f xs) ≡ length xs = length-map xs f in
-    let grow = mul_le (length xs) most (k + 1) few in
-    omega (arith, all, ap (λ (n : ℕ). n * (k + 1)) same, grow)
 
 script_short : (o : Opening) → IsSmall o → (plans commands before : _) (x : ScriptLine) → ScriptRight o plans commands before x → length (script_line x) ≤ 17
 unfolding tick_exact turn_exact arrive_exact step_exact world_exact run_exact restagger_exact

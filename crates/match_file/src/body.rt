@@ -5,10 +5,11 @@ ghost use Rattle.game_trait.specs.declared.limits.TheConstants.{MOST_COPIES};
 ghost use Rattle.tss_io.specs.Lines.{lines_of, words_of};
 ghost use Rattle.tss_io.specs.Reading.{GivesLine, Placed};
 ghost use Rattle.tss_io.specs.Kinds.{step};
+ghost use Rattle.tss_io.specs.Machines.{take_words};
 ghost use Rattle.tss_io.specs.Runs.{line_step, run_to, stopped};
 ghost use Rattle.match_file.specs.Kinds.{is_open, is_script, is_ended, is_none, plan_kind, wall_kind, pickup_kind, player_kind, command_kind, tick_kind, turn_kind, arrive_kind, step_kind, world_kind, run_kind, restagger_kind};
 ghost use Rattle.match_file.specs.Sections.{IsOpening};
-ghost use Rattle.match_file.specs.Reading.{by_word, may_open, may_end, take, is_last, no_body};
+ghost use Rattle.match_file.specs.Reading.{body_entries, may_open, may_end, take, is_last, no_body};
 
 use crate::cell::Cell;
 use crate::commands::Commands;
@@ -24,7 +25,7 @@ use game_trait::limits::{GREATEST_NUMBER, LONGEST_DELAY, MOST_PICKUPS, MOST_PLAN
 use game_trait::{MirrorId, Tick};
 use std::alloc::Global;
 use tss_io::words::{front, last, next_line, number, numbers, so_many_words};
-use tss_io::{Cause, LineFault, Seq};
+use tss_io::{Cause, LineFault, Seq, check};
 
 /// How far a text was read.
 #[derive(Clone, Copy, Debug, PartialEq, Eq)]
@@ -114,21 +115,15 @@ impl Body {
         ensures { GivesLine (λ _. self.new) result
             (step (plan_kind opening.now) self.old (words_of words.now)) }
     {
-        if !is_open(self.stage)
-            || !self.walls.is_empty()
-            || !self.pickups.is_empty()
-            || !self.has_no_player()
-        {
-            return Err(LineFault::Refused(Cause::Shape));
-        }
+        let is_due = is_open(self.stage)
+            && self.walls.is_empty()
+            && self.pickups.is_empty()
+            && self.has_no_player();
+        check(is_due, Cause::Shape)?;
         so_many_words(opening.delays.len(), words)?;
-        if self.plans.len() >= MOST_PLANS - 1 {
-            return Err(LineFault::Refused(Cause::Many));
-        }
+        check(self.plans.len() < MOST_PLANS - 1, Cause::Many)?;
         let delays = numbers(alloc, 0, LONGEST_DELAY, words)?;
-        if !rises(delays.as_slice()) {
-            return Err(LineFault::Refused(Cause::Order));
-        }
+        check(rises(delays.as_slice()), Cause::Order)?;
         self.plans.push(delays)?;
         Ok(())
     }
@@ -137,23 +132,18 @@ impl Body {
         ensures { GivesLine (λ _. self.new) result
             (step (wall_kind opening.now) self.old (words_of words.now)) }
     {
-        if !is_open(self.stage) || !self.pickups.is_empty() || !self.has_no_player() {
-            return Err(LineFault::Refused(Cause::Shape));
-        }
+        let is_due = is_open(self.stage) && self.pickups.is_empty() && self.has_no_player();
+        check(is_due, Cause::Shape)?;
         let (x, words) = front(words)?;
         let y = last(words)?;
         let x = number(0, u32::MAX, x)?;
         let y = number(0, u32::MAX, y)?;
-        if !opening.in_grid(x, y) {
-            return Err(LineFault::Refused(Cause::Place));
-        }
+        check(opening.in_grid(x, y), Cause::Place)?;
         let cell = Cell {
             x: x as u8,
             y: y as u8,
         };
-        if !is_behind_all(cell, self.walls.as_slice()) {
-            return Err(LineFault::Refused(Cause::Order));
-        }
+        check(is_behind_all(cell, self.walls.as_slice()), Cause::Order)?;
         self.walls.push(cell)?;
         Ok(())
     }
@@ -162,31 +152,23 @@ impl Body {
         ensures { GivesLine (λ _. self.new) result
             (step (pickup_kind opening.now) self.old (words_of words.now)) }
     {
-        if !is_open(self.stage) || !self.has_no_player() {
-            return Err(LineFault::Refused(Cause::Shape));
-        }
+        check(is_open(self.stage) && self.has_no_player(), Cause::Shape)?;
         let (x, words) = front(words)?;
         let (y, words) = front(words)?;
         let kind = kind_of(last(words)?)?;
-        if self.pickups.len() >= MOST_PICKUPS {
-            return Err(LineFault::Refused(Cause::Many));
-        }
+        check(self.pickups.len() < MOST_PICKUPS, Cause::Many)?;
         let x = number(0, u32::MAX, x)?;
         let y = number(0, u32::MAX, y)?;
-        if !opening.in_grid(x, y) {
-            return Err(LineFault::Refused(Cause::Place));
-        }
+        check(opening.in_grid(x, y), Cause::Place)?;
         let pickup = PickupSpot {
             x: x as u8,
             y: y as u8,
             kind,
         };
-        if has_wall(pickup.x, pickup.y, self.walls.as_slice()) {
-            return Err(LineFault::Refused(Cause::Place));
-        }
-        if has_pickup(pickup.x, pickup.y, self.pickups.as_slice()) {
-            return Err(LineFault::Refused(Cause::Place));
-        }
+        let walls = self.walls.as_slice();
+        let pickups = self.pickups.as_slice();
+        check(!has_wall(pickup.x, pickup.y, walls), Cause::Place)?;
+        check(!has_pickup(pickup.x, pickup.y, pickups), Cause::Place)?;
         self.pickups.push(pickup)?;
         Ok(())
     }
@@ -200,41 +182,30 @@ impl Body {
         ensures { GivesLine (λ _. self.new) result
             (step (player_kind opening.now) self.old (words_of words.now)) }
     {
-        if !is_open(self.stage) || self.commands.len() > 0 {
-            return Err(LineFault::Refused(Cause::Shape));
-        }
+        let is_due = is_open(self.stage) && self.commands.len() == 0;
+        check(is_due, Cause::Shape)?;
         let (name, words) = front(words)?;
         let (x, words) = front(words)?;
         let (y, words) = front(words)?;
         let face = face_of(last(words)?)?;
-        if self.players.len() >= most_players(opening.version) {
-            return Err(LineFault::Refused(Cause::Many));
-        }
+        let most = most_players(opening.version);
+        check(self.players.len() < most, Cause::Many)?;
         let x = number(0, u32::MAX, x)?;
         let y = number(0, u32::MAX, y)?;
-        if !is_name(name) {
-            return Err(LineFault::Refused(Cause::Name));
-        }
-        if has_name(name, self.players.as_slice()) {
-            return Err(LineFault::Refused(Cause::Name));
-        }
-        if !opening.in_grid(x, y) {
-            return Err(LineFault::Refused(Cause::Place));
-        }
+        check(is_name(name), Cause::Name)?;
+        check(!has_name(name, self.players.as_slice()), Cause::Name)?;
+        check(opening.in_grid(x, y), Cause::Place)?;
         let home = Spot {
             x: x as u8,
             y: y as u8,
             face,
         };
-        if has_wall(home.x, home.y, self.walls.as_slice()) {
-            return Err(LineFault::Refused(Cause::Place));
-        }
-        if has_pickup(home.x, home.y, self.pickups.as_slice()) {
-            return Err(LineFault::Refused(Cause::Place));
-        }
-        if has_home(home.x, home.y, self.players.as_slice()) {
-            return Err(LineFault::Refused(Cause::Place));
-        }
+        let walls = self.walls.as_slice();
+        let pickups = self.pickups.as_slice();
+        let players = self.players.as_slice();
+        check(!has_wall(home.x, home.y, walls), Cause::Place)?;
+        check(!has_pickup(home.x, home.y, pickups), Cause::Place)?;
+        check(!has_home(home.x, home.y, players), Cause::Place)?;
         let name = Seq::of(name.to_vec(alloc)?);
         self.players.push(Player { name, home })?;
         Ok(())
@@ -244,20 +215,15 @@ impl Body {
         ensures { GivesLine (λ _. self.new) result
             (step (command_kind opening.now) self.old (words_of words.now)) }
     {
-        if !self.may_open() {
-            return Err(LineFault::Refused(Cause::Shape));
-        }
+        check(self.may_open(), Cause::Shape)?;
         let words = CommandWords::of(opening.version, words)?;
-        if self.commands.len() >= most_commands(opening.version) {
-            return Err(LineFault::Refused(Cause::Many));
-        }
+        let most = most_commands(opening.version);
+        check(self.commands.len() < most, Cause::Many)?;
         let command = words.read(opening.ranges())?;
-        if usize::from(command.player) >= self.players.len() {
-            return Err(LineFault::Refused(Cause::Name));
-        }
-        if self.commands.has(command.from, command.number) {
-            return Err(LineFault::Refused(Cause::Name));
-        }
+        let player = usize::from(command.player);
+        check(player < self.players.len(), Cause::Name)?;
+        let is_named = self.commands.has(command.from, command.number);
+        check(!is_named, Cause::Name)?;
         self.commands.push(&command)?;
         Ok(())
     }
@@ -277,7 +243,7 @@ impl Body {
     }
 
     // A line of the kind that its first word names.
-    #[tactic(auto, unfolding(crate::specs::Reading::by_word))]
+    #[tactic(auto, unfolding(tss_io::specs::Machines::take_words, crate::specs::Reading::body_entries))]
     fn take_words(
         &mut self,
         alloc: Global,
@@ -287,7 +253,7 @@ impl Body {
     ) -> Result<(), LineFault>
         requires { length opening.now.delays ≤ MOST_COPIES }
         ensures { GivesLine (λ _. self.new) result
-            (by_word opening.now self.old word.now (words_of words.now)) }
+            (take_words (body_entries opening.now) self.old word.now (words_of words.now)) }
     {
         if word == b"arrive".as_slice() {
             self.take_arrive(opening, words)
@@ -319,22 +285,18 @@ impl Body {
     }
 
     // A line of the body.
-    #[tactic(auto, unfolding(crate::specs::Reading::take))]
+    #[tactic(auto, unfolding(tss_io::specs::Machines::take_by, tss_io::specs::Machines::take_whole))]
     fn take(&mut self, alloc: Global, opening: &Opening, line: &[u8]) -> Result<(), LineFault>
         requires { length opening.now.delays ≤ MOST_COPIES }
         ensures { GivesLine (λ _. self.new) result (take opening.now self.old line.now) }
     {
         if line == b"script".as_slice() {
-            if !self.may_open() {
-                return Err(LineFault::Refused(Cause::Shape));
-            }
+            check(self.may_open(), Cause::Shape)?;
             self.stage = Stage::InScript;
             return Ok(());
         }
         if line == b"end".as_slice() {
-            if !self.may_end() {
-                return Err(LineFault::Refused(Cause::Shape));
-            }
+            check(self.may_end(), Cause::Shape)?;
             self.stage = Stage::Ended;
             return Ok(());
         }

@@ -17,7 +17,7 @@ use game_trait::limits::{
 use game_trait::{MirrorId, Tick};
 use std::alloc::Global;
 use tss_io::words::{count, each_word, front, keyword_line, last, next_line, number, numbers};
-use tss_io::{Cause, LineFault, Seq};
+use tss_io::{Cause, LineFault, Seq, check};
 
 /// What the lines up to the pace say.
 #[derive(Drop)]
@@ -153,13 +153,9 @@ fn delays_line(alloc: Global, text: &[u8]) -> Result<(Seq<Tick>, &[u8]), LineFau
 {
     let (words, rest) = keyword_line(b"delays", text)?;
     each_word(words)?;
-    if count(words) > MOST_COPIES {
-        return Err(LineFault::Refused(Cause::Many));
-    }
+    check(count(words) <= MOST_COPIES, Cause::Many)?;
     let delays = numbers(alloc, 0, LONGEST_DELAY, words)?;
-    if !rises(delays.as_slice()) {
-        return Err(LineFault::Refused(Cause::Order));
-    }
+    check(rises(delays.as_slice()), Cause::Order)?;
     Ok((delays, rest))
 }
 

@@ -3,7 +3,7 @@
 ghost use Rattle.std.specs.Prelude.{◌≡◌, ◌≤◌, ◌<◌, ◌+◌, ◌++◌, ◌^◌, ℕ, List, length, IfOk, IfErr, OnErr, Ok};
 ghost use Rattle.tss_io.specs.Lines.{lines_of};
 ghost use Rattle.tss_io.specs.Reading.{Fails, Gives, GivesLine, Placed};
-ghost use Rattle.tss_io.specs.Runs.{is_end, stopped, ended};
+ghost use Rattle.tss_io.specs.Runs.{stopped, ended};
 ghost use Rattle.tss_io.specs.Walks.{left_of};
 ghost use Rattle.match_file.specs.Data.{MatchData, IsMatch};
 ghost use Rattle.match_file.specs.Reading.{match_at, read_text, read_match, IsFirst, IsFirstAt};
@@ -15,7 +15,7 @@ use crate::opening::{Opening, read_opening};
 use crate::parts::match_of;
 use game_trait::limits::LONGEST_MATCH_TEXT;
 use std::alloc::Global;
-use tss_io::{Cause, LineFault, Lines, TextFault};
+use tss_io::{Cause, LineFault, Lines, TextFault, at_end, check};
 
 // What the lines of a match text say, from this place on, and the text behind them. The number of
 // the line that is read is kept in `line`, which has the first one's.
@@ -36,16 +36,12 @@ fn read_parts<'a>(
     Ok((opening, body, rest))
 }
 
-// Whether no byte is left.
-fn at_end(text: &[u8]) -> bool
-    ensures { result ≡ is_end (lines_of text.now) }
-{
-    text.is_empty()
-}
-
-// The match from this place on, and the text behind it.
+/// Reads a match whose lines stand at the front of a longer text, and answers the text behind its
+/// `end` line. The number of the line that is read is kept in `line`, which has the first one's, at
+/// most 4,000,000,000: on `Ok` it is that of the line behind the match, on `Refused` that of the
+/// match's first faulty line. `NoMemory` says nothing of the text.
 #[tactic(auto, unfolding(crate::specs::Reading::read_match))]
-fn read_front<'a>(
+pub fn read_match_front<'a>(
     alloc: Global,
     line: &mut u32,
     text: &'a [u8],
@@ -54,6 +50,8 @@ fn read_front<'a>(
     ensures read { Placed (λ x. (x.0, stopped tt line.new (lines_of x.1.now))) line.new result
         (read_match line.old (lines_of text.now)) }
     ensures shorter { IfOk result (λ x. length x.1.now ≤ length text.now) }
+    ensures counted { IfOk result
+        (λ x. line.new + length x.1.now ≤ line.old + length text.now) }
 {
     let (opening, body, rest) = read_parts(alloc, line, text)?;
     let read = match_of(alloc, opening, body)?;
@@ -66,14 +64,10 @@ fn read_whole(alloc: Global, line: &mut u32, text: &[u8]) -> Result<Match, LineF
     ensures { Placed (λ m. m) line.new result (read_text text.now) }
 {
     *line = 0;
-    if text.len() > LONGEST_MATCH_TEXT {
-        return Err(LineFault::Refused(Cause::Long));
-    }
+    check(text.len() <= LONGEST_MATCH_TEXT, Cause::Long)?;
     *line = 1;
-    let (read, rest) = read_front(alloc, line, text)?;
-    if !at_end(rest) {
-        return Err(LineFault::Refused(Cause::End));
-    }
+    let (read, rest) = read_match_front(alloc, line, text)?;
+    check(at_end(rest), Cause::End)?;
     Ok(read)
 }
 
@@ -128,7 +122,7 @@ pub fn read_match_at(alloc: Global, lines: &mut Lines, first: u32) -> Result<Mat
 {
     let rest = lines.rest();
     let mut line = first;
-    match read_front(alloc, &mut line, rest) {
+    match read_match_front(alloc, &mut line, rest) {
         Ok((read, rest)) => {
             lines.leave(rest.len());
             Ok(read)

@@ -14,7 +14,7 @@ use crate::script_line::ScriptLine;
 use game_trait::MirrorId;
 use game_trait::limits::{GREATEST_NUMBER, MOST_PLANS};
 use tss_io::words::{front, last, number};
-use tss_io::{Cause, LineFault};
+use tss_io::{Cause, LineFault, check};
 
 // The mirror that the word names.
 fn mirror_of(opening: &Opening, word: &[u8]) -> Result<MirrorId, Cause>
@@ -38,13 +38,9 @@ impl Body {
         ensures { GivesLine (λ _. self.new) result
             (step (tick_kind opening.now) self.old (words_of words.now)) }
     {
-        if !is_script(self.stage) {
-            return Err(LineFault::Refused(Cause::Shape));
-        }
+        check(is_script(self.stage), Cause::Shape)?;
         let mirror = last(words)?;
-        if !self.script.has_room() {
-            return Err(LineFault::Refused(Cause::Many));
-        }
+        check(self.script.has_room(), Cause::Many)?;
         let mirror = mirror_of(opening, mirror)?;
         self.script.push(ScriptLine::Tick { mirror })?;
         Ok(())
@@ -56,13 +52,9 @@ impl Body {
         ensures { GivesLine (λ _. self.new) result
             (step (turn_kind opening.now) self.old (words_of words.now)) }
     {
-        if !is_script(self.stage) {
-            return Err(LineFault::Refused(Cause::Shape));
-        }
+        check(is_script(self.stage), Cause::Shape)?;
         let mirror = last(words)?;
-        if !self.script.has_room() {
-            return Err(LineFault::Refused(Cause::Many));
-        }
+        check(self.script.has_room(), Cause::Many)?;
         let mirror = mirror_of(opening, mirror)?;
         self.script.push(ScriptLine::Turn { mirror })?;
         Ok(())
@@ -74,21 +66,15 @@ impl Body {
         ensures { GivesLine (λ _. self.new) result
             (step (arrive_kind opening.now) self.old (words_of words.now)) }
     {
-        if !is_script(self.stage) {
-            return Err(LineFault::Refused(Cause::Shape));
-        }
+        check(is_script(self.stage), Cause::Shape)?;
         let (mirror, words) = front(words)?;
         let (from, words) = front(words)?;
         let name = last(words)?;
-        if !self.script.has_room() {
-            return Err(LineFault::Refused(Cause::Many));
-        }
+        check(self.script.has_room(), Cause::Many)?;
         let mirror = mirror_of(opening, mirror)?;
         let from = mirror_of(opening, from)?;
         let number = number(0, GREATEST_NUMBER, name)?;
-        if !self.commands.has(from, number) {
-            return Err(LineFault::Refused(Cause::Name));
-        }
+        check(self.commands.has(from, number), Cause::Name)?;
         self.script.push(ScriptLine::Arrive {
             mirror,
             from,
@@ -104,14 +90,10 @@ impl Body {
         ensures { GivesLine (λ _. self.new) result
             (step (step_kind opening.now) self.old (words_of words.now)) }
     {
-        if !is_script(self.stage) {
-            return Err(LineFault::Refused(Cause::Shape));
-        }
+        check(is_script(self.stage), Cause::Shape)?;
         let (mirror, words) = front(words)?;
         let copy = last(words)?;
-        if !self.script.has_room() {
-            return Err(LineFault::Refused(Cause::Many));
-        }
+        check(self.script.has_room(), Cause::Many)?;
         let mirror = mirror_of(opening, mirror)?;
         let copy = copy_of(opening, copy)?;
         self.script.push(ScriptLine::Step { mirror, copy })?;
@@ -125,14 +107,10 @@ impl Body {
         ensures { GivesLine (λ _. self.new) result
             (step (world_kind opening.now) self.old (words_of words.now)) }
     {
-        if !is_script(self.stage) {
-            return Err(LineFault::Refused(Cause::Shape));
-        }
+        check(is_script(self.stage), Cause::Shape)?;
         let (mirror, words) = front(words)?;
         let copy = last(words)?;
-        if !self.script.has_showing_room() {
-            return Err(LineFault::Refused(Cause::Many));
-        }
+        check(self.script.has_showing_room(), Cause::Many)?;
         let mirror = mirror_of(opening, mirror)?;
         let copy = copy_of(opening, copy)?;
         self.script.push(ScriptLine::World { mirror, copy })?;
@@ -146,14 +124,10 @@ impl Body {
         ensures { GivesLine (λ _. self.new) result
             (step (run_kind opening.now) self.old (words_of words.now)) }
     {
-        if !is_script(self.stage) {
-            return Err(LineFault::Refused(Cause::Shape));
-        }
+        check(is_script(self.stage), Cause::Shape)?;
         let (mirror, words) = front(words)?;
         let copy = last(words)?;
-        if !self.script.has_showing_room() {
-            return Err(LineFault::Refused(Cause::Many));
-        }
+        check(self.script.has_showing_room(), Cause::Many)?;
         let mirror = mirror_of(opening, mirror)?;
         let copy = copy_of(opening, copy)?;
         self.script.push(ScriptLine::Run { mirror, copy })?;
@@ -166,19 +140,13 @@ impl Body {
         ensures { GivesLine (λ _. self.new) result
             (step (restagger_kind opening.now) self.old (words_of words.now)) }
     {
-        if !is_script(self.stage) {
-            return Err(LineFault::Refused(Cause::Shape));
-        }
+        check(is_script(self.stage), Cause::Shape)?;
         let (mirror, words) = front(words)?;
         let plan = last(words)?;
-        if !self.script.has_room() {
-            return Err(LineFault::Refused(Cause::Many));
-        }
+        check(self.script.has_room(), Cause::Many)?;
         let mirror = mirror_of(opening, mirror)?;
         let plan = number(0, MOST_PLANS as u32 - 1, plan)? as u8;
-        if usize::from(plan) > self.plans.len() {
-            return Err(LineFault::Refused(Cause::Number));
-        }
+        check(usize::from(plan) <= self.plans.len(), Cause::Number)?;
         self.script.push(ScriptLine::Restagger { mirror, plan })?;
         Ok(())
     }

@@ -9,6 +9,8 @@ use Rattle.game_trait.specs.Events.{is_arrival}
 use Rattle.game_trait.proofs.Counts.{times-most}
 use Rattle.sync_model.specs.State.{MirrorState}
 use Rattle.sync_model.specs.Change.{next, after, turned_away}
+use Rattle.sync_model.specs.Consistent.{IsConsistent}
+use Rattle.sync_model.specs.History.{opening_of}
 use Rattle.sync_model.specs.Turns.{drain}
 use Rattle.sync_model.proofs.Cases.{tick-cases, arrive-cases, step-cases, restagger-cases, after-fixed}
 use Rattle.sync_model.proofs.Drain.{draining_delivers_nothing, drain-fixed}
@@ -43,6 +45,15 @@ few-after (e ∷ es) s =
     let first = few-next s e in
     let rest = few-after es (next s e) in
     (omega (arith, first.0, rest.0), omega (arith, first.1, rest.1))
+
+-- a mirror took in no more than its history has events
+pub consistent-few : {W : Type 0} (s : MirrorState W) → IsConsistent s → (length s.accepted ≤ length s.history) × (length s.turned ≤ length s.history)
+consistent-few {W} s is =
+    let few = few-after s.history (opening_of s) in
+    let most = times-most is_arrival s.history in
+    let accepted : length s.accepted ≡ length (after (opening_of s) s.history).accepted = ap (λ (t : MirrorState W). length t.accepted) is.from_history in
+    let turned : length s.turned ≡ length (after (opening_of s) s.history).turned = ap (λ (t : MirrorState W). length t.turned) is.from_history in
+    (omega (arith, few.0, most, accepted), omega (arith, few.1, most, turned))
 
 opening-takes : {W : Type 0} (m : MatchData) (opening : W) (i : ℕ)
     → ((opening_mirror opening m i).opening ≡ opening) × ((opening_mirror opening m i).accepted ≡ []) × ((opening_mirror opening m i).turned ≡ [])

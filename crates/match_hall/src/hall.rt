@@ -23,7 +23,7 @@ use arena_rules::{Roster, Shown};
 use game_trait::{Game, MirrorId};
 use match_file::{Match, ScriptLine};
 use mirror_core::Mirror;
-use report_text::{push_arrived, push_stepped, push_ticked};
+use report_text::{arrival_line, step_line, tick_line};
 use run_recorder::MirrorLog;
 use std::alloc::Global;
 use std::marker::Model;
@@ -70,7 +70,7 @@ fn play_line<G: Game + Shown>(
     ensures err { OnErr result (out.new.items ≡ out.old.items) }
 {
     match *line {
-        ScriptLine::Tick { mirror: at } => push_ticked(out, at, mirror.tick()),
+        ScriptLine::Tick { mirror: at } => tick_line(out, at, mirror.tick()),
         ScriptLine::Turn { mirror: at } => push_turn(mirror, at, out),
         ScriptLine::Arrive {
             mirror: at,
@@ -78,9 +78,9 @@ fn play_line<G: Game + Shown>(
             number,
         } => {
             let x = command_of(m, from, number);
-            push_arrived(out, at, from, number, mirror.arrive(&x))
+            arrival_line(out, at, from, number, &mirror.arrive(&x))
         }
-        ScriptLine::Step { mirror: at, copy } => push_stepped(out, at, copy, mirror.step(copy)),
+        ScriptLine::Step { mirror: at, copy } => step_line(out, at, copy, mirror.step(copy)),
         ScriptLine::World { mirror: at, copy } => push_copy(out, at, mirror, copy, &m.roster),
         ScriptLine::Run { mirror: at, copy } => push_run(out, at, mirror, copy),
         ScriptLine::Restagger { plan, .. } => {

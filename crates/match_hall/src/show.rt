@@ -9,9 +9,7 @@ ghost use Rattle.match_hall.specs.Report.{Showing, run_of, copy_block, copy_bloc
 use arena_rules::{Roster, Shown};
 use game_trait::{Arrived, Game, MirrorId, Reply, Stepped};
 use mirror_core::Mirror;
-use report_text::{
-    push_copy_block, push_line_end, push_mirror_line, push_repair, push_run_head, push_run_mark,
-};
+use report_text::{copy_block, line_end, mirror_line, repair_line, run_head, run_mark};
 use tss_io::NoMemory;
 
 // How many copies an answer says were repaired.
@@ -33,7 +31,7 @@ fn push_each_repair(out: &mut Vec<u8>, at: MirrorId, replies: &[Reply]) -> Resul
     ensures front { take (length out.old.items) out.new.items ≡ out.old.items }
 {
     for &reply in replies {
-        push_repair(out, at, repaired_in(reply))?;
+        repair_line(out, at, repaired_in(reply))?;
     }
     Ok(())
 }
@@ -69,7 +67,7 @@ pub fn push_copy<G: Game + Shown>(
         ++ copy_block show number mirror.now.opening copy (run_of mirror.now copy)) }
     ensures err { OnErr result (out.new.items ≡ out.old.items) }
 {
-    push_copy_block(
+    copy_block(
         out,
         number,
         copy,
@@ -92,11 +90,11 @@ fn push_run_parts<G: Game>(
         (out.new.items ≡ out.old.items ++ run_line number copy (run_of mirror.now copy)) }
     ensures front { take (length out.old.items) out.new.items ≡ out.old.items }
 {
-    push_run_head(out, number, copy)?;
+    run_head(out, number, copy)?;
     for place in 0..mirror.run_len(copy) {
-        push_run_mark(out, &mirror.run_item(copy, place))?;
+        run_mark(out, &mirror.run_item(copy, place))?;
     }
-    push_line_end(out)
+    line_end(out)
 }
 
 /// Appends the line of a copy's run. The copy is there. On `NoMemory` `out` is unchanged.
@@ -121,6 +119,20 @@ pub fn push_run<G: Game>(
     }
 }
 
+// How many commands a mirror accepted, and how many arrivals it turned away: no more than it has
+// events.
+fn taken_in<G: Game>(mirror: &Mirror<G>) -> (u32, u32)
+    ensures accepted { result.0 ≡ length mirror.now.accepted }
+    ensures turned { result.1 ≡ length mirror.now.turned }
+{
+    mirror.always();
+    let _ = mirror.events();
+    (
+        mirror.accepted().len() as u32,
+        mirror.turned().len() as u32,
+    )
+}
+
 /// Appends the line of the mirror of this number. On `NoMemory` `out` is unchanged.
 pub fn push_line_of_mirror<G: Game>(
     out: &mut Vec<u8>,
@@ -130,13 +142,8 @@ pub fn push_line_of_mirror<G: Game>(
     ensures ok { OnOk result (out.new.items ≡ out.old.items ++ line_of_mirror number mirror.now) }
     ensures err { OnErr result (out.new.items ≡ out.old.items) }
 {
-    push_mirror_line(
-        out,
-        number,
-        mirror.accepted().len() as u64,
-        mirror.turned().len() as u64,
-        mirror.repairs(),
-    )
+    let (accepted, turned) = taken_in(mirror);
+    mirror_line(out, number, accepted, turned, mirror.repairs())
 }
 
 /// Appends the line of the mirror of this number, and its copies' blocks. On `NoMemory` some of it

@@ -15,7 +15,7 @@ use arena_rules::Arena;
 use match_file::Match;
 use match_hall::Hall;
 use match_hall::laws::mirrors_take_no_more_than_a_script_brings;
-use report_text::{push_done, score_json};
+use report_text::{done_line, score_json};
 use run_recorder::MirrorLog;
 use std::alloc::Global;
 use tss_io::{NoMemory, Seq};
@@ -77,7 +77,7 @@ fn text_of(
     text.push(b'\n')?;
     text.extend_from_slice(lines)?;
     board.close(&mut text)?;
-    push_done(&mut text)?;
+    done_line(&mut text)?;
     Ok(Seq::of(text))
 }
 

@@ -28,7 +28,9 @@ use Rattle.sync_model.specs.Drafts.{IsDueTick, FitsReady}
 use Rattle.sync_model.proofs.Epochs.{draft_fits}
 use Rattle.game_trait.specs.Ordered.{due_at}
 use Rattle.sync_model.proofs.Cases.{ran}
-use Rattle.mirror_core.specs.Drafts.{is_current, committed_to}
+use Rattle.mirror_core.specs.declared.drafts.Drafted.{Drafted}
+use Rattle.mirror_core.specs.declared.drafts.Drafted.TheVariants.{Draft}
+use Rattle.mirror_core.specs.Drafts.{is_current, committed_to, IfDraft}
 use Rattle.mirror_core.proofs.Answered.{step_ran}
 use Rattle.mirror_core.specs.Kept.{Room, IsKept}
 use Rattle.mirror_core.proofs.PlanLaws.{greatest-short, ticks-few}
@@ -165,6 +167,33 @@ module _ {W : Type 0} {s : MirrorState W} {plans : List Schedule} {is_taken : �
       }) in
       subst (λ (e : DraftTick W). FitsReady rules s (ready_of rules e)) (sym whole)
       (draft_fits rules s copy there more)
+
+  -- and so does what was put in the place of an answer
+  pub put-fits :
+      (rules : Rules W) (put : Drafted W) (copy clock number : ℕ) → copy < length s.runs
+      → is_idle s copy ≡ false
+      → put
+      ≡ Draft (record {
+        copy = copy;
+        epoch = number;
+        clock = clock;
+        world = world_of rules s.opening (run_of s copy);
+        commands = due_at s.accepted clock;
+      })
+      → clock ≡ copy_clock s.runs copy → number ≡ get_or numbers copy 0
+      → IfDraft put (λ d. FitsReady rules s (ready_of rules d))
+  put-fits rules put copy clock number there more made at kept =
+      let world : W = world_of rules s.opening (run_of s copy) in
+      let commands : List Command = due_at s.accepted clock in
+      let d : DraftTick W = record {
+        copy = copy;
+        epoch = number;
+        clock = clock;
+        world = world;
+        commands = commands;
+      } in
+      subst (λ (x : Drafted W). IfDraft x (λ t. FitsReady rules s (ready_of rules t))) (sym made)
+      (drafted-is rules d copy clock number world commands there more refl at kept refl refl)
 
   -- the last copy
   pub last-is :

@@ -7,3 +7,4 @@ mod Kept
 mod Opened
 mod Calls
 mod Along
+mod Executed

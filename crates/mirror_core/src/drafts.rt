@@ -1,13 +1,15 @@
 //! Ticks that are executed away from their mirror.
 
-ghost use Rattle.std.specs.Prelude.{◌≡◌, map};
+ghost use Rattle.std.specs.Prelude.{◌≡◌, ◌<◌, ◌≤◌, length, map, slice_index_or, []};
 ghost use Rattle.game_trait.specs.declared.command.Item.TheVariants.{Cmd};
+ghost use Rattle.game_trait.specs.Ordered.{due_at};
 ghost use Rattle.game_trait.specs.Run.{world_of};
 ghost use Rattle.sync_model.specs.Drafts.{ready_of};
 
 use arrayvec::ArrayVec;
 use game_trait::{Command, Game, Tick};
 use std::marker::Model;
+use trailing_copy::CopyStack;
 
 /// How many commands a draft has at most. A tick with more is made by a step.
 pub const MOST_DRAFTED: usize = 64;
@@ -38,29 +40,48 @@ impl<G> Model for Draft<G> {
 }
 
 impl<G: Game> Draft<G> {
-    // A draft of these parts.
-    pub(crate) fn of(
-        copy: u8,
-        epoch: u64,
-        clock: Tick,
-        world: G,
-        commands: ArrayVec<Command, 64>,
-    ) -> Draft<G>
+    // The tick of a copy of these at this clock, which is there and has so many commands at most.
+    fn of(copy: u8, epoch: u64, clock: Tick, stack: &CopyStack<G>) -> Draft<G>
+        requires there { copy < length stack.now.runs }
+        requires fresh { stack.now.stale ≤ copy }
+        requires few { length (due_at stack.now.accepted clock) ≤ 64 }
         ensures { result ≡ record {
           copy = copy;
           epoch = epoch;
           clock = clock;
-          world = world;
-          commands = commands.items;
+          world = world_of G.rules stack.now.opening (slice_index_or stack.now.runs copy []);
+          commands = due_at stack.now.accepted clock;
         } }
     {
+        let mut commands = ArrayVec::new();
+        stack.due_into(clock, &mut commands);
         Draft {
             copy,
             epoch,
             clock,
-            world,
+            world: stack.world(copy).twin(),
             commands,
         }
+    }
+
+    // Makes it such a tick, in its place.
+    fn set(&mut self, copy: u8, epoch: u64, clock: Tick, stack: &CopyStack<G>)
+        requires there { copy < length stack.now.runs }
+        requires fresh { stack.now.stale ≤ copy }
+        requires few { length (due_at stack.now.accepted clock) ≤ 64 }
+        ensures { self.new ≡ record {
+          copy = copy;
+          epoch = epoch;
+          clock = clock;
+          world = world_of G.rules stack.now.opening (slice_index_or stack.now.runs copy []);
+          commands = due_at stack.now.accepted clock;
+        } }
+    {
+        self.copy = copy;
+        self.epoch = epoch;
+        self.clock = clock;
+        self.world.set_from(stack.world(copy));
+        stack.due_into(clock, &mut self.commands);
     }
 
     /// The copy's number.
@@ -87,6 +108,34 @@ impl<G: Game> Draft<G> {
             copy,
             epoch,
             clock,
+            world,
+        }
+    }
+
+    /// Executes the tick too, in the place of a tick that was executed before, whose world it
+    /// writes over.
+    pub fn run_into(&self, ready: &mut Ready<G>)
+        ensures { ready.new ≡ ready_of G.rules self.now }
+    {
+        ready.copy = self.copy;
+        ready.epoch = self.epoch;
+        ready.clock = self.clock;
+        ready.world.set_from(&self.world);
+        execute(&mut ready.world, &self.commands);
+        ready.world.beat();
+    }
+
+    /// Executes the tick too, and keeps the draft.
+    pub fn ran(&self) -> Ready<G>
+        ensures { result ≡ ready_of G.rules self.now }
+    {
+        let mut world = self.world.twin();
+        execute(&mut world, &self.commands);
+        world.beat();
+        Ready {
+            copy: self.copy,
+            epoch: self.epoch,
+            clock: self.clock,
             world,
         }
     }
@@ -167,6 +216,29 @@ pub enum Drafted<G> {
         /// How many.
         commands: u32,
     },
+}
+
+impl<G: Game> Drafted<G> {
+    // Makes it the tick of a copy of these at this clock, which is there and has so many commands at
+    // most. Where it was a draft before, the new one takes its place.
+    pub(crate) fn put(&mut self, copy: u8, epoch: u64, clock: Tick, stack: &CopyStack<G>)
+        requires there { copy < length stack.now.runs }
+        requires fresh { stack.now.stale ≤ copy }
+        requires few { length (due_at stack.now.accepted clock) ≤ 64 }
+        ensures { self.new ≡ Drafted.Draft (record {
+          copy = copy;
+          epoch = epoch;
+          clock = clock;
+          world = world_of G.rules stack.now.opening (slice_index_or stack.now.runs copy []);
+          commands = due_at stack.now.accepted clock;
+        }) }
+    {
+        if let Drafted::Draft(draft) = self {
+            draft.set(copy, epoch, clock, stack);
+            return;
+        }
+        *self = Drafted::Draft(Draft::of(copy, epoch, clock, stack));
+    }
 }
 
 /// What a mirror answers where a ready tick is committed.

@@ -8,9 +8,9 @@ ghost use Rattle.sync_model.specs.Change.{next, said, Fits};
 ghost use Rattle.sync_model.specs.History.{HasRoom};
 ghost use Rattle.sync_model.specs.Drafts.{epoch as epoch_of, ready_of, FitsReady};
 ghost use Rattle.mirror_core.specs.Kept.{delays_of_each, ticks_of_first, copies_of_first};
-ghost use Rattle.mirror_core.specs.Drafts.{drafted, committed_to, committed, IfDraft};
+ghost use Rattle.mirror_core.specs.Drafts.{drafted as drafted_by, committed_to, committed, IfDraft};
 
-use crate::drafts::{Committed, Draft, Drafted, MOST_DRAFTED, Ready};
+use crate::drafts::{Committed, Drafted, MOST_DRAFTED, Ready};
 use crate::epochs::Epochs;
 use crate::lists::Lists;
 use crate::plans::greatest;
@@ -244,29 +244,26 @@ impl<G: Game> LazyMirror<G> {
         Stepped::Ran { repaired }
     }
 
-    /// What `Mirror::draft` answers, where no world is still to be made.
+    /// What `Mirror::draft_into` does, where no world is still to be made.
     #[inline(always)]
-    pub fn draft(&self, copy: u8) -> Drafted<G>
+    pub fn draft_into(&self, copy: u8, drafted: &mut Drafted<G>)
         requires there { copy < length self.now.state.runs }
         requires fresh { self.now.stale ≡ 0 }
-        ensures answer { result ≡ drafted G.rules self.now.state copy }
-        ensures fits { IfDraft result (λ d. FitsReady G.rules self.now.state (ready_of G.rules d)) }
+        ensures answer { drafted.new ≡ drafted_by G.rules self.now.state copy }
+        ensures fits { IfDraft drafted.new
+            (λ d. FitsReady G.rules self.now.state (ready_of G.rules d)) }
     {
         let clock = self.stack.clock(copy);
         if clock >= self.limit(copy) {
-            return Drafted::Idle;
+            *drafted = Drafted::Idle;
+            return;
         }
         let commands = self.stack.due_len(clock);
         if commands > MOST_DRAFTED as u32 {
-            return Drafted::Wide { commands };
+            *drafted = Drafted::Wide { commands };
+            return;
         }
-        Drafted::Draft(Draft::of(
-            copy,
-            self.epochs.of(copy),
-            clock,
-            self.stack.world(copy).twin(),
-            self.stack.due(clock),
-        ))
+        drafted.put(copy, self.epochs.of(copy), clock, &self.stack);
     }
 
     /// What `Mirror::commit` does. Worlds may be left to be made.

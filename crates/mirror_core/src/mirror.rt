@@ -1,6 +1,6 @@
 //! A mirror of a match.
 
-ghost use Rattle.std.specs.Prelude.{◌≡◌, ◌<◌, ◌≤◌, IfOk, [], length, slice_get, slice_index_or};
+ghost use Rattle.std.specs.Prelude.{◌≡◌, ◌<◌, ◌≤◌, ◌^◌, IfOk, [], length, slice_get, slice_index_or};
 ghost use Rattle.std.specs.List.{AllByRecursion};
 ghost use Rattle.game_trait.specs.Run.{world_of};
 ghost use Rattle.sync_model.specs.State.{opening_state, copy_clock as clock_of};
@@ -10,7 +10,7 @@ ghost use Rattle.sync_model.specs.History.{HasRoom, HasRoomAlong, repairs as rep
 ghost use Rattle.sync_model.specs.Turns.{is_drained, drain_bound};
 ghost use Rattle.sync_model.specs.Drafts.{epoch as epoch_of, ready_of, FitsReady};
 ghost use Rattle.mirror_core.specs.Kept.{delays_of_each, ticks_of_first, copies_of_first};
-ghost use Rattle.mirror_core.specs.Drafts.{drafted, committed_to, committed, IfDraft};
+ghost use Rattle.mirror_core.specs.Drafts.{drafted as drafted_by, committed_to, committed, IfDraft};
 
 use crate::drafts::{Committed, Drafted, Ready};
 use crate::lazy::LazyMirror;
@@ -149,10 +149,23 @@ impl<G: Game> Mirror<G> {
     #[inline(always)]
     pub fn draft(&self, copy: u8) -> Drafted<G>
         requires { copy < length self.now.runs }
-        ensures answer { result ≡ drafted G.rules self.now copy }
+        ensures answer { result ≡ drafted_by G.rules self.now copy }
         ensures fits { IfDraft result (λ d. FitsReady G.rules self.now (ready_of G.rules d)) }
     {
-        self.inner.draft(copy)
+        let mut drafted = Drafted::Idle;
+        self.inner.draft_into(copy, &mut drafted);
+        drafted
+    }
+
+    /// Puts what `draft` answers in the place of what was answered before. Where both are drafts,
+    /// the new one's world and commands are written over the old one's, and nothing is moved.
+    #[inline(always)]
+    pub fn draft_into(&self, copy: u8, drafted: &mut Drafted<G>)
+        requires { copy < length self.now.runs }
+        ensures answer { drafted.new ≡ drafted_by G.rules self.now copy }
+        ensures fits { IfDraft drafted.new (λ d. FitsReady G.rules self.now (ready_of G.rules d)) }
+    {
+        self.inner.draft_into(copy, drafted);
     }
 
     /// Makes the step that a ready tick stands for, which fits the mirror, without executing the
@@ -276,9 +289,10 @@ impl<G: Game> Mirror<G> {
         &self.inner.turned
     }
 
-    /// The history: the events that changed the mirror.
+    /// The history: the events that changed the mirror, at most 4,194,304.
     pub fn events(&self) -> &[Event]
-        ensures { result.now ≡ self.now.history }
+        ensures events { result.now ≡ self.now.history }
+        ensures few { length result.now ≤ 2 ^ 22 }
     {
         &self.inner.history
     }

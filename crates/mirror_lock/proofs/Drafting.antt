@@ -1,6 +1,6 @@
 -- A draft that a locked mirror answered may be committed, once it is run.
 use Rattle.std.proofs.Common.{◌≡◌, ℕ, ◌<◌, true, false, cond, List, [], ◌∷◌, ◌++◌, length, sym, ap, subst}
-use Rattle.std.specs.Prelude.{Option, Some, None, IfSome, nat_lt}
+use Rattle.std.specs.Prelude.{Option, Some, None, IfSome, is_some, nat_lt}
 use Rattle.game_trait.specs.Game.{Rules as GameRules}
 use Rattle.sync_model.specs.State.{MirrorState}
 use Rattle.sync_model.specs.Change.{is_idle}
@@ -22,6 +22,7 @@ use Rattle.turn_lock.specs.Histories.{value, IsSound, entry}
 use Rattle.turn_lock.specs.Views.{number_of, seen_of, FitsSeat}
 use Rattle.turn_lock.specs.Calls.{IsCall}
 use Rattle.turn_lock.proofs.Histories.{value-append, sound_behind, fits_after}
+use Rattle.turn_lock.proofs.Serving.{reply_is_said}
 use Rattle.mirror_lock.specs.Locked.{next_locked, FitsLocked, mirror_rules}
 use Rattle.mirror_lock.specs.Laws.{stays, spends}
 
@@ -105,3 +106,15 @@ module _ {W : Type 0} (game : GameRules W) where
           → IfDraft d (λ t. IfSome x (λ o. FitsLocked game (value (mirror_rules game) o ((seen_of v ++ call.between) ++ entry (number_of v) (Draft c) (ToDraft d) ∷ [])) (Commit (ready_of game t))))
       by_opening None f s = any d
       by_opening (Some o) f s = by_history o (seen_of v) call.between (number_of v) c d f s
+
+  -- the answer is one to a draft, and what it has may be committed
+  pub told_after_draft :
+      (v w : View (MirrorState W) (LockCall W) (LockReply W)) (c : ℕ) (r : LockReply W)
+      → is_some v.opening ≡ true
+      → FitsSeat (mirror_rules game) v (Draft c)
+      → IsCall (mirror_rules game) v (Draft c) r w
+      → (d : Drafted W) × (r ≡ ToDraft d) × IfDraft d (λ t. FitsSeat (mirror_rules game) w (Commit (ready_of game t)))
+  told_after_draft v w c r opened fits call =
+      let told = reply_is_said (mirror_rules game) v w (Draft c) r opened call in
+      let d : Drafted W = drafted game told.0 c in
+      (d, told.1, ready_after_draft v w c d fits (subst (λ (x : LockReply W). IsCall (mirror_rules game) v (Draft c) x w) told.1 call))

@@ -1,7 +1,11 @@
 //! What is asked of a locked mirror, and what it answers.
 
+ghost use Rattle.std.specs.Prelude.{◌≡◌, ◌<◌, length};
+ghost use Rattle.sync_model.specs.Drafts.{ready_of};
+ghost use Rattle.mirror_core.specs.Drafts.{drafted};
+
 use game_trait::{Event, Game, Reply};
-use mirror_core::{Committed, Drafted, Ready};
+use mirror_core::{Committed, Draft, Drafted, Mirror, Ready};
 
 /// What is asked of a locked mirror.
 #[derive(Drop)]
@@ -14,6 +18,20 @@ pub enum LockCall<G: Game> {
     Commit(Ready<G>),
 }
 
+impl<G: Game> LockCall<G> {
+    /// Makes it the commit of this draft, which it executes. Where it was a commit before, the tick
+    /// is executed in the place of the one before.
+    pub fn put_ready(&mut self, draft: &Draft<G>)
+        ensures { self.new ≡ LockCall.Commit (ready_of G.rules draft.now) }
+    {
+        if let LockCall::Commit(ready) = self {
+            draft.run_into(ready);
+            return;
+        }
+        *self = LockCall::Commit(draft.ran());
+    }
+}
+
 /// What it answers, to a call of the same kind.
 #[derive(Drop)]
 pub enum LockReply<G: Game> {
@@ -23,4 +41,41 @@ pub enum LockReply<G: Game> {
     Draft(Drafted<G>),
     /// Where a tick is committed.
     Commit(Committed),
+}
+
+impl<G: Game> LockReply<G> {
+    // Makes it the answer to an event, in the place of the one before.
+    pub(crate) fn put_event(&mut self, reply: Reply)
+        ensures { self.new ≡ LockReply.Event reply }
+    {
+        if let LockReply::Event(place) = self {
+            *place = reply;
+            return;
+        }
+        *self = LockReply::Event(reply);
+    }
+
+    // Makes it what the mirror answers where a draft of this copy, which is there, is asked for, in
+    // the place of the answer before.
+    pub(crate) fn put_draft(&mut self, mirror: &Mirror<G>, copy: u8)
+        requires { copy < length mirror.now.runs }
+        ensures { self.new ≡ LockReply.Draft (drafted G.rules mirror.now copy) }
+    {
+        if let LockReply::Draft(place) = self {
+            mirror.draft_into(copy, place);
+            return;
+        }
+        *self = LockReply::Draft(mirror.draft(copy));
+    }
+
+    // Makes it the answer to a commit, in the place of the one before.
+    pub(crate) fn put_commit(&mut self, committed: Committed)
+        ensures { self.new ≡ LockReply.Commit committed }
+    {
+        if let LockReply::Commit(place) = self {
+            *place = committed;
+            return;
+        }
+        *self = LockReply::Commit(committed);
+    }
 }

@@ -58,11 +58,11 @@ impl<G: Game> Held for HeldMirror<G> {
     }
 
     #[inline(always)]
-    fn answer(&mut self, call: &LockCall<G>) -> LockReply<G> {
+    fn answer(&mut self, call: &LockCall<G>, reply: &mut LockReply<G>) {
         match call {
-            LockCall::Event(event) => LockReply::Event(self.mirror.make(event)),
-            LockCall::Draft(copy) => LockReply::Draft(self.mirror.draft(*copy)),
-            LockCall::Commit(ready) => LockReply::Commit(self.mirror.commit(ready)),
+            LockCall::Event(event) => reply.put_event(self.mirror.make(event)),
+            LockCall::Draft(copy) => reply.put_draft(&self.mirror, *copy),
+            LockCall::Commit(ready) => reply.put_commit(self.mirror.commit(ready)),
         }
     }
 

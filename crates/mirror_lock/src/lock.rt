@@ -3,7 +3,8 @@
 ghost use Rattle.std.specs.Prelude.{◌≡◌, ℕ, ◌+◌, ◌<◌, ◌≤◌, ◌^◌, [], map, length, vec_len, IfOk, IsTrue};
 ghost use Rattle.std.specs.List.{All};
 ghost use Rattle.game_trait.specs.Events.{is_arrival};
-ghost use Rattle.sync_model.specs.Drafts.{ready_of};
+ghost use Rattle.sync_model.specs.Drafts.{ReadyTick, ready_of};
+ghost use Rattle.mirror_core.specs.declared.drafts.Drafted.{Drafted as ADrafted};
 ghost use Rattle.mirror_core.specs.Drafts.{IfDraft};
 ghost use Rattle.turn_lock.specs.Rules.{one_if};
 ghost use Rattle.tss_io.specs.Totals.{total};
@@ -103,7 +104,10 @@ impl<G: Game> MirrorLock<G> {
         ensures calls { seat.new.calls + 1 ≡ seat.old.calls }
         ensures arrivals { seat.new.grows + one_if (is_arrival event.now) ≡ seat.old.grows }
     {
-        match self.lock.call(rt, seat, &LockCall::Event(*event)) {
+        let mut reply = LockReply::Event(Reply::Restaggered);
+        self.lock
+            .call(rt, seat, &LockCall::Event(*event), &mut reply);
+        match reply {
             LockReply::Event(reply) => reply,
             _ => unreachable!(),
         }
@@ -127,10 +131,38 @@ impl<G: Game> MirrorLock<G> {
         ensures calls { seat.new.calls + 1 ≡ seat.old.calls }
         ensures arrivals { seat.new.grows ≡ seat.old.grows }
     {
-        match self.lock.call(rt, seat, &LockCall::Draft(copy)) {
+        let mut reply = LockReply::Draft(Drafted::Idle);
+        self.draft_into(rt, seat, copy, &mut reply);
+        match reply {
             LockReply::Draft(drafted) => drafted,
             _ => unreachable!(),
         }
+    }
+
+    /// What `draft` does, with the answer in the place of another. Where both are drafts, the new
+    /// one is written over the old one, and nothing is moved.
+    pub fn draft_into<W: Wait>(
+        &self,
+        rt: &W,
+        seat: &mut MirrorSeat<G>,
+        copy: u8,
+        reply: &mut LockReply<G>,
+    )
+        requires own { seat.old.seat.table_id ≡ self.now.lock.table.shared.table_id }
+        requires fits { FitsSeat (mirror_rules G.rules) (view seat.old.seat) (AskDraft copy) }
+        requires calls { 0 < seat.old.calls }
+        ensures own { seat.new.seat.table_id ≡ seat.old.seat.table_id }
+        ensures called { IsCall (mirror_rules G.rules) (view seat.old.seat) (AskDraft copy)
+            reply.new (view seat.new.seat) }
+        ensures fits { StillFits (mirror_rules G.rules) (view seat.old.seat) (view seat.new.seat) }
+        ensures ready { (drafted : ADrafted G) × (reply.new ≡ ToDraft drafted)
+            × IfDraft drafted
+            (λ d. FitsSeat (mirror_rules G.rules) (view seat.new.seat)
+            (AskCommit (ready_of G.rules d))) }
+        ensures calls { seat.new.calls + 1 ≡ seat.old.calls }
+        ensures arrivals { seat.new.grows ≡ seat.old.grows }
+    {
+        self.lock.call(rt, seat, &LockCall::Draft(copy), reply);
     }
 
     /// Waits for the seat's turn, and commits a tick that was executed outside the lock. What is
@@ -147,7 +179,30 @@ impl<G: Game> MirrorLock<G> {
         ensures calls { seat.new.calls + 1 ≡ seat.old.calls }
         ensures arrivals { seat.new.grows ≡ seat.old.grows }
     {
-        match self.lock.call(rt, seat, &LockCall::Commit(r)) {
+        self.commit_from(rt, seat, &LockCall::Commit(r))
+    }
+
+    /// What `commit` does, of a call that is a commit already.
+    pub fn commit_from<W: Wait>(
+        &self,
+        rt: &W,
+        seat: &mut MirrorSeat<G>,
+        call: &LockCall<G>,
+    ) -> Committed
+        requires own { seat.old.seat.table_id ≡ self.now.lock.table.shared.table_id }
+        requires commit { (r : ReadyTick G) × (call.now ≡ AskCommit r) }
+        requires fits { FitsSeat (mirror_rules G.rules) (view seat.old.seat) call.now }
+        requires calls { 0 < seat.old.calls }
+        ensures own { seat.new.seat.table_id ≡ seat.old.seat.table_id }
+        ensures called { IsCall (mirror_rules G.rules) (view seat.old.seat) call.now
+            (ToCommit result) (view seat.new.seat) }
+        ensures fits { StillFits (mirror_rules G.rules) (view seat.old.seat) (view seat.new.seat) }
+        ensures calls { seat.new.calls + 1 ≡ seat.old.calls }
+        ensures arrivals { seat.new.grows ≡ seat.old.grows }
+    {
+        let mut reply = LockReply::Commit(Committed::Ran { repaired: 0 });
+        self.lock.call(rt, seat, call, &mut reply);
+        match reply {
             LockReply::Commit(committed) => committed,
             _ => unreachable!(),
         }

@@ -19,7 +19,7 @@ use Rattle.copy_workers.specs.declared.feeder_job.FeederJob.{FeederJob}
 use Rattle.copy_workers.specs.declared.feeder_job.FeederEnd.{FeederEnd}
 use Rattle.copy_workers.specs.declared.post.Asked.{Asked}
 use Rattle.copy_workers.specs.Fed.{FeederEnds}
-use Rattle.race_hall.specs.declared.job.EndOver.{EndOver}
+use Rattle.race_hall.specs.declared.doer.EndOver.{EndOver}
 use Rattle.race_hall.specs.Entries.{own}
 use Rattle.race_hall.specs.Race.{Course, first_plan, count_from, race_opening}
 use Rattle.race_hall.specs.Joined.{Closed}

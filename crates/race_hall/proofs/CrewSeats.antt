@@ -6,8 +6,9 @@ use Rattle.std.proofs.Math.ListN.{length-append}
 use Rattle.std.proofs.lemmas.List.{map-append, nil_from_length}
 use Rattle.copy_workers.specs.declared.feeder_job.FeederJob.{FeederJob}
 use Rattle.copy_workers.specs.declared.feeder_job.FeederEnd.{FeederEnd}
-use Rattle.race_hall.specs.declared.job.JobOver.{JobOver}
-use Rattle.race_hall.specs.declared.job.EndOver.{EndOver}
+use Rattle.race_hall.specs.declared.doer.JobOver.{JobOver}
+use Rattle.race_hall.specs.declared.doer.EndOver.{EndOver}
+use Rattle.race_hall.specs.Jobs.{feeder_in}
 use Rattle.race_hall.specs.Race.{count_from}
 use Rattle.race_hall.specs.Crews.{IsPosted, IsTakenBack, last_feeder}
 use Rattle.race_hall.proofs.Lining.{front-more, front-left, off-front}
@@ -62,7 +63,7 @@ module _ {T : Type 0} where
       rest-none (x ∷ l) h = nil_from_length l (omega arith)
 
   -- taking back
-  pub last-of-push : (gone : List (EndOver T)) (e : EndOver T) → last_feeder (gone ++ e ∷ []) ≡ e.feeder
+  pub last-of-push : (gone : List (EndOver T)) (e : EndOver T) → last_feeder (gone ++ e ∷ []) ≡ feeder_in e.end
   unfolding last_feeder
   last-of-push [] e = refl
   last-of-push (f ∷ []) e = refl
@@ -76,7 +77,7 @@ module _ {T : Type 0} where
   taken-left n before left seats given t = (let a = ap (λ (l : List (EndOver T)). length l) t.parts in let b = length-append t.gone left in let d = t.count_is in omega arith)
 
   pub taken-more : (n : ℕ) (before left rest : List (EndOver T)) (seats now : List T) (given : Option FeederEnd) (e : EndOver T)
-      → IsTakenBack n before left seats given → 0 < length left → e ≡ get_or left 0 e → rest ≡ remove left 0 → now ≡ seats ++ e.seat ∷ [] → IsTakenBack (n + 1) before rest now e.feeder
+      → IsTakenBack n before left seats given → 0 < length left → e ≡ get_or left 0 e → rest ≡ remove left 0 → now ≡ seats ++ e.seat ∷ [] → IsTakenBack (n + 1) before rest now (feeder_in e.end)
   taken-more n before left rest seats now given e t some here off pushed = record {
     gone = t.gone ++ e ∷ [];
     parts = sym (off-front t.gone left rest before e (sym t.parts) some here off);

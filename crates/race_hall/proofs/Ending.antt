@@ -1,6 +1,6 @@
 -- From the closed locks to the finish, and from the jobs that were done to the close.
 use Rattle.std.proofs.Common.{◌≡◌, ◌≢◌, ℕ, zero, suc, ◌+◌, ◌<◌, List, [], ◌∷◌, map, length, get_or, refl, ap, sym, ◌∙◌, subst, arith}
-use Rattle.std.specs.Prelude.{Option, Some, None, slice_get}
+use Rattle.std.specs.Prelude.{Some, slice_get}
 use Rattle.std.specs.List.{AllByRecursion, AllZip}
 use Rattle.std.proofs.lemmas.List.{get_or_default}
 use Rattle.atomic_table.specs.Seated.{TableId}
@@ -14,18 +14,22 @@ use Rattle.mirror_lock.specs.declared.calls.LockReply.{LockReply}
 use Rattle.copy_workers.specs.declared.feeder_job.FeederJob.{FeederJob}
 use Rattle.copy_workers.specs.declared.feeder_job.FeederEnd.{FeederEnd}
 use Rattle.copy_workers.specs.declared.post.Asked.{Asked}
+use Rattle.copy_workers.specs.declared.post.TrailMark.{TrailMark}
 use Rattle.copy_workers.specs.Fed.{FeederEnds}
-use Rattle.race_hall.specs.declared.job.JobOver.{JobOver}
-use Rattle.race_hall.specs.declared.job.EndOver.{EndOver}
-use Rattle.race_hall.specs.declared.job.Work.{Work}
-use Rattle.race_hall.specs.declared.job.Work.TheVariants.{Copy, Feeder}
+use Rattle.race_hall.specs.declared.doer.JobOver.{JobOver}
+use Rattle.race_hall.specs.declared.doer.EndOver.{EndOver}
+use Rattle.race_hall.specs.declared.doer.Work.{Work}
+use Rattle.race_hall.specs.declared.doer.Work.TheVariants.{Copy, Feeder}
+use Rattle.race_hall.specs.declared.doer.WorkEnd.{WorkEnd}
+use Rattle.race_hall.specs.declared.doer.WorkEnd.TheVariants.{Copy as Copied, Feeder as Fed}
 use Rattle.race_hall.specs.Entries.{Entry, own, IsStepping}
 use Rattle.race_hall.specs.Race.{Course, first_plan, count_from}
 use Rattle.race_hall.specs.Joined.{Closed, IsJobOf}
 use Rattle.race_hall.specs.Holding.{Holding, AreJoined}
-use Rattle.race_hall.specs.Posting.{asked_by}
-use Rattle.race_hall.specs.Jobs.{Asks, Ends, CanDo}
+use Rattle.race_hall.specs.Posting.{asked_by, trail_by}
+use Rattle.race_hall.specs.Jobs.{WorkEnds, feeder_in, Ends, CanDo}
 use Rattle.race_hall.specs.Crews.{ByMirror, IsFeederOf, IsManned, IsCrew, IsWorkOf, IsDone, IsCrewDone, AllClosed, IsRaceOf}
+use Rattle.race_hall.proofs.Copies.{copy-steps}
 use Rattle.race_hall.proofs.Started.{HoldLinks, ends-links, ends-linked}
 use Rattle.race_hall.proofs.Lining.{map-at}
 use Rattle.race_hall.proofs.Numbered.{numbered-length, numbered-get}
@@ -183,13 +187,13 @@ module _ {T S W : Type 0} (game : GameRules W) (seat_of : T → Seat S (View (Mi
       (by_mirror-all (λ k y z crew. IsCrew seat_of game z.copies k (name y) z crew × Other k y z crew) (CanDo game seat_of (map name locks)) name locks [] locks feeders jobs 0
       (λ i y z piece at is. crew-can z.copies i (name y) (map name locks) z piece at is.0) refl refl h)
 
-  done-asks : (copies i : ℕ) (feeder : FeederJob) (work : Work) (given : Option FeederEnd) (asked : List Asked) → IsWorkOf copies feeder i work → Asks work given asked
-      → (i ≢ copies → AllByRecursion (λ p. IsStepping p.event) asked) × (i ≡ copies → (f : FeederEnd) × (given ≡ Some f) × FeederEnds feeder f [] asked)
-  done-asks copies i feeder (Copy job) None asked is asks = ((λ differ. asks), (λ same. absurd (is.0 same)))
-  done-asks copies i feeder (Copy job) (Some end) asked is asks = absurd asks
-  done-asks copies i feeder (Feeder job) None asked is asks = absurd asks
-  done-asks copies i feeder (Feeder job) (Some end) asked is asks =
-      ((λ differ. absurd (differ is.0)), (λ same. (end, refl, subst (λ (j : FeederJob). FeederEnds j end [] asked) is.1 asks)))
+  done-asks : (copies i : ℕ) (feeder : FeederJob) (work : Work) (end : WorkEnd) (asked : List Asked) (trail : List TrailMark) → IsWorkOf copies feeder i work → WorkEnds work end asked trail
+      → (i ≢ copies → AllByRecursion (λ p. IsStepping p.event) asked) × (i ≡ copies → (f : FeederEnd) × (feeder_in end ≡ Some f) × FeederEnds feeder f [] asked)
+  done-asks copies i feeder (Copy job) (Copied end) asked trail is ends = ((λ differ. copy-steps job end [] asked [] trail ends refl), (λ same. absurd (is.0 same)))
+  done-asks copies i feeder (Copy job) (Fed end) asked trail is ends = absurd ends
+  done-asks copies i feeder (Feeder job) (Copied end) asked trail is ends = absurd ends
+  done-asks copies i feeder (Feeder job) (Fed end) asked trail is ends =
+      ((λ differ. absurd (differ is.0)), (λ same. (end, refl, subst (λ (j : FeederJob). FeederEnds j end [] asked) is.1 ends)))
 
   -- a crew's jobs were done
   pub crew-done : (copies count k : ℕ) (name : TableId) (feeder : FeederJob) (crew : List (JobOver T)) (ends : List (EndOver T)) → copies ≡ count
@@ -198,7 +202,7 @@ module _ {T S W : Type 0} (game : GameRules W) (seat_of : T → Seat S (View (Mi
       subst (λ (n : ℕ). IsCrewDone seat_of n name feeder ends) same
       (zip-through (IsManned seat_of game copies k name feeder) (Ends seat_of) (IsDone seat_of copies name feeder) (count_from 0 (copies + 1)) crew ends
       (λ i job end m e.
-      let asks = done-asks copies i feeder job.work end.feeder (asked_by (view (seat_of end.seat))) m.work e.asks in
+      let asks = done-asks copies i feeder job.work end.end (asked_by (view (seat_of end.seat))) (trail_by (view (seat_of end.seat))) m.work e.work in
       record {
         table = e.seat.table ∙ m.table;
         number = e.seat.number ∙ m.number;

@@ -32,11 +32,11 @@ use Rattle.mirror_lock.specs.Locked.{TakesFrom, FitsCall}
 use Rattle.copy_workers.specs.declared.copy_job.CopyJob.{CopyJob}
 use Rattle.copy_workers.specs.declared.feeder_job.FeederJob.{FeederJob}
 use Rattle.copy_workers.specs.Asking.{IsFeedingBelow}
-use Rattle.race_hall.specs.declared.job.JobOver.{JobOver}
-use Rattle.race_hall.specs.declared.job.Work.{Work}
+use Rattle.race_hall.specs.declared.doer.JobOver.{JobOver}
+use Rattle.race_hall.specs.declared.doer.Work.{Work}
 use Rattle.race_hall.specs.Race.{count_from, race_opening}
 use Rattle.race_hall.specs.Raced.{course_of}
-use Rattle.race_hall.specs.Posting.{asked_by, drawn_by, last_drawn, IsReadied}
+use Rattle.race_hall.specs.Posting.{asked_by, trail_by, drawn_by, last_drawn}
 use Rattle.race_hall.specs.Jobs.{CanCopy, CanFeed, CanWork}
 use Rattle.race_hall.specs.Crews.{shares_of, IsFeederOf, IsPosted, IsWorkOf, IsManned, IsCrew}
 use Rattle.race_hall.proofs.Lists.{same-head, same-tail}
@@ -105,16 +105,14 @@ module _ {T S W : Type 0} (game : GameRules W) (seat_of : T → Seat S (View (Mi
   unfolding last_drawn
   none-drawn held i calls grows v e = ap (λ (x : View (MirrorState W) (LockCall W) (LockReply W)). drawn_by x) e
 
-  readied : (held : MirrorState W) (i calls grows : ℕ) (v : View (MirrorState W) (LockCall W) (LockReply W)) → v ≡ seat_view held i [] Idle calls grows → IsReadied game v
-  readied held i calls grows v e d some = absurd (let k = sym (none-drawn held i calls grows v e) ∙ some in cc)
-
   can-copy :
       (held : MirrorState W) (copies i budget : ℕ) (job : CopyJob) (x : T) → view (seat_of x) ≡ seat_view held i [] Idle (2 * budget) 0 → TakesFrom game held (view (seat_of x))
       → job.copy < length held.runs → job.budget ≡ budget → budget ≤ 1048576 → CanCopy game job (seat_of x)
   can-copy held copies i budget job x v takes there same low = record {
     new = ap (λ (y : View (MirrorState W) (LockCall W) (LockReply W)). asked_by y) v;
+    trail = ap (λ (y : View (MirrorState W) (LockCall W) (LockReply W)). trail_by y) v;
     takes = takes.takes (Event (Step job.copy)) (refl, there);
-    readied = readied held i (2 * budget) 0 (view (seat_of x)) v;
+    bare = none-drawn held i (2 * budget) 0 (view (seat_of x)) v;
     budget = omega arith;
     calls = (let a = ap (λ (y : View (MirrorState W) (LockCall W) (LockReply W)). y.calls) v in omega arith);
   }
@@ -126,7 +124,7 @@ module _ {T S W : Type 0} (game : GameRules W) (seat_of : T → Seat S (View (Mi
   can-feed held m i k job x is there v takes long low of = record {
     new = ap (λ (y : View (MirrorState W) (LockCall W) (LockReply W)). asked_by y) v;
     takes = λ e h. takes.takes (Event e) (feeding-fits job.stagger.length held e (of.of.length ∙ sym long) h);
-    readied = readied held i _ _ (view (seat_of x)) v;
+    bare = none-drawn held i _ _ (view (seat_of x)) v;
     calls = (let a = ap (λ (y : View (MirrorState W) (LockCall W) (LockReply W)). y.calls) v in omega arith);
     grows = (let a = ap (λ (y : View (MirrorState W) (LockCall W) (LockReply W)). y.grows) v in omega arith);
     rises = subst KeysRise (sym of.of.plan) (KeysRise-in_key_order (filter (λ y. y.from == k) m.commands) (NamesDiffer-filter (λ y. y.from == k) m.commands is.commands_differ));

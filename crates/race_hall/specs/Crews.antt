@@ -20,16 +20,16 @@ use Rattle.copy_workers.specs.declared.feeder_job.FeederJob.{FeederJob}
 use Rattle.copy_workers.specs.declared.feeder_job.FeederEnd.{FeederEnd}
 use Rattle.copy_workers.specs.Sending.{MaySend}
 use Rattle.copy_workers.specs.Fed.{FeederEnds}
-use Rattle.race_hall.specs.declared.job.Work.{Work}
-use Rattle.race_hall.specs.declared.job.Work.TheVariants.{Copy, Feeder}
-use Rattle.race_hall.specs.declared.job.JobOver.{JobOver}
-use Rattle.race_hall.specs.declared.job.EndOver.{EndOver}
+use Rattle.race_hall.specs.declared.doer.Work.{Work}
+use Rattle.race_hall.specs.declared.doer.Work.TheVariants.{Copy, Feeder}
+use Rattle.race_hall.specs.declared.doer.JobOver.{JobOver}
+use Rattle.race_hall.specs.declared.doer.EndOver.{EndOver}
 use Rattle.race_hall.specs.Entries.{Entry, own, IsStepping}
 use Rattle.race_hall.specs.Race.{Course, IsCourse, first_plan, plan_of, count_from, race_opening}
 use Rattle.race_hall.specs.Joined.{IsJobOf, Closed}
 use Rattle.race_hall.specs.Making.{AreLinksTo}
 use Rattle.race_hall.specs.Posting.{asked_by}
-use Rattle.race_hall.specs.Jobs.{CanWork}
+use Rattle.race_hall.specs.Jobs.{CanWork, feeder_in}
 use Rattle.race_hall.specs.Lining.{Lines}
 
 -- the list falls into a piece for each mirror, of which the first has this number; each is right by
@@ -126,7 +126,7 @@ module _ {T S W : Type 0}
     pub number : number_of (view (seat_of end.seat)) ≡ i
     pub stepped : i ≢ copies
         → AllByRecursion (λ p. IsStepping p.event) (asked_by (view (seat_of end.seat)))
-    pub fed : i ≡ copies → (f : FeederEnd) × (end.feeder ≡ Some f)
+    pub fed : i ≡ copies → (f : FeederEnd) × (feeder_in end.end ≡ Some f)
         × FeederEnds feeder f [] (asked_by (view (seat_of end.seat)))
 
   abbrev pub IsCrewDone : ℕ → TableId → FeederJob → List (EndOver T) → Type 0
@@ -150,7 +150,7 @@ module _ {T S W : Type 0}
 -- what the last of these gave back
 unfoldable pub last_feeder : {T : Type 0} → List (EndOver T) → Option FeederEnd
 last_feeder [] = None
-last_feeder (e ∷ []) = e.feeder
+last_feeder (e ∷ []) = feeder_in e.end
 last_feeder (e ∷ f ∷ more) = last_feeder (f ∷ more)
 
 -- the first so many ends were taken off: their seats, and what the last of them gave back

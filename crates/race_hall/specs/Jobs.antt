@@ -16,18 +16,21 @@ use Rattle.mirror_lock.specs.declared.calls.LockReply.{LockReply}
 use Rattle.mirror_lock.specs.Locked.{mirror_rules}
 use Rattle.link_ring.specs.Ends.{misses_of}
 use Rattle.copy_workers.specs.declared.copy_job.CopyJob.{CopyJob}
+use Rattle.copy_workers.specs.Copied.{CopyEnds}
 use Rattle.copy_workers.specs.declared.feeder_job.FeederJob.{FeederJob}
 use Rattle.copy_workers.specs.declared.feeder_job.FeederEnd.{FeederEnd}
 use Rattle.copy_workers.specs.declared.post.Asked.{Asked}
+use Rattle.copy_workers.specs.declared.post.TrailMark.{TrailMark}
 use Rattle.copy_workers.specs.Asking.{IsFeedingBelow}
 use Rattle.copy_workers.specs.Sending.{MaySend}
 use Rattle.copy_workers.specs.Fed.{FeederEnds}
-use Rattle.race_hall.specs.declared.job.Work.{Work}
-use Rattle.race_hall.specs.declared.job.Work.TheVariants.{Copy, Feeder}
-use Rattle.race_hall.specs.declared.job.JobOver.{JobOver}
-use Rattle.race_hall.specs.declared.job.EndOver.{EndOver}
-use Rattle.race_hall.specs.Entries.{IsStepping}
-use Rattle.race_hall.specs.Posting.{asked_by, SameSeat, IsReadied}
+use Rattle.race_hall.specs.declared.doer.Work.{Work}
+use Rattle.race_hall.specs.declared.doer.Work.TheVariants.{Copy, Feeder}
+use Rattle.race_hall.specs.declared.doer.WorkEnd.{WorkEnd}
+use Rattle.race_hall.specs.declared.doer.WorkEnd.TheVariants.{Copy as Copied, Feeder as Fed}
+use Rattle.race_hall.specs.declared.doer.JobOver.{JobOver}
+use Rattle.race_hall.specs.declared.doer.EndOver.{EndOver}
+use Rattle.race_hall.specs.Posting.{asked_by, trail_by, drawn_by, SameSeat}
 
 module _ {S W : Type 0} (game : GameRules W) where
   -- a copy's worker may work over this seat, which has asked nothing: it may ask for the copy's
@@ -35,8 +38,9 @@ module _ {S W : Type 0} (game : GameRules W) where
   pub record CanCopy (job : CopyJob)
       (seat : Seat S (View (MirrorState W) (LockCall W) (LockReply W))) : Type 0 where
     pub new : asked_by (view seat) ≡ []
+    pub trail : trail_by (view seat) ≡ []
     pub takes : FitsSeat (mirror_rules game) (view seat) (Event (Step job.copy))
-    pub readied : IsReadied game (view seat)
+    pub bare : drawn_by (view seat) ≡ None
     pub budget : job.budget < 2 ^ 63
     pub calls : 2 * job.budget ≤ (view seat).calls
 
@@ -46,7 +50,7 @@ module _ {S W : Type 0} (game : GameRules W) where
     pub new : asked_by (view seat) ≡ []
     pub takes : (e : AnEvent) → IsFeedingBelow job.stagger.length e
         → FitsSeat (mirror_rules game) (view seat) (Event e)
-    pub readied : IsReadied game (view seat)
+    pub bare : drawn_by (view seat) ≡ None
     pub calls : 8 * job.budget + length job.plan.items ≤ (view seat).calls
     pub grows : length job.plan.items + job.foreign ≤ (view seat).grows
     pub rises : KeysRise job.plan.items
@@ -61,12 +65,17 @@ module _ {S W : Type 0} (game : GameRules W) where
   CanWork (Copy job) seat = CanCopy job seat
   CanWork (Feeder job) seat = CanFeed job seat
 
--- what was asked: a copy's worker asked steps alone, and a feeder what a feeder asks
-abbrev pub Asks : Work → Option FeederEnd → List Asked → Type 0
-Asks (Copy job) None asked = AllByRecursion (λ p. IsStepping p.event) asked
-Asks (Copy job) (Some end) asked = ⊥
-Asks (Feeder job) None asked = ⊥
-Asks (Feeder job) (Some end) asked = FeederEnds job end [] asked
+-- what a feeder gives back, of the end of its work
+abbrev pub feeder_in : WorkEnd → Option FeederEnd
+feeder_in (Copied end) = None
+feeder_in (Fed end) = Some end
+
+-- the work ended so, and asked this with this trail: as a copy's worker ends, or as a feeder ends
+abbrev pub WorkEnds : Work → WorkEnd → List Asked → List TrailMark → Type 0
+WorkEnds (Copy job) (Copied end) asked trail = CopyEnds job end [] asked [] trail
+WorkEnds (Copy job) (Fed end) asked trail = ⊥
+WorkEnds (Feeder job) (Copied end) asked trail = ⊥
+WorkEnds (Feeder job) (Fed end) asked trail = FeederEnds job end [] asked
 
 -- a job and its end
 pub record Ends {T S W : Type 0}
@@ -74,7 +83,8 @@ pub record Ends {T S W : Type 0}
     (end : EndOver T) : Type 0 where
   pub mirror : end.mirror ≡ job.mirror
   pub seat : SameSeat (seat_of job.seat) (seat_of end.seat)
-  pub asks : Asks job.work end.feeder (asked_by (view (seat_of end.seat)))
+  pub work : WorkEnds job.work end.end (asked_by (view (seat_of end.seat)))
+      (trail_by (view (seat_of end.seat)))
 
 -- a job may be done where the locks have these names: its seat is one of its mirror's lock
 pub record CanDo {T S W : Type 0} (game : GameRules W)

@@ -9,7 +9,7 @@ use Rattle.sync_model.specs.Drafts.{DraftTick, ready_of}
 use Rattle.mirror_core.specs.declared.drafts.Committed.{Committed}
 use Rattle.mirror_core.specs.declared.drafts.Committed.TheVariants.{Stale}
 use Rattle.mirror_core.specs.declared.drafts.Drafted.{Drafted}
-use Rattle.mirror_core.specs.declared.drafts.Drafted.TheVariants.{Idle}
+use Rattle.mirror_core.specs.declared.drafts.Drafted.TheVariants.{Draft as ADraft, Idle}
 use Rattle.mirror_lock.specs.declared.calls.LockCall.{LockCall}
 use Rattle.mirror_lock.specs.declared.calls.LockCall.TheVariants.{Event, Draft, Commit}
 use Rattle.mirror_lock.specs.declared.calls.LockReply.{LockReply}
@@ -78,10 +78,11 @@ module _ {W : Type 0} where
   abbrev pub drawn_by : View (MirrorState W) (LockCall W) (LockReply W) → Option (DraftTick W)
   drawn_by v = last_drawn (own (number_of v) (seen_of v))
 
-  -- that draft may be committed, once it is run
-  abbrev pub IsReadied : GameRules W → View (MirrorState W) (LockCall W) (LockReply W) → Type 0
-  IsReadied game v = (d : DraftTick W) → drawn_by v ≡ Some d
-      → FitsSeat (mirror_rules game) v (Commit (ready_of game d))
+  -- that draft is this answer, and may be committed, once it is run
+  abbrev pub IsReadied : GameRules W → LockReply W
+      → View (MirrorState W) (LockCall W) (LockReply W) → Type 0
+  IsReadied game reply v = (d : DraftTick W) → drawn_by v ≡ Some d
+      → (reply ≡ ToDraft (ADraft d)) × FitsSeat (mirror_rules game) v (Commit (ready_of game d))
 
 -- the second is the same seat of the same lock, later
 pub record SameSeat {S H C R : Type 0} (first now : Seat S (View H C R)) : Type 0 where

@@ -1,18 +1,22 @@
-//! The locks of a race's mirrors, and the jobs over their seats.
+//! The crews of a race: each mirror behind its lock, with the jobs of its feeder and of its copies'
+//! workers; and the close, once all are done.
 
-ghost use Rattle.std.specs.Prelude.{◌≡◌, ◌≢◌, ℕ, ◌++◌, ◌≤◌, ◌<◌, ◌+◌, List, map, length};
-ghost use Rattle.std.specs.Prelude.{vec_len, OnOk, IfOk};
+ghost use Rattle.std.specs.Prelude.{◌≡◌, ◌+◌, ◌-◌, ◌≤◌, ◌<◌, ◌==◌, IfOk, filter, length, ◌≢◌, ℕ, ◌++◌, List, map, vec_len, OnOk, [], vec_capacity};
 ghost use Rattle.std.specs.List.{AllByRecursion, AllZip};
-ghost use Rattle.match_file.specs.Data.{schedules};
-ghost use Rattle.race_hall.specs.Race.{count_from};
+ghost use Rattle.game_trait.specs.Keys.{in_key_order, NamesDiffer};
+ghost use Rattle.match_file.specs.Data.{schedule_of, schedules};
+ghost use Rattle.race_hall.specs.Race.{count_from, plan_of, Course, first_plan};
 ghost use Rattle.race_hall.specs.Raced.{course_of};
-ghost use Rattle.race_hall.specs.Crews.{ByMirror, IsFeederOf, IsCrew, IsManning, IsLockOf};
-ghost use Rattle.race_hall.specs.Crews.{IsPosted, shares_of};
-ghost use Rattle.race_hall.specs.declared.job.JobOver.{JobOver};
+ghost use Rattle.race_hall.specs.Crews.{IsPlanOf, IsRoomOf, AreFeeders, ByMirror, IsFeederOf, IsCrew, IsManning, IsLockOf, IsPosted, shares_of, HasCrew, IsCrewDone, IsClosed, AllClosed, IsTakenBack, IsRoomy};
+ghost use Rattle.race_hall.specs.Lining.{AreLinedUp};
+ghost use Rattle.race_hall.specs.declared.doer.JobOver.{JobOver};
+ghost use Rattle.copy_workers.specs.declared.feeder_job.FeederJob.{FeederJob};
 
-use crate::job::{JobOver, Work};
-use copy_workers::{CopyJob, FeederJob};
-use game_trait::Game;
+use crate::doer::{EndOver, JobOver, Work};
+use crate::links::make_links;
+use copy_workers::{CopyJob, FeederEnd, FeederJob};
+use game_trait::{Command, Game, MirrorId, order_by_key};
+use link_ring::{LinkReceive, LinkSend};
 use match_file::{Match, plans_of};
 use mirror_core::Mirror;
 use mirror_lock::{MirrorLock, MirrorSeat};
@@ -20,6 +24,90 @@ use stagger_clock::Stagger;
 use std::alloc::Global;
 use tss_io::NoMemory;
 use turn_lock::Share;
+
+// A mirror's own commands, in key order.
+fn own_commands(
+    alloc: Global,
+    commands: &[Command],
+    mirror: MirrorId,
+) -> Result<Vec<Command>, NoMemory>
+    requires { NamesDiffer commands.now }
+    ensures { IfOk result (λ plan. plan.items
+        ≡ in_key_order (filter (λ x. x.from == mirror) commands.now)) }
+{
+    let mut plan = Vec::new(alloc);
+    for x in commands {
+        if x.from == mirror {
+            plan.push(*x)?;
+        }
+    }
+    order_by_key(&mut plan);
+    Ok(plan)
+}
+
+// Each mirror's own commands, and how many messages a link from it has room for: these commands,
+// and a mark a tick.
+fn plans_and_rooms(alloc: Global, m: &Match) -> Result<(Vec<Vec<Command>>, Vec<u32>), NoMemory>
+    ensures plans { IfOk result (λ r.
+        AllZip (IsPlanOf (course_of m.now)) (count_from 0 m.now.mirrors) r.0.items) }
+    ensures rooms { IfOk result (λ r.
+        AllZip (IsRoomOf (course_of m.now)) (count_from 0 m.now.mirrors) r.1.items) }
+{
+    let mut plans = Vec::new(alloc);
+    let mut rooms = Vec::new(alloc);
+    for mirror in 0..m.mirrors {
+        let plan = own_commands(alloc, m.commands.as_slice(), mirror)?;
+        rooms.push(plan.len() as u32 + m.length)?;
+        plans.push(plan)?;
+    }
+    Ok((plans, rooms))
+}
+
+// The feeders' jobs, mirror by mirror, which take these plans and links.
+fn line_up(
+    alloc: Global,
+    m: &Match,
+    stagger: Stagger,
+    budget: u64,
+    mut plans: Vec<Vec<Command>>,
+    mut sends: Vec<Vec<LinkSend>>,
+    mut rows: Vec<Vec<LinkReceive>>,
+) -> Result<Vec<FeederJob>, NoMemory>
+    requires stagger { stagger ≡ schedule_of m.now m.now.delays }
+    requires plans { AllZip (IsPlanOf (course_of m.now)) (count_from 0 m.now.mirrors) plans.items }
+    requires sends { length sends.items ≡ m.now.mirrors }
+    requires rows { length rows.items ≡ m.now.mirrors }
+    ensures { IfOk result (λ jobs.
+        AreLinedUp (course_of m.now) budget sends.items rows.items m.now.mirrors jobs.items) }
+{
+    let mut jobs = Vec::new(alloc);
+    for mirror in 0..m.mirrors {
+        let plan = plans.remove(0);
+        jobs.push(FeederJob {
+            mirror,
+            copies: stagger.copies(),
+            stagger,
+            pace: m.pace,
+            foreign: (m.commands.len() - plan.len()) as u32,
+            plan,
+            sends: sends.remove(0),
+            receives: rows.remove(0),
+            budget,
+        })?;
+    }
+    Ok(jobs)
+}
+
+/// The jobs of a match's feeders, mirror by mirror, each of at most so many turns: the mirror's
+/// plan, and new links from and to each other mirror, with room for all that may be sent.
+pub fn feeders(alloc: Global, m: &Match, budget: u64) -> Result<Vec<FeederJob>, NoMemory>
+    ensures { IfOk result (λ jobs. AreFeeders (course_of m.now) budget jobs.items) }
+{
+    let stagger = Stagger::new(m.delays.as_slice(), m.length);
+    let (plans, rooms) = plans_and_rooms(alloc, m)?;
+    let (sends, rows) = make_links(alloc, &rooms)?;
+    line_up(alloc, m, stagger, budget, plans, sends, rows)
+}
 
 // What the seats of a mirror may ask for, which has this feeder.
 fn shares(alloc: Global, feeder: &FeederJob) -> Result<Vec<Share>, NoMemory>
@@ -128,4 +216,92 @@ pub fn crews<G: Game>(
         locks.push(lock)?;
     }
     Ok((locks, jobs))
+}
+
+// Takes back the seats of a crew, which is the first so many of the ends, and what the last of
+// these gave back.
+fn take_crew<T: Drop>(
+    ends: &mut Vec<EndOver<T>>,
+    count: usize,
+    mut seats: Vec<T>,
+) -> (Vec<T>, Option<FeederEnd>)
+    requires there { count ≤ vec_len ends.old }
+    requires empty { seats.items ≡ [] }
+    requires room { count ≤ vec_capacity seats }
+    ensures { IsTakenBack count ends.old.items ends.new.items result.0.items result.1 }
+{
+    let mut given = None;
+    for _ in 0..count {
+        let EndOver {
+            mirror: _,
+            seat,
+            end,
+        } = ends.remove(0);
+        seats.push_reserved(seat);
+        given = end.into_feeder();
+    }
+    (seats, given)
+}
+
+// Closes a mirror's lock with the seats of its crew, which are the first of these ends. The mirror
+// and what its feeder gave back.
+fn close_one<G: Game>(
+    lock: MirrorLock<G>,
+    copies: u8,
+    ends: &mut Vec<EndOver<MirrorSeat<G>>>,
+    seats: Vec<MirrorSeat<G>>,
+) -> (Mirror<G>, FeederEnd)
+    requires crew { (c : Course) × (opening : G) × (spare : ℕ) × (job : FeederJob) × (rest : List _)
+        × (copies ≡ length (first_plan c))
+        × HasCrew (λ s. s.seat) copies lock.lock.table.shared.table_id job ends.old.items rest
+        × IsLockOf c opening spare lock.lock.table.shared.key.opening.value lock.lock.seats }
+    requires room { IsRoomy copies seats.items (vec_capacity seats) }
+    ensures { (c : Course) (opening : G) (spare : ℕ) (job : FeederJob) (rest : List _)
+        → copies ≡ length (first_plan c)
+        → HasCrew (λ s. s.seat) copies lock.lock.table.shared.table_id job ends.old.items rest
+        → IsLockOf c opening spare lock.lock.table.shared.key.opening.value lock.lock.seats
+        → (ends.new.items ≡ rest) × IsClosed c opening spare job result.1 result.0 }
+{
+    let (seats, given) = take_crew(ends, usize::from(copies) + 1, seats);
+    let mirror = lock.close(seats);
+    match given {
+        Some(end) => (mirror, end),
+        None => unreachable!(),
+    }
+}
+
+/// Closes the locks, each with the seats of its crew, into empty lists that have room for it. The
+/// mirrors, and what their feeders gave back. It takes no memory.
+pub fn close_all<G: Game>(
+    locks: Vec<MirrorLock<G>>,
+    copies: u8,
+    mut ends: Vec<EndOver<MirrorSeat<G>>>,
+    mut seats: Vec<Vec<MirrorSeat<G>>>,
+    mut mirrors: Vec<Mirror<G>>,
+    mut feeders: Vec<FeederEnd>,
+) -> (Vec<Mirror<G>>, Vec<FeederEnd>)
+    requires crews { (c : Course) × (opening : G) × (spare : ℕ) × (jobs : List FeederJob)
+        × (copies ≡ length (first_plan c))
+        × ByMirror (λ k lock job crew.
+        IsCrewDone (λ s. s.seat) copies lock.lock.table.shared.table_id job crew
+        × IsLockOf c opening spare lock.lock.table.shared.key.opening.value lock.lock.seats)
+        0 locks.items jobs ends.items }
+    requires seats { AllByRecursion (λ v. IsRoomy copies v.items (vec_capacity v)) seats.items }
+    requires empty { (mirrors.items ≡ []) × (feeders.items ≡ []) }
+    requires room { (vec_len locks ≤ vec_len seats) × (vec_len locks ≤ vec_capacity mirrors)
+        × (vec_len locks ≤ vec_capacity feeders) }
+    ensures { (c : Course) (opening : G) (spare : ℕ) (jobs : List FeederJob)
+        → copies ≡ length (first_plan c)
+        → ByMirror (λ k lock job crew.
+        IsCrewDone (λ s. s.seat) copies lock.lock.table.shared.table_id job crew
+        × IsLockOf c opening spare lock.lock.table.shared.key.opening.value lock.lock.seats)
+        0 locks.items jobs ends.items
+        → AllClosed c opening spare jobs result.1.items result.0.items }
+{
+    for lock in locks {
+        let (mirror, feeder) = close_one(lock, copies, &mut ends, seats.remove(0));
+        mirrors.push_reserved(mirror);
+        feeders.push_reserved(feeder);
+    }
+    (mirrors, feeders)
 }

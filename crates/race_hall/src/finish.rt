@@ -1,7 +1,8 @@
-//! What the caller of a race does after the joins.
+//! The finish of a race: what the feeders left is delivered, and each mirror is drained.
 
-ghost use Rattle.std.specs.Prelude.{◌≡◌, ℕ, ◌+◌, ◌-◌, ◌<◌, ◌≤◌, [], ◌∷◌, ◌++◌, List, length, drop, map};
-ghost use Rattle.std.specs.List.{AllByRecursion};
+ghost use Rattle.std.specs.Prelude.{◌≡◌, ◌≤◌, [], map, vec_len, vec_capacity, ℕ, ◌+◌, ◌-◌, ◌<◌, ◌∷◌, ◌++◌, List, length, drop, slice_index_or};
+ghost use Rattle.race_hall.specs.Parting.{sender_of_end};
+ghost use Rattle.std.specs.List.{AllByRecursion, AllZip};
 ghost use mathlib.Core.List.{IsPrefix};
 ghost use Rattle.game_trait.specs.declared.command.Command.{Command};
 ghost use Rattle.sync_model.specs.Change.{after};
@@ -9,12 +10,43 @@ ghost use Rattle.sync_model.specs.Turns.{steps_from, turn, drain_within, drain_b
 ghost use Rattle.link_ring.specs.declared.message.Message.{Message};
 ghost use Rattle.link_ring.specs.Ends.{waiting_of};
 ghost use Rattle.copy_workers.specs.Messages.{commands_in};
-ghost use Rattle.race_hall.specs.Finish.{delivered, finished, CanTake, HasNext};
+ghost use Rattle.race_hall.specs.Finish.{delivered, finished, CanTake, HasNext, EndsAtFold};
 ghost use Rattle.race_hall.specs.Held.{left_in, unissued_in};
+ghost use Rattle.sync_model.specs.State.{MirrorState};
+ghost use Rattle.race_hall.specs.Looking.{SameSends};
+ghost use Rattle.race_hall.specs.Holding.{Holding, IsOneHeld, AreHeld, AreJoined};
 
+use crate::links::look_row;
+use copy_workers::FeederEnd;
 use game_trait::{Command, Game};
-use link_ring::{LinkReceive, Message};
+use link_ring::{LinkReceive, LinkSend, Message};
 use mirror_core::Mirror;
+
+/// Takes apart what the feeders gave back, mirror by mirror, into empty lists that have room for
+/// it: the ends that each mirror sends on, those that it receives on, and its plan with how much of
+/// it was issued. It takes no memory.
+pub fn part_ends(
+    ends: Vec<FeederEnd>,
+    sends: &mut Vec<Vec<LinkSend>>,
+    rows: &mut Vec<Vec<LinkReceive>>,
+    senders: &mut Vec<Sender>,
+)
+    requires empty { (sends.old.items ≡ []) × (rows.old.items ≡ []) × (senders.old.items ≡ []) }
+    requires room { (vec_len ends ≤ vec_capacity sends.old) × (vec_len ends ≤ vec_capacity rows.old)
+        × (vec_len ends ≤ vec_capacity senders.old) }
+    ensures sends { sends.new.items ≡ map (λ e. e.sends) ends.items }
+    ensures rows { rows.new.items ≡ map (λ e. e.receives) ends.items }
+    ensures senders { senders.new.items ≡ map sender_of_end ends.items }
+{
+    for end in ends {
+        sends.push_reserved(end.sends);
+        rows.push_reserved(end.receives);
+        senders.push_reserved(Sender {
+            plan: end.plan,
+            issued: end.issued,
+        });
+    }
+}
 
 // Delivers what a message brings.
 fn take_message<G: Game>(mirror: &mut Mirror<G>, message: &Message)
@@ -139,4 +171,69 @@ pub fn finish_mirror<G: Game>(mirror: &mut Mirror<G>, links: &mut [LinkReceive],
     take_unissued(mirror, senders);
     let turns = mirror.turns_to_drain();
     drain_mirror(mirror, turns);
+}
+
+// Finishes one mirror of a race: afterwards it has every command of the match once, and its copies'
+// worlds are at the time-ordered execution of all commands.
+fn finish_one<G: Game>(
+    number: usize,
+    mirror: &mut Mirror<G>,
+    sends: &mut [Vec<LinkSend>],
+    row: &mut [LinkReceive],
+    senders: &[Sender],
+)
+    requires held { (h : Holding G) × IsOneHeld h number mirror.old sends.old row.old senders.now }
+    ensures ends { (h : Holding G) → IsOneHeld h number mirror.old sends.old row.old senders.now
+        → EndsAtFold G.rules h.course h.opening mirror.new }
+    ensures sends { AllZip SameSends sends.old sends.new }
+{
+    look_row(number, sends, row);
+    finish_mirror(mirror, row, senders);
+}
+
+/// Finishes all mirrors of a race, mirror by mirror. Afterwards each has every command of the match
+/// once, and its copies' worlds are at the time-ordered execution of all commands, whatever the
+/// workers did before they ended.
+pub fn finish_race<G: Game>(
+    mirrors: &mut [Mirror<G>],
+    sends: &mut [Vec<LinkSend>],
+    rows: &mut [Vec<LinkReceive>],
+    senders: &[Sender],
+)
+    requires held { (h : Holding G) × AreHeld h mirrors.old sends.old rows.old senders.now }
+    ensures ends { (h : Holding G) → AreHeld h mirrors.old sends.old rows.old senders.now
+        → (m : ℕ) (s : MirrorState G) → m < length mirrors.new → s ≡ slice_index_or mirrors.new m s
+        → EndsAtFold G.rules h.course h.opening s }
+{
+    for number in 0..mirrors.len() {
+        finish_one(
+            number,
+            &mut mirrors[number],
+            sends,
+            &mut rows[number],
+            senders,
+        );
+    }
+}
+
+/// Finishes a race from what the joins gave: the mirrors of the locks, and what the feeders gave
+/// back, mirror by mirror, with empty lists that have room for what these hold. Afterwards each
+/// mirror stands as `finish_race` leaves it.
+pub fn finish_joined<G: Game>(
+    mirrors: &mut [Mirror<G>],
+    ends: Vec<FeederEnd>,
+    mut sends: Vec<Vec<LinkSend>>,
+    mut rows: Vec<Vec<LinkReceive>>,
+    mut senders: Vec<Sender>,
+)
+    requires joined { (h : Holding G) × AreJoined h mirrors.old ends.items }
+    requires empty { (sends.items ≡ []) × (rows.items ≡ []) × (senders.items ≡ []) }
+    requires room { (vec_len ends ≤ vec_capacity sends) × (vec_len ends ≤ vec_capacity rows)
+        × (vec_len ends ≤ vec_capacity senders) }
+    ensures { (h : Holding G) → AreJoined h mirrors.old ends.items
+        → (m : ℕ) (s : MirrorState G) → m < length mirrors.new → s ≡ slice_index_or mirrors.new m s
+        → EndsAtFold G.rules h.course h.opening s }
+{
+    part_ends(ends, &mut sends, &mut rows, &mut senders);
+    finish_race(mirrors, &mut sends, &mut rows, &senders);
 }

@@ -1,17 +1,19 @@
 //! A race: mirrors whose workers run in threads, finished by the caller.
+//!
+//! `race` and `race_with` make each mirror, its lock, its links and a job for each of its workers
+//! (`links`, `crews`), have the jobs done by threads and by the caller beside them (`threads`,
+//! `doer`), close the locks, deliver what was left, and drain each mirror (`finish`). Why each
+//! mirror then has every command once and all copies end at one world is told by `laws`.
 #![tactic(auto)]
 
-pub mod closing;
-pub mod crews;
-pub mod doing;
-pub mod feeders;
-pub mod finish;
-pub mod job;
-pub mod laws;
-pub mod looking;
-pub mod making;
-pub mod parting;
-pub mod post;
-pub mod race;
-pub mod racing;
-pub mod threads;
+mod board;
+mod crews;
+mod doer;
+mod finish;
+mod laws;
+mod links;
+mod racing;
+mod threads;
+
+pub use laws::{nothing_is_late, race_ends, workers_may_do_nothing};
+pub use racing::{MOST_BUDGET, race, race_with};

@@ -11,14 +11,11 @@ ghost use Rattle.race_hall.specs.Jobs.{Ends, CanDo};
 ghost use Rattle.race_hall.specs.Crews.{ByMirror, IsCrewDone, IsLockOf, IsRaceOf, IsRoomy};
 ghost use Rattle.race_hall.specs.Raced.{AreRaced};
 
-use crate::closing::close_all;
-use crate::crews::crews;
-use crate::doing::Doing;
-use crate::feeders::feeders;
-use crate::finish::Sender;
-use crate::job::{EndOver, JobOver};
-use crate::race::finish_joined;
-use crate::threads::{EndOf, Rooms, do_all};
+use crate::board::{Board, boards};
+use crate::crews::{close_all, crews, feeders};
+use crate::doer::{Doing, EndOver, JobOver};
+use crate::finish::{Sender, finish_joined};
+use crate::threads::{Backs, Rooms, do_all};
 use copy_workers::{FeederEnd, Gate};
 use game_trait::Game;
 use link_ring::{LinkReceive, LinkSend};
@@ -27,38 +24,11 @@ use mirror_core::Mirror;
 use mirror_lock::{MirrorLock, MirrorSeat};
 use std::alloc::Global;
 use std::sync::Wait;
-use std::thread::{PromisedHandle, Threads};
+use std::thread::Threads;
 use tss_io::NoMemory;
 
 /// The most turns that a job of a race may make.
 pub const MOST_BUDGET: u64 = 1_048_576;
-
-// Does the jobs of a race, over these locks.
-fn do_jobs<R: Threads + Wait + Sync, G: Game + Send, P: Gate + Sync>(
-    rt: &R,
-    gate: &P,
-    locks: &[MirrorLock<G>],
-    jobs: Vec<JobOver<MirrorSeat<G>>>,
-    inline: u128,
-    rooms: Rooms<
-        PromisedHandle<EndOver<MirrorSeat<G>>, EndOf<JobOver<MirrorSeat<G>>>>,
-        JobOver<MirrorSeat<G>>,
-        EndOver<MirrorSeat<G>>,
-    >,
-) -> Vec<EndOver<MirrorSeat<G>>>
-    requires can { AllByRecursion (CanDo G.rules (λ s. s.seat)
-        (map (λ l. l.lock.table.shared.table_id) locks.now))
-        jobs.items }
-    requires few { vec_len jobs ≤ 128 }
-    requires empty { (rooms.begun.items ≡ []) × (rooms.going.items ≡ []) × (rooms.ends.items ≡ []) }
-    requires room { (vec_len jobs ≤ vec_capacity rooms.begun)
-        × (vec_len jobs ≤ vec_capacity rooms.going)
-        × (vec_len jobs ≤ vec_capacity rooms.ends) }
-    ensures { AllZip (Ends (λ s. s.seat)) jobs.items result.items }
-{
-    let doer = Doing::new(rt, gate, locks);
-    do_all(rt, &doer, jobs, inline, rooms)
-}
 
 // Empty lists with room for so many jobs.
 fn make_rooms<H: Drop, J: Drop, E: Drop>(
@@ -71,10 +41,32 @@ fn make_rooms<H: Drop, J: Drop, E: Drop>(
         × (jobs ≤ vec_capacity r.ends)) }
 {
     Ok(Rooms {
+        back: Backs::new(alloc, jobs)?,
         begun: Vec::with_capacity(alloc, jobs)?,
         going: Vec::with_capacity(alloc, jobs)?,
         ends: Vec::with_capacity(alloc, jobs)?,
     })
+}
+
+// Does the jobs of a race, over these locks. Where there isn't memory to begin, none is done.
+fn do_jobs<R: Threads + Wait + Sync, G: Game + Send, P: Gate + Sync>(
+    rt: &R,
+    alloc: Global,
+    gate: &P,
+    locks: &[MirrorLock<G>],
+    boards: &[Board],
+    jobs: Vec<JobOver<MirrorSeat<G>>>,
+    inline: u128,
+) -> Result<Vec<EndOver<MirrorSeat<G>>>, NoMemory>
+    requires can { AllByRecursion (CanDo G.rules (λ s. s.seat)
+        (map (λ l. l.lock.table.shared.table_id) locks.now))
+        jobs.items }
+    requires few { vec_len jobs ≤ 128 }
+    ensures { IfOk result (λ ends. AllZip (Ends (λ s. s.seat)) jobs.items ends.items) }
+{
+    let rooms = make_rooms(alloc, jobs.len())?;
+    let doer = Doing::new(rt, gate, locks, boards);
+    Ok(do_all(rt, &doer, jobs, inline, rooms))
 }
 
 // For each mirror an empty list with room for the seats of its crew, which has so many copies.
@@ -179,11 +171,12 @@ fn end_race<G: Game>(
 /// Races a match from this world: each mirror has a feeder and a worker for each of its copies, and
 /// each of these makes at most so many turns. Job number `mirror * (copies + 1) + worker` is done
 /// by the caller where that bit of `inline` is set or where no thread can be made for it, and by a
-/// thread otherwise; the feeder is worker `copies`. The threads begin first. When all have ended,
-/// the caller delivers what they left, and makes turns until each mirror is drained. The mirrors,
-/// mirror 0 first: whatever the threads did, each has every command once, turned none away, and its
-/// copies' worlds are the time-ordered execution of all commands. `NoMemory` where there isn't
-/// memory to begin; then nothing ran. It may wait, for the locks and at the gate.
+/// thread otherwise; the feeder is worker `copies`. The threads are started first, and beside them
+/// the caller does its own jobs, in rising number. When all have ended, it delivers what they left,
+/// and makes turns until each mirror is drained. The mirrors, mirror 0 first: whatever the threads
+/// did, each has every command once, turned none away, and its copies' worlds are the time-ordered
+/// execution of all commands. `NoMemory` where there isn't memory to begin; then nothing ran. It may
+/// wait, for the locks and at the gate.
 pub fn race_with<R: Threads + Wait + Sync, G: Game + Send, P: Gate + Sync>(
     rt: &R,
     alloc: Global,
@@ -199,9 +192,9 @@ pub fn race_with<R: Threads + Wait + Sync, G: Game + Send, P: Gate + Sync>(
     let copies = m.delays.len() as u8;
     let feeders = feeders(alloc, m, budget)?;
     let (locks, jobs) = crews(alloc, m, opening, feeders)?;
-    let rooms = make_rooms(alloc, jobs.len())?;
+    let boards = boards(alloc, m, locks.len())?;
     let spaces = make_spaces(alloc, locks.len(), copies)?;
-    let ends = do_jobs(rt, gate, &locks, jobs, inline, rooms);
+    let ends = do_jobs(rt, alloc, gate, &locks, &boards, jobs, inline)?;
     Ok(end_race(locks, copies, ends, spaces))
 }
 

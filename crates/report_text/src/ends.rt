@@ -9,18 +9,18 @@ use tss_io::{NoMemory, Refused, Word, push_line};
 
 /// Appends the last line, `done`. On `NoMemory` `out` is unchanged.
 #[tactic(auto, unfolding(crate::specs::Ends::done_line))]
-pub fn push_done(out: &mut Vec<u8>) -> Result<(), NoMemory>
+pub fn done_line(out: &mut Vec<u8>) -> Result<(), NoMemory>
     ensures ok { OnOk result (out.new.items ≡ out.old.items ++ done_line) }
     ensures err { OnErr result (out.new.items ≡ out.old.items) }
 {
     push_line(out, &[Word::Text(b"done")])
 }
 
-/// The line that tells of a refused text, `refused line L cause C WORD`. It takes no memory, so
+/// What tells of a refused text, `refused line L cause C WORD` and a newline. It takes no memory, so
 /// that a fault that was found can't come out as want of it.
 #[tactic(auto, unfolding(crate::specs::Ends::refused_text))]
-pub fn refused_line(refused: Refused) -> ArrayString<64>
-    ensures { result.bytes ≡ refused_text refused }
+pub fn refusal_text(refused: &Refused) -> ArrayString<64>
+    ensures { result.bytes ≡ refused_text refused.now }
 {
     let mut line = ArrayString::new();
     line.push_str("refused line ");
@@ -31,6 +31,14 @@ pub fn refused_line(refused: Refused) -> ArrayString<64>
     line.push_str(refused.cause.word());
     line.push_str("\n");
     line
+}
+
+/// Appends the line of `refusal_text`. On `NoMemory` `out` is unchanged.
+pub fn refused_line(out: &mut Vec<u8>, refused: &Refused) -> Result<(), NoMemory>
+    ensures ok { OnOk result (out.new.items ≡ out.old.items ++ refused_text refused.now) }
+    ensures err { OnErr result (out.new.items ≡ out.old.items) }
+{
+    Ok(out.extend_from_slice(refusal_text(refused).as_bytes())?)
 }
 
 /// The line for words that ask for nothing that is built. It takes no memory.

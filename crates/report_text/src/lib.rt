@@ -9,9 +9,9 @@ mod score;
 mod soak;
 mod worlds;
 
-pub use ends::{push_done, refused_line, usage_line};
-pub use mirrors::{push_line_end, push_mirror_line, push_run_head, push_run_mark};
-pub use replies::{push_arrived, push_repair, push_stepped, push_ticked};
+pub use ends::{done_line, refusal_text, refused_line, usage_line};
+pub use mirrors::{line_end, mirror_line, run_head, run_mark};
+pub use replies::{arrival_line, repair_line, step_line, tick_line};
 pub use score::{ScoreRow, score_json};
-pub use soak::{push_same, push_soak_line};
-pub use worlds::{push_copy_block, push_order_block};
+pub use soak::{same_line, soak_line};
+pub use worlds::{copy_block, world_block};

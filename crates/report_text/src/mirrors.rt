@@ -9,11 +9,11 @@ use tss_io::{NoMemory, Word, push_decimal, push_line};
 /// Appends `mirror M accepted A turned Z repairs R`: how many commands the mirror accepted, how
 /// many arrivals it turned away, and how many copies it repaired. On `NoMemory` `out` is unchanged.
 #[tactic(auto, unfolding(crate::specs::Mirrors::mirror_line))]
-pub fn push_mirror_line(
+pub fn mirror_line(
     out: &mut Vec<u8>,
     mirror: MirrorId,
-    accepted: u64,
-    turned: u64,
+    accepted: u32,
+    turned: u32,
     repairs: u64,
 ) -> Result<(), NoMemory>
     ensures ok { OnOk result
@@ -26,9 +26,9 @@ pub fn push_mirror_line(
             Word::Text(b"mirror"),
             Word::Count(u64::from(mirror)),
             Word::Text(b"accepted"),
-            Word::Count(accepted),
+            Word::Count(u64::from(accepted)),
             Word::Text(b"turned"),
-            Word::Count(turned),
+            Word::Count(u64::from(turned)),
             Word::Text(b"repairs"),
             Word::Count(repairs),
         ],
@@ -50,7 +50,7 @@ fn push_run_parts(out: &mut Vec<u8>, mirror: MirrorId, copy: u8) -> Result<(), N
 }
 
 /// Appends what a run line begins with, `run M C:`. On `NoMemory` `out` is unchanged.
-pub fn push_run_head(out: &mut Vec<u8>, mirror: MirrorId, copy: u8) -> Result<(), NoMemory>
+pub fn run_head(out: &mut Vec<u8>, mirror: MirrorId, copy: u8) -> Result<(), NoMemory>
     ensures ok { OnOk result (out.new.items ≡ out.old.items ++ run_head mirror copy) }
     ensures err { OnErr result (out.new.items ≡ out.old.items) }
 {
@@ -83,7 +83,7 @@ fn push_mark_parts(out: &mut Vec<u8>, item: &Item) -> Result<(), NoMemory>
 
 /// Appends a space and the mark of an item of a run: `F.N` for a command, and `|` for a beat. On
 /// `NoMemory` `out` is unchanged.
-pub fn push_run_mark(out: &mut Vec<u8>, item: &Item) -> Result<(), NoMemory>
+pub fn run_mark(out: &mut Vec<u8>, item: &Item) -> Result<(), NoMemory>
     ensures ok { OnOk result (out.new.items ≡ out.old.items ++ 32 ∷ item_mark item.now) }
     ensures err { OnErr result (out.new.items ≡ out.old.items) }
 {
@@ -98,7 +98,7 @@ pub fn push_run_mark(out: &mut Vec<u8>, item: &Item) -> Result<(), NoMemory>
 }
 
 /// Appends the newline that ends a line. On `NoMemory` `out` is unchanged.
-pub fn push_line_end(out: &mut Vec<u8>) -> Result<(), NoMemory>
+pub fn line_end(out: &mut Vec<u8>) -> Result<(), NoMemory>
     ensures ok { OnOk result (out.new.items ≡ out.old.items ++ 10 ∷ []) }
     ensures err { OnErr result (out.new.items ≡ out.old.items) }
 {

@@ -9,7 +9,7 @@ use tss_io::{NoMemory, Word, push_line};
 /// Appends `repair M R`: at this mirror so many copies were repaired. It appends nothing where none
 /// was. On `NoMemory` `out` is unchanged. The line is this project's own, as all others are.
 #[tactic(auto, unfolding(crate::specs::Replies::repair_line))]
-pub fn push_repair(out: &mut Vec<u8>, mirror: MirrorId, repaired: u8) -> Result<(), NoMemory>
+pub fn repair_line(out: &mut Vec<u8>, mirror: MirrorId, repaired: u8) -> Result<(), NoMemory>
     ensures ok { OnOk result (out.new.items ≡ out.old.items ++ repair_line mirror repaired) }
     ensures err { OnErr result (out.new.items ≡ out.old.items) }
 {
@@ -29,7 +29,7 @@ pub fn push_repair(out: &mut Vec<u8>, mirror: MirrorId, repaired: u8) -> Result<
 /// Appends what the answer to a tick prints: `over M` where the mirror's clock stands at its end,
 /// and else nothing. On `NoMemory` `out` is unchanged.
 #[tactic(auto, unfolding(crate::specs::Replies::tick_text))]
-pub fn push_ticked(out: &mut Vec<u8>, mirror: MirrorId, ticked: Ticked) -> Result<(), NoMemory>
+pub fn tick_line(out: &mut Vec<u8>, mirror: MirrorId, ticked: Ticked) -> Result<(), NoMemory>
     ensures ok { OnOk result (out.new.items ≡ out.old.items ++ tick_text mirror ticked) }
     ensures err { OnErr result (out.new.items ≡ out.old.items) }
 {
@@ -43,15 +43,15 @@ pub fn push_ticked(out: &mut Vec<u8>, mirror: MirrorId, ticked: Ticked) -> Resul
 /// number: `repeat M F N`, `late M F N BOUND` with the bound in ticks, or the line of a repair. On
 /// `NoMemory` `out` is unchanged.
 #[tactic(auto, unfolding(crate::specs::Replies::arrival_text))]
-pub fn push_arrived(
+pub fn arrival_line(
     out: &mut Vec<u8>,
     mirror: MirrorId,
     from: MirrorId,
     number: Number,
-    arrived: Arrived,
+    arrived: &Arrived,
 ) -> Result<(), NoMemory>
     ensures ok { OnOk result
-        (out.new.items ≡ out.old.items ++ arrival_text mirror from number arrived) }
+        (out.new.items ≡ out.old.items ++ arrival_text mirror from number arrived.now) }
     ensures err { OnErr result (out.new.items ≡ out.old.items) }
 {
     let (at, sender, name) = (
@@ -59,8 +59,8 @@ pub fn push_arrived(
         Word::Count(u64::from(from)),
         Word::Count(u64::from(number)),
     );
-    match arrived {
-        Arrived::Taken { repaired } => push_repair(out, mirror, repaired),
+    match *arrived {
+        Arrived::Taken { repaired } => repair_line(out, mirror, repaired),
         Arrived::Repeat => push_line(out, &[Word::Text(b"repeat"), at, sender, name]),
         Arrived::Late { bound } => push_line(
             out,
@@ -78,7 +78,7 @@ pub fn push_arrived(
 /// Appends what the answer to a copy's step prints: `idle M C` where it stands at its limit, or the
 /// line of a repair. On `NoMemory` `out` is unchanged.
 #[tactic(auto, unfolding(crate::specs::Replies::step_text))]
-pub fn push_stepped(
+pub fn step_line(
     out: &mut Vec<u8>,
     mirror: MirrorId,
     copy: u8,
@@ -88,7 +88,7 @@ pub fn push_stepped(
     ensures err { OnErr result (out.new.items ≡ out.old.items) }
 {
     match stepped {
-        Stepped::Ran { repaired } => push_repair(out, mirror, repaired),
+        Stepped::Ran { repaired } => repair_line(out, mirror, repaired),
         Stepped::Idle => push_line(
             out,
             &[

@@ -1,6 +1,6 @@
 //! The scoreboard of a match in JSON.
 
-ghost use Rattle.std.specs.Prelude.{◌≡◌, ◌≤◌, ◌+◌, length, take, map, IfOk, OnOk};
+ghost use Rattle.std.specs.Prelude.{◌≡◌, ◌+◌, take, map, IfOk, OnOk};
 ghost use Rattle.std.specs.Str.{IsAscii};
 ghost use Rattle.std.specs.List.{AllByRecursion};
 ghost use Rattle.serde_json.specs.Data.{string};
@@ -79,38 +79,36 @@ fn name_value(alloc: Global, name: &[u8]) -> Result<Value, NoMemory>
     }
 }
 
-// Appends the name of the player of this number, if there is one.
+// Appends the name in this place, if there is one.
 fn push_name(
     alloc: Global,
     values: &mut Vec<Value>,
     names: &Roster,
-    player: u8,
+    place: usize,
 ) -> Result<(), NoMemory>
     requires ascii { AllByRecursion IsAscii names.now }
-    requires before { map view values.old.items ≡ map string (take player names.now) }
-    ensures { OnOk result (map view values.new.items ≡ map string (take (player + 1) names.now)) }
+    requires before { map view values.old.items ≡ map string (take place names.now) }
+    ensures { OnOk result (map view values.new.items ≡ map string (take (place + 1) names.now)) }
 {
-    match names.name(player) {
+    match names.name_at(place) {
         Some(name) => Ok(values.push(name_value(alloc, name)?)?),
         None => Ok(()),
     }
 }
 
 fn names_value(alloc: Global, names: &Roster) -> Result<Value, NoMemory>
-    requires count { length names.now ≤ 32 }
-    requires ascii { AllByRecursion IsAscii names.now }
+    requires { AllByRecursion IsAscii names.now }
     ensures { IfOk result (λ v. view v ≡ names_data names.now) }
 {
     let mut values = Vec::new(alloc);
-    for player in 0..32u8 {
-        push_name(alloc, &mut values, names, player)?;
+    for place in 0..names.len() {
+        push_name(alloc, &mut values, names, place)?;
     }
     Ok(Value::Array(values))
 }
 
 fn board_value(alloc: Global, names: &Roster, rows: &[ScoreRow]) -> Result<Value, NoMemory>
-    requires count { length names.now ≤ 32 }
-    requires ascii { AllByRecursion IsAscii names.now }
+    requires { AllByRecursion IsAscii names.now }
     ensures { IfOk result (λ v. view v ≡ scoreboard names.now rows.now) }
 {
     let rows = rows_value(alloc, rows)?;
@@ -123,11 +121,10 @@ fn board_value(alloc: Global, names: &Roster, rows: &[ScoreRow]) -> Result<Value
 
 /// The scoreboard in JSON, without a space: an object with `mirrors`, of each mirror its counts and
 /// its scores, and `names`, the players' names. The members of an object stand in the order of
-/// their keys. A roster of a match has at most 32 names, of ASCII.
+/// their keys. The names are ASCII, as those of a match are.
 #[tactic(auto, unfolding(crate::specs::Score::score_text))]
 pub fn score_json(alloc: Global, names: &Roster, rows: &[ScoreRow]) -> Result<Vec<u8>, NoMemory>
-    requires count { length names.now ≤ 32 }
-    requires ascii { AllByRecursion IsAscii names.now }
+    requires { AllByRecursion IsAscii names.now }
     ensures { IfOk result (λ text. text.items ≡ score_text names.now rows.now) }
 {
     let value = board_value(alloc, names, rows)?;

@@ -8,7 +8,7 @@ use tss_io::{NoMemory, Word, push_line};
 /// Appends `soak N commands C`: the number that makes the match, and how many commands the match
 /// has. On `NoMemory` `out` is unchanged.
 #[tactic(auto, unfolding(crate::specs::Soak::soak_line))]
-pub fn push_soak_line(out: &mut Vec<u8>, number: u32, commands: u32) -> Result<(), NoMemory>
+pub fn soak_line(out: &mut Vec<u8>, number: u32, commands: u32) -> Result<(), NoMemory>
     ensures ok { OnOk result (out.new.items ≡ out.old.items ++ soak_line number commands) }
     ensures err { OnErr result (out.new.items ≡ out.old.items) }
 {
@@ -26,7 +26,7 @@ pub fn push_soak_line(out: &mut Vec<u8>, number: u32, commands: u32) -> Result<(
 /// Appends `same yes` or `same no`: whether all copies of all mirrors have one world. On `NoMemory`
 /// `out` is unchanged.
 #[tactic(auto, unfolding(crate::specs::Soak::same_line))]
-pub fn push_same(out: &mut Vec<u8>, same: bool) -> Result<(), NoMemory>
+pub fn same_line(out: &mut Vec<u8>, same: bool) -> Result<(), NoMemory>
     ensures ok { OnOk result (out.new.items ≡ out.old.items ++ same_line same) }
     ensures err { OnErr result (out.new.items ≡ out.old.items) }
 {

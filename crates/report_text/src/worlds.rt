@@ -1,8 +1,8 @@
 //! The blocks that show worlds.
 
-ghost use Rattle.std.specs.Prelude.{◌≡◌, ◌++◌, length, take, map, OnOk, OnErr};
+ghost use Rattle.std.specs.Prelude.{◌≡◌, ◌++◌, ◌∷◌, [], length, take, map, decimal, OnOk, OnErr};
 ghost use Rattle.tss_io.specs.Words.{word_bytes};
-ghost use Rattle.report_text.specs.Worlds.{block_text, copy_head, order_head};
+ghost use Rattle.report_text.specs.Worlds.{block_text, copy_head};
 
 use arena_rules::{Roster, Shown};
 use game_trait::{MirrorId, Tick};
@@ -46,7 +46,7 @@ fn push_block<G: Shown>(
 
 /// Appends the block of a copy, with the head `world M C TIME`: its mirror, its number, and its
 /// clock in ticks. On `NoMemory` `out` is unchanged.
-pub fn push_copy_block<G: Shown>(
+pub fn copy_block<G: Shown>(
     out: &mut Vec<u8>,
     mirror: MirrorId,
     copy: u8,
@@ -71,21 +71,22 @@ pub fn push_copy_block<G: Shown>(
     )
 }
 
-/// Appends the block of a world after so many ticks, with the head `order L`. On `NoMemory` `out`
-/// is unchanged.
-pub fn push_order_block<G: Shown>(
+/// Appends the block of a world with any head: the head line is the head, a space, and the number of
+/// ticks that led to the world. On `NoMemory` `out` is unchanged.
+pub fn world_block<G: Shown>(
     out: &mut Vec<u8>,
-    length: Tick,
+    head: &[u8],
+    time: Tick,
     world: &G,
     roster: &Roster,
 ) -> Result<(), NoMemory>
     ensures ok { OnOk result (out.new.items ≡ out.old.items
-        ++ block_text G.lines roster.now (order_head length) world.now) }
+        ++ block_text G.lines roster.now (head.now ∷ decimal time ∷ []) world.now) }
     ensures err { OnErr result (out.new.items ≡ out.old.items) }
 {
     push_block(
         out,
-        &[Word::Text(b"order"), Word::Count(u64::from(length))],
+        &[Word::Text(head), Word::Count(u64::from(time))],
         world,
         roster,
     )

@@ -16,7 +16,7 @@ use arena_rules::Shown;
 use game_trait::{Game, MirrorId};
 use match_file::Match;
 use mirror_core::Mirror;
-use report_text::push_copy_block;
+use report_text::copy_block;
 use run_recorder::{Block, MirrorLog, RaceRecord};
 use std::alloc::Global;
 use tss_io::NoMemory;
@@ -53,7 +53,7 @@ fn is_stated<G: Game + Shown>(
         IfOk result (λ same. same ≡ false → IsStated show number mirror.now copy block.now → ⊥) }
 {
     let mut text = Vec::new(alloc);
-    push_copy_block(
+    copy_block(
         &mut text,
         number,
         copy,

@@ -5,7 +5,7 @@ ghost use Rattle.run_auditor.specs.Verdicts.{why_word, verdict_text};
 
 use crate::why::Why;
 use game_trait::MirrorId;
-use report_text::push_done;
+use report_text::done_line;
 use tss_io::{NoMemory, Word, push_line};
 
 /// What an audit says of a record.
@@ -49,7 +49,7 @@ impl Verdict {
         match *self {
             Verdict::Legal { events } => {
                 push_line(out, &[Word::Text(b"legal"), Word::Count(events)])?;
-                push_done(out)?;
+                done_line(out)?;
                 Ok(())
             }
             Verdict::NotLegal { mirror, place, why } => {

@@ -13,7 +13,7 @@ use game_trait::{Game, MirrorId, execute_in_order};
 use match_file::Match;
 use match_hall::Hall;
 use match_maker::make_match;
-use report_text::{push_done, push_same, push_soak_line};
+use report_text::{done_line, same_line, soak_line};
 use run_recorder::MirrorLog;
 use std::alloc::Global;
 use tss_io::{NoMemory, Seq};
@@ -63,7 +63,7 @@ fn push_agreement(
     ensures { OnOk result
         (TellsAgreement arena_rules world.now hall.now out.old.items out.new.items) }
 {
-    push_same(out, are_all_at(hall, mirrors, world))
+    same_line(out, are_all_at(hall, mirrors, world))
 }
 
 // The text of a number and of the hall of its match, whose time-ordered execution is this world.
@@ -79,10 +79,10 @@ fn text_of(
     ensures { IfOk result (λ text. TellsOf arena_rules world.now number hall.now text) }
 {
     let mut text = Vec::new(alloc);
-    push_soak_line(&mut text, number, COMMANDS)?;
+    soak_line(&mut text, number, COMMANDS)?;
     hall.show_lines(&mut text)?;
     push_agreement(&mut text, hall, mirrors, world)?;
-    push_done(&mut text)?;
+    done_line(&mut text)?;
     Ok(Seq::of(text))
 }
 

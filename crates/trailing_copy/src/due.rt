@@ -7,17 +7,17 @@ use arrayvec::ArrayVec;
 use game_trait::{Command, Tick};
 use pending_list::Buckets;
 
-/// A tick's commands in key order, of which there are no more than the list holds.
-pub fn due_of<const N: usize>(list: &Buckets, t: Tick) -> ArrayVec<Command, N>
+/// Puts a tick's commands in key order in the place of others. They are no more than the list
+/// holds.
+pub fn due_into<const N: usize>(list: &Buckets, t: Tick, commands: &mut ArrayVec<Command, N>)
     requires { length (due_at list.now.all t) ≤ N }
-    ensures { result.items ≡ due_at list.now.all t }
+    ensures { commands.new.items ≡ due_at list.now.all t }
 {
-    let mut commands = ArrayVec::new();
+    commands.clear();
     let start = list.start(t);
     let mut place = start;
     while let Some(x) = list.due(place, t) {
         commands.push(x);
         place += 1;
     }
-    commands
 }

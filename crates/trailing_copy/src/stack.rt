@@ -14,7 +14,7 @@ ghost use Rattle.sync_model.specs.State.{copy_clock, last_clock};
 ghost use Rattle.sync_model.specs.Repairs.{is_late_at, IsLastLate};
 
 use crate::clocks::count_above;
-use crate::due::due_of;
+use crate::due::due_into;
 use crate::repairs::{append_ahead, bring_up};
 use crate::ticks::{execute_at, put_at, replay_at};
 use crate::worlds::{apply_to_each, make_worlds};
@@ -425,13 +425,13 @@ impl<G: Game> CopyStack<G> {
         self.list.start(t + 1) - self.list.start(t)
     }
 
-    /// The accepted commands that are due at a tick, in key order. They are no more than the list
-    /// holds.
-    pub fn due<const N: usize>(&self, t: Tick) -> ArrayVec<Command, N>
+    /// Puts the accepted commands that are due at a tick, in key order, in the place of others. They
+    /// are no more than the list holds.
+    pub fn due_into<const N: usize>(&self, t: Tick, commands: &mut ArrayVec<Command, N>)
         requires { length (due_at self.now.accepted t) ≤ N }
-        ensures { result.items ≡ due_at self.now.accepted t }
+        ensures { commands.new.items ≡ due_at self.now.accepted t }
     {
-        due_of(&self.list, t)
+        due_into(&self.list, t, commands);
     }
 
     /// The copy's clock: how many ticks it has run. The copy is there.

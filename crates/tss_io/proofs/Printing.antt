@@ -1,5 +1,5 @@
 -- Lines put one after another, and the words of a line.
-use Rattle.std.proofs.Common.{◌≡◌, ℕ, ◌+◌, ◌<◌, ◌≤◌, List, [], ◌∷◌, ◌++◌, map, length, take, refl, sym, ap, ◌∙◌, append_assoc, append-nil, get_or, length-append, take-take, take_all, arith}
+use Rattle.std.proofs.Common.{◌≡◌, ℕ, ◌+◌, ◌<◌, ◌≤◌, List, [], ◌∷◌, ◌++◌, map, length, take, refl, sym, ap, ◌∙◌, append_assoc, append-nil, get_or, length-append, take-take, arith}
 use Rattle.std.proofs.Math.Seq.{take-append_seam}
 use Rattle.std.proofs.lemmas.Grind.{flat_map-append, take_at_read}
 use Rattle.std.proofs.lemmas.List.{map-append}
@@ -18,12 +18,6 @@ pub spaced-none : {W : Type 0} (bytes : W → List ℕ) (words : List W) → len
 unfolding spaced
 spaced-none bytes [] none = refl
 spaced-none bytes (w ∷ words) none = absurd (omega arith)
-
--- the next word of a line
-pub spaces-next : {W : Type 0} (bytes : W → List ℕ) (words : List W) (i : ℕ) (d : W) (old mid space new : List ℕ) → i < length words → mid ≡ old ++ behind_spaces bytes (take i words) → space ≡ mid ++ 32 ∷ [] → new ≡ space ++ bytes (get_or words i d)
-    → new ≡ old ++ behind_spaces bytes (take (i + 1) words)
-spaces-next bytes words i d old mid space new within so_far spaced_out next =
-    next ∙ rw (spaced_out, so_far, (take_at_read words i d within).1, flat_map-append, append-nil (32 ∷ bytes (get_or words i d))) (simp append_assoc)
 
 -- what was there stays in front
 pub front-kept : (old more new : List ℕ) → new ≡ old ++ more → take (length old) new ≡ old
@@ -64,9 +58,6 @@ pub lines_next : {A : Type 0} (f : A → List ℕ) (xs : List A) (i : ℕ) (d : 
     → new ≡ old ++ lines_text (map f (take (i + 1) xs))
 lines_next f xs i d old mid new within so_far next =
     next ∙ rw (so_far, (take_at_read xs i d within).1, map-append, lines_text-append, one_line (f (get_or xs i d))) (append_assoc old _ _)
-
-pub lines_all : {A : Type 0} (f : A → List ℕ) (xs : List A) (i : ℕ) (old mid : List ℕ) → length xs ≤ i → mid ≡ old ++ lines_text (map f (take i xs)) → mid ≡ old ++ lines_text (map f xs)
-lines_all f xs i old mid past so_far = so_far ∙ rw (take_all i xs past) refl
 
 pub lines_none : (old : List ℕ) → old ≡ old ++ lines_text []
 unfolding lines_text

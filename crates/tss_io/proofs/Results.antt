@@ -1,6 +1,5 @@
 -- Laws of reading step by step.
-use Rattle.std.proofs.Common.{◌≡◌, ◌⊎◌, inl, inr, Bool, true, false, cond, Option, Some, None, Result, Ok, Err, refl}
-use Rattle.std.specs.Prelude.{ok_or}
+use Rattle.std.proofs.Common.{◌≡◌, Bool, true, false, cond, Result, Ok, Err, refl}
 use Rattle.tss_io.specs.Results.{◌>>=◌}
 
 -- the first step gave something, and the next read on from it
@@ -8,18 +7,9 @@ pub bind_ok : {A B E : Type 0} (r : Result A E) (f : A → Result B E) (y : B) �
 bind_ok (Ok x) f y e = (x, refl, e)
 bind_ok (Err d) f y e = absurd cc
 
--- the fault is the first step's, or what follows it met it
-pub bind_err : {A B E : Type 0} (r : Result A E) (f : A → Result B E) (d : E) → (r >>= f) ≡ Err d → (r ≡ Err d) ⊎ ((x : A) × (r ≡ Ok x) × (f x ≡ Err d))
-bind_err (Ok x) f d e = inr (x, refl, e)
-bind_err (Err c) f d e = inl cc
-
 -- after a step that gave x, the reading is what follows from x
 pub then : {A B E : Type 0} (r : Result A E) (x : A) (f : A → Result B E) (z : Result B E) → r ≡ Ok x → f x ≡ z → (r >>= f) ≡ z
 then r x f z first rest = rw first rest
-
--- after a fault nothing follows
-pub then_err : {A B E : Type 0} (r : Result A E) (d : E) (f : A → Result B E) → r ≡ Err d → (r >>= f) ≡ Err d
-then_err r d f first = rw first refl
 
 -- a test for a fault that didn't find it
 pub guard_ok : {A E : Type 0} (b : Bool) (d : E) (x y : A) → cond b (Err d) (Ok x) ≡ Ok y → (b ≡ false) × (x ≡ y)
@@ -39,11 +29,6 @@ guard_then false d r y e = (refl, e)
 pub unless_then : {A E : Type 0} (b : Bool) (d : E) (r : Result A E) (y : A) → cond b r (Err d) ≡ Ok y → (b ≡ true) × (r ≡ Ok y)
 unless_then true d r y e = (refl, e)
 unless_then false d r y e = absurd cc
-
--- what must be there was there
-pub ok_or_ok : {A E : Type 0} (o : Option A) (d : E) (x : A) → ok_or o d ≡ Ok x → o ≡ Some x
-ok_or_ok (Some y) d x e = cc
-ok_or_ok None d x e = absurd cc
 
 abbrev done : {A E : Type 0} → A → Result A E
 done x = Ok x

@@ -8,7 +8,7 @@ use Rattle.tss_io.specs.declared.cause.Cause.{Cause}
 use Rattle.tss_io.specs.declared.cause.Cause.TheVariants.{End, Long}
 use Rattle.tss_io.specs.declared.fault.Refused.{Refused}
 use Rattle.tss_io.specs.Lines.{Lines, torn, line, onto, lines_of}
-use Rattle.tss_io.specs.Kinds.{line_at, is_long, fault_of, EachAfter}
+use Rattle.tss_io.specs.Kinds.{is_long, fault_of, EachAfter}
 use Rattle.tss_io.specs.Runs.{is_end, at, run, ahead, Follows, stop_at, StopsAt}
 use Rattle.tss_io.specs.Reading.{refused_at}
 use Rattle.tss_io.proofs.Results.{ok_is}
@@ -184,25 +184,6 @@ unfolding ahead Follows
 later take is_last n s m l rest refused last short e r =
     let counted = r.number in
     record { front = l ∷ r.front; met = r.met; rest = r.rest; whole = ap (line l) r.whole; good = (last, short, m, e, r.good); number = omega arith; cause = r.cause }
-
--- a line that must come once, and what follows it
-pub line_first : {S T A : Type 0} (take : S → List ℕ → Result S Cause) (is_last : S → Bool) (n : ℕ) (s : S) (g : List ℕ → Result T Cause) (next : T → S) (lines : Lines) (f : T × Lines → Result A Refused) (refused : Refused)
-    → is_last s ≡ false → ((l : List ℕ) → take s l ≡ (g l >>= λ t. Ok (next t))) → ((t : T) (rest : Lines) → f (t, rest) ≡ Err refused → StopsAt take is_last (n + 1) (next t) rest refused)
-    → (at n (line_at lines >>= λ l. g l.0 >>= λ t. Ok (t, l.1)) >>= f) ≡ Err refused → StopsAt take is_last n s lines refused
-unfolding line_at
-line_first {T = T} take is_last n s g next (torn bytes) f refused last same on e =
-    elim (is_long bytes) as (λ b. is_long bytes ≡ b → (at n (cond b (Err Long) (Err End) >>= λ (l : List ℕ × Lines). g l.0 >>= λ t. Ok (t, l.1)) >>= f) ≡ Err refused → StopsAt take is_last n s (torn bytes) refused) [
-      | true ↦ λ long e. first take is_last n s (torn bytes) refused Long (cc) (rw (last, long) refl)
-      | false ↦ λ short e. first take is_last n s (torn bytes) refused End (cc) (rw (last, short) refl)
-    ] refl e
-line_first {T = T} take is_last n s g next (line l rest) f refused last same on e =
-    elim (is_long l) as (λ b. is_long l ≡ b → (at n (cond b (Err Long) (Ok (l, rest)) >>= λ (l : List ℕ × Lines). g l.0 >>= λ t. Ok (t, l.1)) >>= f) ≡ Err refused → StopsAt take is_last n s (line l rest) refused) [
-      | true ↦ λ long e. first take is_last n s (line l rest) refused Long (cc) (rw (last, long) refl)
-      | false ↦ λ short e. elim (g l) as (λ r. g l ≡ r → (at n (r >>= λ t. Ok (t, rest)) >>= f) ≡ Err refused → StopsAt take is_last n s (line l rest) refused) [
-        | Ok t ↦ λ read e. later take is_last n s (next t) l rest refused last short (same l ∙ rw read refl) (on t rest e)
-        | Err c ↦ λ bad e. first take is_last n s (line l rest) refused c (cc) (rw (last, short, same l, bad) refl)
-      ] refl e
-    ] refl e
 
 pub bind_assoc : {A B C E : Type 0} (r : Result A E) (f : A → Result B E) (g : B → Result C E) → ((r >>= f) >>= g) ≡ (r >>= λ x. f x >>= g)
 bind_assoc (Ok x) f g = refl

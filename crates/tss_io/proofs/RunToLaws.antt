@@ -11,7 +11,7 @@ use Rattle.tss_io.specs.Lines.{Lines, torn, line}
 use Rattle.tss_io.specs.Reading.{FailsLine, FailsAt, refused_at}
 use Rattle.tss_io.specs.Kinds.{line_at, is_long, fault_of, first_failing}
 use Rattle.tss_io.specs.Runs.{line_step, is_end, at, run, ahead, Follows, StopsAt, Stop, run_to, ended, RanTo, stop_at, line_checks, FirstFault}
-use Rattle.tss_io.proofs.RunLaws.{either, at_cases, run_fault}
+use Rattle.tss_io.proofs.RunLaws.{either, at_cases}
 
 -- a run over a whole text ends where nothing stands behind
 pub run_is : {S : Type 0} (take : S → List ℕ → Result S Cause) (is_last : S → Bool) (n : ℕ) (s : S) (lines : Lines) → run take is_last n s lines ≡ (run_to take is_last n s lines >>= ended)
@@ -46,9 +46,6 @@ unfolding run_to ahead Follows
 to_again take is_last n m s [] t (torn bytes) good last e = let k : m ≡ n = omega arith in rw (good, last, k) refl
 to_again take is_last n m s [] t (line l rest) good last e = let k : m ≡ n = omega arith in rw (good, last, k) refl
 to_again take is_last n m s (l ∷ front) t rest good last e = rw (good.0, good.1, good.3) (to_again take is_last (n + 1) m good.2 front t rest good.4 last (omega arith))
-
-pub to_fault : {S : Type 0} (take : S → List ℕ → Result S Cause) (is_last : S → Bool) (n : ℕ) (s : S) (lines : Lines) (refused : Refused) → run_to take is_last n s lines ≡ Err refused → StopsAt take is_last n s lines refused
-to_fault take is_last n s lines refused e = run_fault take is_last n s lines refused (run_is take is_last n s lines ∙ rw e refl)
 
 -- ---- the loop
 

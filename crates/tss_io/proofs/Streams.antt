@@ -1,22 +1,12 @@
 -- What a source gave and what a sink gained, piece after piece.
-use Rattle.std.proofs.Common.{◌≡◌, ℕ, ◌+◌, ◌<◌, ◌≤◌, ◌↔◌, List, [], ◌++◌, length, take, drop, Option, Some, None, Result, Ok, Err, inl, inr, refl, sym, ap, ◌∙◌, append_assoc, arith}
-use Rattle.std.specs.Prelude.{IfSome, OnErr}
+use Rattle.std.proofs.Common.{◌≡◌, ℕ, ◌+◌, ◌<◌, ◌≤◌, ◌↔◌, List, [], ◌++◌, length, take, drop, Option, Some, None, refl, sym, ap, ◌∙◌, append_assoc, arith}
+use Rattle.std.specs.Prelude.{IfSome}
 use Rattle.std.proofs.Math.Seq.{take-add}
-use Rattle.std.proofs.lemmas.Bool.{cases_lt}
 use Rattle.std.proofs.lemmas.List.{append-nil, drop-drop, length-append, take_all, take-append-drop}
-use Rattle.tss_io.specs.Streams.{next_count, Rose, Yields, Gains}
+use Rattle.tss_io.specs.Streams.{Yields, Gains}
 
 pub same-le : (n : ℕ) → n ≤ n
 same-le n = omega arith
-
--- one more call is at most one more
-pub counted-le : (n m : ℕ) → m ≡ next_count n → m ≤ n + 1
-counted-le n m is = omega arith
-
--- a counter rose with one more fault
-pub Rose-counted : {A E : Type 0} (r : Result A E) (n m : ℕ) → m ≡ next_count n → OnErr r (Rose n m)
-Rose-counted (Ok x) n m is = tt
-Rose-counted (Err e) n m is = elim (cases_lt n m) [ inl more ↦ inl more | inr last ↦ inr (omega arith) ]
 
 -- the bytes at a place, which stand at the front of others now, are given from there on
 pub given-front : (bytes others : List ℕ) (at n : ℕ) → take n others ≡ take n (drop at bytes) → drop at bytes ≡ take n others ++ drop (at + n) bytes
@@ -66,12 +56,6 @@ Yields-all None b p gives end = tt
 pub Yields-within : (a b : Option (List ℕ)) (p : List ℕ) (limit : ℕ) → Yields a p b → IfSome b (λ rest. rest ≡ []) → length p ≤ limit → IfSome a (λ bytes. length bytes ≤ limit)
 Yields-within (Some a) b p limit gives end le = rw (Yields-all (Some a) b p gives end) at le
 Yields-within None b p limit gives end le = tt
-
--- what was given was left
-pub Yields-length : (a b : Option (List ℕ)) (p : List ℕ) → Yields a p b → IfSome a (λ bytes. length p ≤ length bytes)
-Yields-length (Some a) (Some b) p gives = omega (arith, ap length gives, length-append p b)
-Yields-length (Some a) None p gives = absurd gives
-Yields-length None b p gives = tt
 
 -- nothing is gained
 pub Gains-none : (taken : Option (List ℕ)) → Gains taken [] taken

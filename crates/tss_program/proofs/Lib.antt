@@ -1,5 +1,7 @@
 mod AnswerLaws
-pub mod Ends
+mod Ends
 mod Inputs
 mod Lifting
+mod RunLaws
+mod Texts
 mod Whole

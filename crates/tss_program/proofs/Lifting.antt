@@ -1,5 +1,7 @@
 -- What lifting a match keeps: all but its version, which nothing of a run reads.
 use Rattle.std.proofs.Common.{◌≡◌, ℕ, zero, suc, ◌+◌, List, ◌∷◌, ◌++◌, map, refl, ap}
+use Rattle.game_trait.specs.Game.{Rules}
+use Rattle.game_trait.specs.Ordered.{time_ordered}
 use Rattle.sync_model.specs.State.{MirrorState}
 use Rattle.sync_model.specs.Turns.{drain}
 use Rattle.match_file.specs.Data.{MatchData, lifted}
@@ -8,6 +10,11 @@ use Rattle.report_text.specs.Worlds.{Showing}
 use Rattle.match_hall.specs.Report.{script_text, drains_text, mirrors_text, play_text}
 use Rattle.report_text.specs.Ends.{done_line}
 use Rattle.tss_program.specs.Due.{order_text}
+
+pub lifted-world :
+    {W : Type 0} (rules : Rules W) (opening : W) (m : MatchData)
+    → time_ordered rules opening (lifted m).commands (lifted m).length ≡ time_ordered rules opening m.commands m.length
+lifted-world rules opening m = refl
 
 pub lifted-order : {W : Type 0} (show : Showing W) (opening : W) (m : MatchData) → order_text show opening (lifted m) ≡ order_text show opening m
 unfolding order_text

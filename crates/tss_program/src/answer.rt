@@ -7,51 +7,39 @@ ghost use Rattle.match_hall.specs.Script.{played, logs_from};
 ghost use Rattle.report_text.specs.Worlds.{Showing};
 ghost use Rattle.match_hall.specs.Report.{play_text};
 ghost use Rattle.match_score.specs.Score.{ends_of, watched_text};
-ghost use Rattle.run_auditor.specs.declared.verdict.Verdict.{Verdict};
 ghost use Rattle.run_recorder.specs.Data.{IsRecord};
-ghost use Rattle.soak.specs.Answer.{soaked, soak_text};
-ghost use Rattle.tss_program.specs.Due.{order_text, IsVerdictOf, due_of_verdict, status_of};
-ghost use Rattle.tss_program.specs.declared.status.Status.TheVariants.{Complete};
+ghost use Rattle.tss_program.specs.Due.{complete, order_text, due_of_number, status_of, IsAudited};
 
+use crate::due::Due;
 use crate::status::Status;
 use arena_rules::{Arena, Shown};
 use game_trait::{Game, execute_in_order};
 use match_file::{Match, lift, print_match};
 use match_hall::Hall;
 use match_score::{ScoreAnswer, score};
-use report_text::{push_done, push_order_block};
+use report_text::{done_line, world_block};
 use run_auditor::{Verdict, audit};
-use run_recorder::{MirrorLog, RaceRecord};
+use run_recorder::RaceRecord;
 use soak::{SoakAnswer, soak};
 use std::alloc::Global;
 use tss_io::{NoMemory, Seq};
 use watch_board::Watcher;
 
-/// What is answered to a match, a record or a number: the status and the text that are due, and the
-/// logs that are kept, mirror 0 first.
-#[derive(Drop)]
-pub struct Answer {
-    pub status: Status,
-    pub text: Seq<u8>,
-    pub kept: Seq<MirrorLog>,
-}
-
 /// The answer of `order` to a match that opens so: the world after its commands in key order and
 /// its beats.
 #[tactic(auto, unfolding(crate::specs::Due::order_text))]
-pub fn order<G: Game + Shown>(alloc: Global, opening: &G, m: &Match) -> Result<Answer, NoMemory>
+pub fn order<G: Game + Shown>(alloc: Global, opening: &G, m: &Match) -> Result<Due, NoMemory>
     ensures { let show : Showing G =
         record { rules = G.rules; lines = G.lines; names = m.now.names } in
-        IfOk result (λ a.
-        (a.status ≡ Complete) × (a.text ≡ order_text show opening.now m.now) × (a.kept ≡ [])) }
+        IfOk result (λ due. due ≡ complete (order_text show opening.now m.now) []) }
 {
     let mut commands = Vec::from_slice(alloc, m.commands.as_slice())?;
     let mut world = opening.twin();
     execute_in_order(&mut world, commands.as_mut_slice(), m.length);
     let mut text = Vec::new(alloc);
-    push_order_block(&mut text, m.length, &world, &m.roster)?;
-    push_done(&mut text)?;
-    Ok(Answer {
+    world_block(&mut text, b"order", m.length, &world, &m.roster)?;
+    done_line(&mut text)?;
+    Ok(Due {
         status: Status::Complete,
         text: Seq::of(text),
         kept: Seq::new(alloc),
@@ -60,21 +48,20 @@ pub fn order<G: Game + Shown>(alloc: Global, opening: &G, m: &Match) -> Result<A
 
 /// The answer of `play` to a match that opens so: what its script and then draining print, and its
 /// mirrors at the end.
-pub fn play<G: Game + Shown>(alloc: Global, opening: &G, m: &Match) -> Result<Answer, NoMemory>
+pub fn play<G: Game + Shown>(alloc: Global, opening: &G, m: &Match) -> Result<Due, NoMemory>
     ensures { let show : Showing G =
         record { rules = G.rules; lines = G.lines; names = m.now.names } in
-        IfOk result (λ a.
-        (a.status ≡ Complete) × (a.text ≡ play_text show opening.now m.now)
-        × (a.kept ≡ logs_from 0 (played opening.now m.now))) }
+        IfOk result (λ due. due ≡ complete (play_text show opening.now m.now)
+        (logs_from 0 (played opening.now m.now))) }
 {
     let mut hall = Hall::new(alloc, m, opening)?;
     let mut text = Vec::new(alloc);
     hall.play(m, &mut text)?;
     hall.drain(&mut text)?;
     hall.show(&m.roster, &mut text)?;
-    push_done(&mut text)?;
+    done_line(&mut text)?;
     let kept = hall.logs(alloc)?;
-    Ok(Answer {
+    Ok(Due {
         status: Status::Complete,
         text: Seq::of(text),
         kept,
@@ -82,13 +69,12 @@ pub fn play<G: Game + Shown>(alloc: Global, opening: &G, m: &Match) -> Result<An
 }
 
 /// The answer of `lift` to a match: its text with version 2.
-pub fn lift_match(alloc: Global, m: Match) -> Result<Answer, NoMemory>
-    ensures { IfOk result
-        (λ a. (a.status ≡ Complete) × (a.text ≡ match_text (lifted m)) × (a.kept ≡ [])) }
+pub fn lift_match(alloc: Global, m: Match) -> Result<Due, NoMemory>
+    ensures { IfOk result (λ due. due ≡ complete (match_text (lifted m)) []) }
 {
     let lifted = lift(m);
     let text = print_match(alloc, &lifted)?;
-    Ok(Answer {
+    Ok(Due {
         status: Status::Complete,
         text: Seq::of(text),
         kept: Seq::new(alloc),
@@ -101,14 +87,14 @@ pub fn score_match(
     alloc: Global,
     m: &Match,
     watchers: Vec<Box<dyn Watcher>>,
-) -> Result<Answer, NoMemory>
+) -> Result<Due, NoMemory>
     ensures { IfOk result
-        (λ a. (a.status ≡ Complete)
-        × (a.text ≡ watched_text (map (λ w. behaviour w) watchers.items) m.now)
-        × (a.kept ≡ logs_from 0 (ends_of m.now))) }
+        (λ due. due
+        ≡ complete (watched_text (map (λ w. behaviour w) watchers.items) m.now)
+        (logs_from 0 (ends_of m.now))) }
 {
     let ScoreAnswer { text, kept } = score(alloc, m, watchers)?;
-    Ok(Answer {
+    Ok(Due {
         status: Status::Complete,
         text,
         kept,
@@ -116,13 +102,11 @@ pub fn score_match(
 }
 
 /// The answer of `soak` to a number: what playing its match comes to, and its mirrors at the end.
-pub fn soak_number(alloc: Global, number: u32) -> Result<Answer, NoMemory>
-    ensures { IfOk result
-        (λ a. (a.status ≡ Complete) × (a.text ≡ soak_text number)
-        × (a.kept ≡ logs_from 0 (soaked number))) }
+pub fn soak_number(alloc: Global, number: u32) -> Result<Due, NoMemory>
+    ensures { IfOk result (λ due. due ≡ due_of_number number) }
 {
     let SoakAnswer { text, kept } = soak(alloc, number)?;
-    Ok(Answer {
+    Ok(Due {
         status: Status::Complete,
         text,
         kept,
@@ -140,17 +124,15 @@ fn status_of(verdict: Verdict) -> Status
 }
 
 /// The answer of `audit` to a record: that it is legal, or where its first fault is.
-pub fn audit_record(alloc: Global, r: &RaceRecord) -> Result<Answer, NoMemory>
+pub fn audit_record(alloc: Global, r: &RaceRecord) -> Result<Due, NoMemory>
     requires { IsRecord r.now }
-    ensures { IfOk result (λ a. (verdict : Verdict) × IsVerdictOf r.now verdict
-        × (a.status ≡ (due_of_verdict verdict).status) × (a.text ≡ (due_of_verdict verdict).text)
-        × (a.kept ≡ [])) }
+    ensures { IfOk result (λ due. IsAudited r.now due) }
 {
     let opening = Arena::start(&r.game.setup);
     let verdict = audit(alloc, r, &opening)?;
     let mut text = Vec::new(alloc);
     verdict.push(&mut text)?;
-    Ok(Answer {
+    Ok(Due {
         status: status_of(verdict),
         text: Seq::of(text),
         kept: Seq::new(alloc),

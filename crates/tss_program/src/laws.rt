@@ -1,25 +1,132 @@
 //! What the words of a run's promise come to, so that none can be read more weakly. Each is the
 //! contract of a function without parameters that does nothing.
 
-ghost use Rattle.std.specs.Prelude.{◌≡◌, ℕ, List, Some, ◌++◌};
+ghost use Rattle.std.specs.Prelude.{◌≡◌, ◌<◌, ◌≤◌, ◌⊎◌, ◌↔◌, ℕ, true, false, List, [], None, Some, ◌++◌};
+ghost use Rattle.tss_io.specs.Streams.{Rose, Gains};
+ghost use Rattle.tss_io.specs.declared.cause.Cause.TheVariants.{Number};
+ghost use Rattle.game_trait.specs.Ordered.{time_ordered};
+ghost use Rattle.sync_model.specs.State.{MirrorState};
+ghost use Rattle.arena_rules.specs.World.{World, opening_world};
 ghost use Rattle.match_file.specs.Data.{MatchData, IsMatch, lifted};
 ghost use Rattle.match_file.specs.Text.{match_text};
 ghost use Rattle.match_hall.specs.Script.{scripted, played};
 ghost use Rattle.report_text.specs.Worlds.{Showing};
 ghost use Rattle.match_hall.specs.Report.{play_text};
-ghost use Rattle.run_recorder.specs.declared.log.MirrorLog.{MirrorLog};
+ghost use Rattle.run_recorder.specs.declared.race_record.RaceRecord.{RaceRecord};
+ghost use Rattle.tss_race.specs.Record.{IsRecordOfRace};
 ghost use Rattle.watch_board.specs.Behaviour.{Behaviour};
-ghost use Rattle.tss_program.specs.Due.{Due, IsDue, order_text};
-ghost use Rattle.tss_program.specs.Run.{Streams, EndsWith};
+ghost use Rattle.tss_program.specs.declared.subcommand.Subcommand.{Subcommand};
+ghost use Rattle.tss_program.specs.declared.subcommand.Subcommand.TheVariants.{Audit, Soak};
+ghost use Rattle.tss_program.specs.declared.due.Due.{Due};
+ghost use Rattle.tss_program.specs.Subcommands.{subcommand_of, most_asked, races};
+ghost use Rattle.tss_program.specs.declared.status.Status.TheVariants.{Complete};
+ghost use Rattle.tss_program.specs.Due.{IsDue, IsRecordText, IsLegalOne, IsRaced, arena_shown, refusal_due, code, order_text};
+ghost use Rattle.tss_program.specs.Run.{Run, IsRun, IsPut, ReadsAtMost, behind, asked};
+ghost use Rattle.tss_program.specs.Promises.{keeps_logs, PlaysMatch, KeepsLogsOf, KeepsAMatch, KeepsSome, SoaksWhole, AuditsARecord, EndsWith, IsComplete};
 
 use game_trait::Game;
 
-/// For any words, input and watchers exactly one text is due, with one status and one list of logs.
+/// For any words other than `race`, any input and any watchers exactly one text is due, with one
+/// status and one list of logs.
 pub fn one_is_due()
     ensures some { (watchers : List Behaviour) (words : List (List ℕ)) (input : List ℕ)
+        → races (subcommand_of words) ≡ false
         → (due : Due) × IsDue watchers words input due }
     ensures one { (watchers : List Behaviour) (words : List (List ℕ)) (input : List ℕ) (a b : Due)
+        → races (subcommand_of words) ≡ false
         → IsDue watchers words input a → IsDue watchers words input b → a ≡ b }
+{}
+
+/// Where a source tells its input, a run on words other than `race` ends as the one text allows
+/// that is due for it. And where no call failed and memory was found, what is due was written
+/// whole, whatever the words and the source.
+pub fn runs_end_as_is_due()
+    ensures told { (r : Run) (input : List ℕ) (due : Due) → IsRun r → races (asked r) ≡ false
+        → r.source_old.left ≡ Some input → IsDue r.watchers r.words input due → EndsWith due r }
+    ensures whole { (r : Run) → IsRun r
+        → (Rose r.source_old.faults r.source_new.faults → ⊥)
+        → (Rose r.sink_old.faults r.sink_new.faults → ⊥) → (r.status ≡ 1) ⊎ IsComplete r }
+{}
+
+/// Where the source tells its input, a run on words other than `race` in which no call failed has
+/// one end, if memory is found: the due status, the due text behind what the sink had taken, and
+/// the due logs.
+pub fn one_end_without_a_fault()
+    ensures { (r : Run) (input bytes : List ℕ) (due : Due) → IsRun r → races (asked r) ≡ false
+        → r.source_old.left ≡ Some input → r.sink_old.bytes ≡ Some bytes
+        → IsDue r.watchers r.words input due
+        → (Rose r.source_old.faults r.source_new.faults → ⊥)
+        → (Rose r.sink_old.faults r.sink_new.faults → ⊥)
+        → (r.status ≡ 1) ⊎ ((r.status ≡ code due.status)
+        × (r.sink_new.bytes ≡ Some (bytes ++ due.text)) × (r.kept ≡ due.kept)) }
+{}
+
+/// A match without pace is raced by nobody: it is refused at the line that states the pace. Of one
+/// with a pace the record of a race is due.
+pub fn races_need_a_pace()
+    ensures refused { (m : MatchData) (due : Due) → m.pace ≡ 0 → IsRaced m due
+        → due ≡ refusal_due (record { line = 6; cause = Number }) }
+    ensures raced { (m : MatchData) (due : Due) → 0 < m.pace → IsRaced m due
+        → (due.status ≡ Complete) × ((mirrors : List (MirrorState World))
+        × IsRecordOfRace (arena_shown m) (opening_world m.layout) m mirrors due.text due.kept) }
+{}
+
+/// Which statuses there are, and the cause of each.
+pub fn statuses_have_causes()
+    ensures at_most_six { (r : Run) → IsRun r → r.status ≤ 6 }
+    ensures wrong_words { (r : Run) → IsRun r → asked r ≡ None → (r.status ≡ 2) ⊎ (r.status ≡ 4) }
+    ensures only_wrong_words { (r : Run) → IsRun r → r.status ≡ 2 → asked r ≡ None }
+    ensures only_audited { (r : Run) → IsRun r → r.status ≡ 6 → asked r ≡ Some Audit }
+    ensures read_fault { (r : Run) → IsRun r → r.status ≡ 3
+        → Rose r.source_old.faults r.source_new.faults }
+    ensures write_fault { (r : Run) → IsRun r → r.status ≡ 4
+        → Rose r.sink_old.faults r.sink_new.faults }
+    ensures read_steady { (r : Run) → IsRun r
+        → (r.status ≡ 3) ⊎ (r.source_new.faults ≡ r.source_old.faults) }
+    ensures write_steady { (r : Run) → IsRun r
+        → (r.status ≡ 4) ⊎ (r.sink_new.faults ≡ r.sink_old.faults) }
+{}
+
+/// What was read and written: at status 0, 5 and 6 the input up to its end, or to one byte past the
+/// limit of what the words ask to read; at status 1 and 3 nothing was written.
+pub fn runs_read_and_write()
+    ensures read { (r : Run) → IsRun r → (r.status ≡ 0) ⊎ (r.status ≡ 5) ⊎ (r.status ≡ 6)
+        → r.source_new.left ≡ behind (most_asked (asked r)) r.source_old.left }
+    ensures most { (r : Run) → IsRun r
+        → ReadsAtMost (most_asked (asked r)) r.source_old r.source_new }
+    ensures silent { (r : Run) → IsRun r → (r.status ≡ 1) ⊎ (r.status ≡ 3)
+        → Gains r.sink_old.bytes [] r.sink_new.bytes }
+{}
+
+/// What is kept: the logs of the match that is played or raced, of which playing and racing promise
+/// what they do, and nothing elsewhere.
+pub fn runs_keep_what_is_played()
+    ensures logs { (r : Run) → IsRun r → (r.kept ≡ []) ⊎ KeepsSome r }
+    ensures whole { (r : Run) (s : Subcommand) → IsRun r → asked r ≡ Some s → keeps_logs s ≡ true
+        → r.status ≡ 0 → KeepsAMatch s r.source_old.left r.kept }
+    ensures told { (r : Run) (s : Subcommand) (input : List ℕ) (m : MatchData) → IsRun r
+        → asked r ≡ Some s → r.source_old.left ≡ Some input → PlaysMatch s input m
+        → (r.status ≡ 0) ⊎ (r.status ≡ 4) → KeepsLogsOf s m r.kept }
+    ensures nothing { (r : Run) → IsRun r
+        → (r.status ≡ 1) ⊎ (r.status ≡ 2) ⊎ (r.status ≡ 3) ⊎ (r.status ≡ 5) ⊎ (r.status ≡ 6)
+        → r.kept ≡ [] }
+    ensures only_playing { (r : Run) → IsRun r
+        → ((s : Subcommand) → asked r ≡ Some s → keeps_logs s ≡ true → ⊥) → r.kept ≡ [] }
+{}
+
+/// A soak that ends with status 0 made, played and told the whole match of its number.
+pub fn soaks_are_whole()
+    ensures { (r : Run) (number : ℕ) → IsRun r → asked r ≡ Some (Soak number) → r.status ≡ 0
+        → SoaksWhole number r.sink_old.bytes r.sink_new.bytes r.kept }
+{}
+
+/// An audit's status, where it is 0 or 6, says whether the record that was read is legal.
+pub fn audits_say_if_legal()
+    ensures some { (r : Run) → IsRun r → asked r ≡ Some Audit
+        → (r.status ≡ 0) ⊎ (r.status ≡ 6) → AuditsARecord r.source_old.left r.status }
+    ensures told { (r : Run) (input : List ℕ) (record_read : RaceRecord) → IsRun r
+        → asked r ≡ Some Audit → r.source_old.left ≡ Some input → IsRecordText record_read input
+        → (r.status ≡ 0) ⊎ (r.status ≡ 6) → (r.status ≡ 0) ↔ IsLegalOne record_read }
 {}
 
 /// A match has one text, and a text is that of one match.
@@ -30,15 +137,17 @@ pub fn one_match_each_text()
 /// Status 4 comes with a proper front of the due text only: where the whole of it was taken, the
 /// status is another.
 pub fn whole_text_is_no_write_fault()
-    ensures { (watchers : List Behaviour) (words : List (List ℕ)) (input bytes : List ℕ) (due : Due)
-        (old new : Streams) (kept : List MirrorLog)
-        → IsDue watchers words input due → old.taken ≡ Some bytes
-        → new.taken ≡ Some (bytes ++ due.text) → EndsWith due old new 4 kept → ⊥ }
+    ensures { (r : Run) (input bytes : List ℕ) (due : Due) → IsDue r.watchers r.words input due
+        → IsPut due r.sink_old r.sink_new r.status r.kept → r.sink_old.bytes ≡ Some bytes
+        → r.sink_new.bytes ≡ Some (bytes ++ due.text) → r.status ≡ 4 → ⊥ }
 {}
 
-/// Lifting a match keeps its time-ordered execution, what its script and draining do to its
-/// mirrors, and what playing prints.
+/// Lifting a match keeps its time-ordered execution, as a world and as it is printed, what its
+/// script and draining do to its mirrors, and what playing prints.
 pub fn lifting_keeps<G: Game>()
+    ensures world { (opening : G) (m : MatchData)
+        → time_ordered G.rules opening (lifted m).commands (lifted m).length
+        ≡ time_ordered G.rules opening m.commands m.length }
     ensures order { (show : Showing G) (opening : G) (m : MatchData)
         → order_text show opening (lifted m) ≡ order_text show opening m }
     ensures script { (opening : G) (m : MatchData)

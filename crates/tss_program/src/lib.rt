@@ -2,17 +2,24 @@
 #![tactic(auto)]
 
 mod answer;
+mod arguments;
 mod asked;
 mod done;
+mod due;
 pub mod laws;
-mod run;
+mod plain;
+mod race;
 mod status;
 mod stop;
 mod subcommand;
+mod watched;
 
-pub use asked::read_match_text;
+pub use arguments::words_behind;
 pub use done::Done;
-pub use run::{put, run_arguments, run_plain};
+pub use due::Due;
+pub use plain::run_plain;
+pub use race::{asks_race, run};
 pub use status::Status;
 pub use stop::Stop;
 pub use subcommand::{MatchTask, Subcommand};
+pub use watched::run_watched;

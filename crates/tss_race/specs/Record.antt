@@ -2,16 +2,18 @@
 use Rattle.std.specs.Prelude.{◌≡◌, ℕ, ◌+◌, ◌≤◌, List, [], ◌∷◌, length}
 use Rattle.std.specs.List.{AllByRecursion}
 use Rattle.game_trait.specs.declared.command.Item.{Item}
-use Rattle.game_trait.specs.declared.limits.TheConstants.{LONGEST_RECORD_TEXT, MOST_LOGGED_EVENTS}
+use Rattle.game_trait.specs.declared.limits.TheConstants.{LONGEST_RECORD_TEXT}
 use Rattle.game_trait.specs.Ordered.{time_ordered}
 use Rattle.tss_io.specs.Lines.{lines_text}
 use Rattle.sync_model.specs.State.{MirrorState}
 use Rattle.match_file.specs.Data.{MatchData}
 use Rattle.match_hall.specs.Report.{Showing, copy_block}
 use Rattle.match_hall.specs.Script.{logs_from}
+use Rattle.run_recorder.specs.declared.log.MirrorLog.{MirrorLog}
 use Rattle.run_recorder.specs.declared.race_record.RaceRecord.{RaceRecord}
 use Rattle.run_recorder.specs.Data.{IsBlockLine}
 use Rattle.run_recorder.specs.Text.{record_text}
+use Rattle.race_hall.specs.Raced.{AreRaced}
 
 -- the blocks of a mirror's copies, of which the first has this number
 unfoldable pub blocks_from : {W : Type 0} → Showing W → ℕ → W → ℕ → List (List Item) → List (List ℕ)
@@ -36,11 +38,19 @@ abbrev pub AreBlockLines : List ℕ → Type 0
 AreBlockLines text =
     (lines : List (List ℕ)) × AllByRecursion IsBlockLine lines × (text ≡ lines_text lines)
 
--- a race keeps within a record's text: no mirror has more events than a log has room for, the world
--- at which all copies end is shown by lines of a block, and the text is no longer than one may be
+-- a race keeps within a record's text: the world at which all copies end is shown by lines of a
+-- block, and the text is no longer than one may be
 pub record FitsText {W : Type 0} (show : Showing W) (opening : W) (m : MatchData)
     (mirrors : List (MirrorState W)) : Type 0 where
-  pub few : AllByRecursion (λ s. length s.history ≤ MOST_LOGGED_EVENTS) mirrors
   pub lines : AreBlockLines (
       show.lines (time_ordered show.rules opening m.commands m.length) show.names)
   pub short : length (record_text (record_of show m mirrors)) ≤ LONGEST_RECORD_TEXT
+
+-- a text is the record of a race of this match whose mirrors ended so, and the logs are theirs:
+-- each mirror has every command once and turned none away, its log is legal, and its copies' worlds
+-- are the time-ordered execution of all commands
+pub record IsRecordOfRace {W : Type 0} (show : Showing W) (opening : W) (m : MatchData)
+    (mirrors : List (MirrorState W)) (text : List ℕ) (kept : List MirrorLog) : Type 0 where
+  pub raced : AreRaced show.rules m opening mirrors
+  pub text_is : text ≡ record_text (record_of show m mirrors)
+  pub kept_is : kept ≡ logs_from 0 mirrors

@@ -3,14 +3,14 @@
 ghost use Rattle.std.specs.Prelude.{◌≡◌, List, IfOk};
 ghost use Rattle.sync_model.specs.State.{MirrorState};
 ghost use Rattle.match_hall.specs.Report.{Showing};
-ghost use Rattle.tss_race.specs.Run.{IsRecordOfRace};
+ghost use Rattle.tss_race.specs.Record.{IsRecordOfRace};
 
 use crate::record::record_of;
 use arena_rules::Shown;
 use copy_workers::Gate;
 use game_trait::Game;
 use match_file::Match;
-use race_hall::racing::race;
+use race_hall::race;
 use run_recorder::{MirrorLog, RaceRecord, print_record};
 use std::alloc::Global;
 use std::sync::Wait;

@@ -6,14 +6,16 @@
 //! the seat has seen of the one history of all calls, which ends with the seat's own call when that
 //! returns. `TurnLock::close` takes all seats, and gives the object at the end of the history.
 //!
-//! A thread waits by tickets: it draws one, and then looks whether its ticket is served, again and
-//! again. Between two looks it pauses a little, and every so often it yields the processor; it
-//! never sleeps. Where it needn't wait, a call costs two atomic additions, one atomic load, two
-//! moves of a pointer, since the object lies on the heap, and what the object does. Where others
-//! wait too, each call hands the turn to the thread that drew the next ticket, which costs more
-//! than a mutex, above all where threads share a processor. So who had to yield while it waited
-//! yields some more after its call, and the queue gets shorter. `start` takes all memory; `call`
-//! and `close` take none.
+//! A thread waits by tickets. It looks for a while whether nobody is in the queue, and draws a ticket
+//! then, or all the same after so many looks; with it, it looks whether its ticket is served, again
+//! and again. Between two looks it pauses a little, and every so often it yields the processor; it
+//! never sleeps. Where it needn't wait, a call costs two atomic additions, three atomic loads, two
+//! moves of a pointer, since the object lies on the heap, and what the object does. Each call hands
+//! the turn to the thread that drew the next ticket, and that one may be off its processor, which
+//! holds up all behind. So hardly anyone is put off with a ticket in its hand, who had to yield
+//! while it waited yields some more after its call, and the queue stays short. `start` takes all
+//! memory; `call` and `close` take none. The lock's rule counts tickets: each that was drawn is
+//! passed on, or a seat holds it, so none is lost, for which all behind would wait for good.
 //!
 //! What isn't promised: that a turn ever comes, or when. A seat that was dropped can't be brought
 //! to `close`. Before `close` no clause says how what two seats have seen compares.

@@ -1,372 +1,308 @@
 //! Each limit of a match text, and one past it: what stands at the limit is read, by `lift`, and
 //! one more is refused, by `order`.
 
+use crate::tests::lines::joined;
+use crate::tests::program::{WHOLE, run_on};
+use crate::tests::tables::texts::OPENING;
 use std::alloc::Global;
-use tss_io::{MemSink, MemSource, NoMemory};
-use tss_program::run_plain;
+use std::process::Abort;
+use std::sync::Wait;
+use std::thread::Threads;
 
 // What stands between a text's first line and the lines that are counted.
-const OPENING: &str = "length 1\ngrid 64 64\nmirrors 1\ndelays 0\npace 0\n";
+const HEAD: &str = "length 1\ngrid 64 64\nmirrors 1\ndelays 0\npace 0\n";
 
 const WITH_ANN: &str = "length 1\ngrid 64 64\nmirrors 1\ndelays 0\npace 0\nplayer ann 0 0 e\n";
 
 const WITH_SCRIPT: &str =
     "length 1\ngrid 64 64\nmirrors 1\ndelays 0\npace 0\nplayer ann 0 0 e\nscript\n";
 
-// A line of which a text may have only so many.
-#[derive(Clone, Copy)]
-enum Counted {
-    Plan,
-    Pickup,
-    Player,
-    Command,
-    Tick,
-    World,
-}
+// What stands behind a line of the head.
+const BEHIND_LENGTH: &str = "grid 3 1\nmirrors 1\ndelays 0\npace 0\nplayer ann 0 0 e\nend\n";
 
-// So many lines of a kind may stand in a text of a version, between a front and a back. One more is
-// refused at its line.
+const BEHIND_GRID: &str = "mirrors 1\ndelays 0\npace 0\nplayer ann 0 0 e\nend\n";
+
+const BEHIND_MIRRORS: &str = "delays 0\npace 0\nplayer ann 0 0 e\nend\n";
+
+const BEHIND_DELAYS: &str = "pace 0\nplayer ann 0 0 e\nend\n";
+
+// So many lines may stand in a text of a version between a front and a back, and so many more, or
+// as many past a limit, are refused. A line is in parts, between which its number stands, from 0
+// on.
 #[derive(Clone, Copy)]
-struct Count {
+struct Limit {
     name: &'static str,
-    version: u8,
+    version: &'static str,
     front: &'static str,
-    counted: Counted,
+    line: &'static [&'static str],
     most: u32,
+    past: &'static [&'static str],
+    more: u32,
     back: &'static str,
     refused: &'static str,
 }
 
-const PLANS: Count = Count {
+const PLANS: Limit = Limit {
     name: "plans",
-    version: 1,
-    front: OPENING,
-    counted: Counted::Plan,
+    version: "1",
+    front: HEAD,
+    line: &["plan ", "\n"],
     most: 7,
+    past: &["plan ", "\n"],
+    more: 1,
     back: "player ann 0 0 e\nend\n",
     refused: "refused line 14 cause 7 many\n",
 };
 
-const COMMANDS: Count = Count {
+const PLAYERS: Limit = Limit {
+    name: "players",
+    line: &["player p", " ", " 0 e\n"],
+    most: 16,
+    past: &["player p", " ", " 0 e\n"],
+    back: "end\n",
+    refused: "refused line 23 cause 7 many\n",
+    ..PLANS
+};
+
+const COMMANDS: Limit = Limit {
     name: "commands",
     front: WITH_ANN,
-    counted: Counted::Command,
+    line: &["cmd 0 0 ", " 0 left\n"],
     most: 16_384,
+    past: &["cmd 0 0 ", " 0 left\n"],
     back: "end\n",
     refused: "refused line 16392 cause 7 many\n",
     ..PLANS
 };
 
-const COUNTS: [Count; 8] = [
+const COMMAND: Limit = Limit {
+    name: "a command's number",
+    line: &["cmd 0 0 999999 0 go\n"],
+    most: 1,
+    past: &["cmd 0 0 1000000 0 go\n"],
+    more: 0,
+    refused: "refused line 8 cause 3 number\n",
+    ..COMMANDS
+};
+
+const NAME: Limit = Limit {
+    name: "a name",
+    front: HEAD,
+    line: &["player abcdefghijkl 0 0 e\n"],
+    past: &["player abcdefghijklm 0 0 e\n"],
+    refused: "refused line 7 cause 5 name\n",
+    ..COMMAND
+};
+
+const LIMITS: [Limit; 18] = [
     PLANS,
-    Count {
+    Limit {
         name: "pickups",
-        counted: Counted::Pickup,
+        line: &["pickup ", " 1 gold\n"],
         most: 32,
+        past: &["pickup ", " 1 gold\n"],
         refused: "refused line 39 cause 7 many\n",
         ..PLANS
     },
-    Count {
-        name: "players",
-        counted: Counted::Player,
-        most: 16,
-        back: "end\n",
-        refused: "refused line 23 cause 7 many\n",
-        ..PLANS
-    },
-    Count {
+    PLAYERS,
+    Limit {
         name: "players of version 2",
-        version: 2,
-        counted: Counted::Player,
+        version: "2",
         most: 32,
-        back: "end\n",
         refused: "refused line 39 cause 7 many\n",
-        ..PLANS
+        ..PLAYERS
     },
     COMMANDS,
-    Count {
+    Limit {
         name: "commands of version 2",
-        version: 2,
+        version: "2",
         most: 32_768,
         refused: "refused line 32776 cause 7 many\n",
         ..COMMANDS
     },
-    Count {
+    Limit {
         name: "script lines",
         front: WITH_SCRIPT,
-        counted: Counted::Tick,
+        line: &["tick 0\n"],
         most: 262_144,
+        past: &["tick 0\n"],
         refused: "refused line 262153 cause 7 many\n",
         ..COMMANDS
     },
-    Count {
+    Limit {
         name: "lines that show",
         front: WITH_SCRIPT,
-        counted: Counted::World,
+        line: &["world 0 0\n"],
         most: 1_024,
+        past: &["world 0 0\n"],
         refused: "refused line 1033 cause 7 many\n",
         ..COMMANDS
     },
-];
-
-// A line with a number at its limit, the same line one past it, and how that is refused.
-#[derive(Clone, Copy)]
-struct Number {
-    name: &'static str,
-    front: &'static str,
-    at_limit: &'static str,
-    past: &'static str,
-    back: &'static str,
-    refused: &'static str,
-}
-
-const LENGTH: Number = Number {
-    name: "length",
-    front: "",
-    at_limit: "length 8192\n",
-    past: "length 8193\n",
-    back: "grid 3 1\nmirrors 1\ndelays 0\npace 0\nplayer ann 0 0 e\nend\n",
-    refused: "refused line 2 cause 3 number\n",
-};
-
-const COMMAND: Number = Number {
-    name: "a command's number",
-    front: WITH_ANN,
-    at_limit: "cmd 0 0 999999 0 go\n",
-    past: "cmd 0 0 1000000 0 go\n",
-    back: "end\n",
-    refused: "refused line 8 cause 3 number\n",
-};
-
-const NUMBERS: [Number; 10] = [
-    LENGTH,
-    Number {
+    Limit {
+        name: "length",
+        front: "",
+        line: &["length 8192\n"],
+        past: &["length 8193\n"],
+        back: BEHIND_LENGTH,
+        refused: "refused line 2 cause 3 number\n",
+        ..COMMAND
+    },
+    Limit {
         name: "width",
         front: "length 1\n",
-        at_limit: "grid 64 1\n",
-        past: "grid 65 1\n",
-        back: "mirrors 1\ndelays 0\npace 0\nplayer ann 0 0 e\nend\n",
+        line: &["grid 64 1\n"],
+        past: &["grid 65 1\n"],
+        back: BEHIND_GRID,
         refused: "refused line 3 cause 3 number\n",
+        ..COMMAND
     },
-    Number {
+    Limit {
         name: "height",
         front: "length 1\n",
-        at_limit: "grid 3 64\n",
-        past: "grid 3 65\n",
-        back: "mirrors 1\ndelays 0\npace 0\nplayer ann 0 0 e\nend\n",
+        line: &["grid 3 64\n"],
+        past: &["grid 3 65\n"],
+        back: BEHIND_GRID,
         refused: "refused line 3 cause 3 number\n",
+        ..COMMAND
     },
-    Number {
+    Limit {
         name: "mirrors",
         front: "length 1\ngrid 3 1\n",
-        at_limit: "mirrors 8\n",
-        past: "mirrors 9\n",
-        back: "delays 0\npace 0\nplayer ann 0 0 e\nend\n",
+        line: &["mirrors 8\n"],
+        past: &["mirrors 9\n"],
+        back: BEHIND_MIRRORS,
         refused: "refused line 4 cause 3 number\n",
+        ..COMMAND
     },
-    Number {
+    Limit {
         name: "copies",
         front: "length 1\ngrid 3 1\nmirrors 1\n",
-        at_limit: "delays 0 1 2 3 4 5 6 7\n",
-        past: "delays 0 1 2 3 4 5 6 7 8\n",
-        back: "pace 0\nplayer ann 0 0 e\nend\n",
+        line: &["delays 0 1 2 3 4 5 6 7\n"],
+        past: &["delays 0 1 2 3 4 5 6 7 8\n"],
+        back: BEHIND_DELAYS,
         refused: "refused line 5 cause 7 many\n",
+        ..COMMAND
     },
-    Number {
+    Limit {
         name: "delay",
         front: "length 1\ngrid 3 1\nmirrors 1\n",
-        at_limit: "delays 1024\n",
-        past: "delays 1025\n",
-        back: "pace 0\nplayer ann 0 0 e\nend\n",
+        line: &["delays 1024\n"],
+        past: &["delays 1025\n"],
+        back: BEHIND_DELAYS,
         refused: "refused line 5 cause 3 number\n",
+        ..COMMAND
     },
     COMMAND,
-    Number {
+    Limit {
         name: "a command's time",
-        at_limit: "cmd 0 0 0 0 go\n",
-        past: "cmd 1 0 0 0 go\n",
+        line: &["cmd 0 0 0 0 go\n"],
+        past: &["cmd 1 0 0 0 go\n"],
         ..COMMAND
     },
-    Number {
-        name: "a name",
-        front: OPENING,
-        at_limit: "player abcdefghijkl 0 0 e\n",
-        past: "player abcdefghijklm 0 0 e\n",
-        refused: "refused line 7 cause 5 name\n",
-        ..COMMAND
-    },
-    Number {
+    NAME,
+    Limit {
         name: "a player's cell",
-        front: OPENING,
-        at_limit: "player ann 63 63 e\n",
-        past: "player ann 64 63 e\n",
+        line: &["player ann 63 63 e\n"],
+        past: &["player ann 64 63 e\n"],
         refused: "refused line 7 cause 4 place\n",
-        ..COMMAND
+        ..NAME
     },
 ];
 
-// Appends a line of a kind; no two of different numbers name the same.
-fn push_counted(
-    alloc: Global,
-    out: &mut Vec<u8>,
-    counted: Counted,
-    number: u32,
-) -> Result<(), NoMemory> {
-    let line = match counted {
-        Counted::Plan => format!(in alloc; "plan {number}\n")?,
-        Counted::Pickup => format!(in alloc; "pickup {number} 1 gold\n")?,
-        Counted::Player => format!(in alloc; "player p{number} {number} 0 e\n")?,
-        Counted::Command => format!(in alloc; "cmd 0 0 {number} 0 left\n")?,
-        Counted::Tick => format!(in alloc; "tick 0\n")?,
-        Counted::World => format!(in alloc; "world 0 0\n")?,
-    };
-    Ok(out.extend_from_slice(line.as_bytes())?)
+// Appends a line with this number between its parts.
+fn push_line(rt: &impl Abort, alloc: Global, out: &mut String, line: &[&str], number: u32) {
+    let number = format!(in alloc; "{number}").expect(rt, "memory");
+    for (place, part) in line.iter().enumerate() {
+        if place > 0 {
+            out.push_str(number.as_str()).expect(rt, "memory");
+        }
+        out.push_str(part).expect(rt, "memory");
+    }
 }
 
-// What stands behind the first line of a text with so many lines of a kind.
-fn counted_text(alloc: Global, count: &Count, lines: u32) -> Result<Vec<u8>, NoMemory> {
-    let mut text = Vec::from_slice(alloc, count.front.as_bytes())?;
+// A text of a version with so many lines.
+fn text_of(
+    rt: &impl Abort,
+    alloc: Global,
+    limit: &Limit,
+    version: &str,
+    line: &[&str],
+    lines: u32,
+) -> String {
+    let mut text = joined(rt, alloc, &["tss match "]);
+    text.push_str(version).expect(rt, "memory");
+    text.push_str("\n").expect(rt, "memory");
+    text.push_str(limit.front).expect(rt, "memory");
     for number in 0..lines {
-        push_counted(alloc, &mut text, count.counted, number)?;
+        push_line(rt, alloc, &mut text, line, number);
     }
-    text.extend_from_slice(count.back.as_bytes())?;
-    Ok(text)
+    text.push_str(limit.back).expect(rt, "memory");
+    text
 }
 
-// What stands behind the first line of a text with this line.
-fn numbered_text(alloc: Global, number: &Number, line: &str) -> Result<Vec<u8>, NoMemory> {
-    let mut text = Vec::from_slice(alloc, number.front.as_bytes())?;
-    text.extend_from_slice(line.as_bytes())?;
-    text.extend_from_slice(number.back.as_bytes())?;
-    Ok(text)
+// Asserts that what stands at the limit is read, and lifted to the same with version 2.
+fn assert_read<R: Threads + Wait + Sync + Abort>(rt: &R, alloc: Global, limit: &Limit) {
+    let text = text_of(rt, alloc, limit, limit.version, limit.line, limit.most);
+    let lifted = text_of(rt, alloc, limit, "2", limit.line, limit.most);
+    let found = run_on(rt, alloc, &["lift"], text.as_str(), WHOLE);
+    assert_eq!(rt; found.status, 0, "the status at {}", limit.name);
+    assert!(rt; found.written == lifted, "what is lifted at {}", limit.name);
 }
 
-// A text of a version.
-fn headed(alloc: Global, version: u8, rest: &[u8]) -> Result<Vec<u8>, NoMemory> {
-    let head = format!(in alloc; "tss match {version}\n")?;
-    let mut text = Vec::from_slice(alloc, head.as_bytes())?;
-    text.extend_from_slice(rest)?;
-    Ok(text)
-}
-
-// Whether a run of the word on the input ends with this status and writes just this.
-fn ends_so(
-    alloc: Global,
-    word: &str,
-    input: Vec<u8>,
-    status: u8,
-    written: &[u8],
-) -> Result<bool, NoMemory> {
-    let mut words = Vec::new(alloc);
-    words.push(String::from_str(alloc, word)?)?;
-    let mut source = MemSource::new(input, 65_536, Vec::new(alloc));
-    let mut sink = MemSink::new(alloc, 16_777_216, 65_536, Vec::new(alloc))?;
-    let done = run_plain(
-        alloc,
-        words.as_slice(),
-        &mut source,
-        &mut sink,
-        Vec::new(alloc),
+// Asserts that what stands past it is refused.
+fn assert_refused<R: Threads + Wait + Sync + Abort>(rt: &R, alloc: Global, limit: &Limit) {
+    let lines = limit.most.saturating_add(limit.more);
+    let text = text_of(rt, alloc, limit, limit.version, limit.past, lines);
+    let found = run_on(rt, alloc, &["order"], text.as_str(), WHOLE);
+    assert_eq!(rt;
+        (found.status, found.written.as_str()),
+        (5, limit.refused),
+        "past {}",
+        limit.name
     );
-    Ok(done.status == status && sink.taken() == written)
-}
-
-// Whether the text of a version is read, and lifted to the same with version 2.
-fn is_read(alloc: Global, version: u8, rest: &[u8]) -> Result<bool, NoMemory> {
-    let lifted = headed(alloc, 2, rest)?;
-    ends_so(
-        alloc,
-        "lift",
-        headed(alloc, version, rest)?,
-        0,
-        lifted.as_slice(),
-    )
-}
-
-// Whether the text of a version is refused with this line.
-fn is_refused(alloc: Global, version: u8, rest: &[u8], refused: &str) -> Result<bool, NoMemory> {
-    ends_so(
-        alloc,
-        "order",
-        headed(alloc, version, rest)?,
-        5,
-        refused.as_bytes(),
-    )
-}
-
-// Whether so many lines are read, and whether one more is refused.
-fn limits_lines(alloc: Global, count: &Count) -> Result<(bool, bool), NoMemory> {
-    let most = counted_text(alloc, count, count.most)?;
-    let read = is_read(alloc, count.version, most.as_slice())?;
-    let past = counted_text(alloc, count, count.most.saturating_add(1))?;
-    let refused = is_refused(alloc, count.version, past.as_slice(), count.refused)?;
-    Ok((read, refused))
-}
-
-// Whether the number at its limit is read, and whether the one past it is refused.
-fn limits_number(alloc: Global, number: &Number) -> Result<(bool, bool), NoMemory> {
-    let at_limit = numbered_text(alloc, number, number.at_limit)?;
-    let read = is_read(alloc, 1, at_limit.as_slice())?;
-    let past = numbered_text(alloc, number, number.past)?;
-    let refused = is_refused(alloc, 1, past.as_slice(), number.refused)?;
-    Ok((read, refused))
 }
 
 #[test]
-fn so_many_lines_and_no_more(rt: HostRuntime) {
-    for count in &COUNTS {
-        assert_eq!(rt;
-            (count.name, limits_lines(rt.alloc(), count)),
-            (count.name, Ok((true, true)))
-        );
+fn so_much_and_no_more(rt: HostRuntime) {
+    for limit in &LIMITS {
+        assert_read(&rt, rt.alloc(), limit);
+        assert_refused(&rt, rt.alloc(), limit);
     }
 }
 
-#[test]
-fn numbers_up_to_their_limits(rt: HostRuntime) {
-    for number in &NUMBERS {
-        assert_eq!(rt;
-            (number.name, limits_number(rt.alloc(), number)),
-            (number.name, Ok((true, true)))
-        );
+// A front, how long it is made by letters without an end of a line, and how it is refused. A line
+// may have 120 bytes, and a text 8,388,608.
+const LONG: [(&str, usize, &str); 6] = [
+    ("", 120, "refused line 1 cause 8 end\n"),
+    ("", 121, "refused line 1 cause 9 long\n"),
+    ("", 8_388_608, "refused line 1 cause 9 long\n"),
+    ("", 8_388_609, "refused line 0 cause 9 long\n"),
+    (OPENING, 8_388_608, "refused line 9 cause 8 end\n"),
+    (OPENING, 8_388_609, "refused line 0 cause 9 long\n"),
+];
+
+fn assert_long<R: Threads + Wait + Sync + Abort>(
+    rt: &R,
+    alloc: Global,
+    front: &str,
+    length: usize,
+    refused: &str,
+) {
+    let mut text = joined(rt, alloc, &[front]);
+    for _ in front.len()..length {
+        text.push('x').expect(rt, "memory");
     }
+    let found = run_on(rt, alloc, &["order"], text.as_str(), WHOLE);
+    assert_eq!(rt;
+        (found.status, found.written.as_str()),
+        (5, refused),
+        "{length} bytes"
+    );
 }
 
-// A text of so many letters, without an end of a line.
-fn letters(alloc: Global, count: usize) -> Result<Vec<u8>, NoMemory> {
-    let mut text = Vec::with_capacity(alloc, count)?;
-    text.resize(count, b'x')?;
-    Ok(text)
-}
-
-fn letters_end_so(alloc: Global, count: usize, refused: &str) -> Result<bool, NoMemory> {
-    ends_so(
-        alloc,
-        "order",
-        letters(alloc, count)?,
-        5,
-        refused.as_bytes(),
-    )
-}
-
-// A line may have 120 bytes, and a text 8,388,608.
 #[test]
 fn long_lines_and_long_texts(rt: HostRuntime) {
-    let alloc = rt.alloc();
-    assert_eq!(rt;
-        letters_end_so(alloc, 120, "refused line 1 cause 8 end\n"),
-        Ok(true)
-    );
-    assert_eq!(rt;
-        letters_end_so(alloc, 121, "refused line 1 cause 9 long\n"),
-        Ok(true)
-    );
-    assert_eq!(rt;
-        letters_end_so(alloc, 8_388_608, "refused line 1 cause 9 long\n"),
-        Ok(true)
-    );
-    assert_eq!(rt;
-        letters_end_so(alloc, 8_388_609, "refused line 0 cause 9 long\n"),
-        Ok(true)
-    );
+    for (front, length, refused) in &LONG {
+        assert_long(&rt, rt.alloc(), front, *length, refused);
+    }
 }

@@ -23,8 +23,8 @@ rows-requires-clause-few c =
       length-map m.layout.players opening_player ∙ sym players ∙ sym c.len.ensures.value,
     )
 
-pub score_json-requires-clause-ascii : goal.score_json-requires-clause-ascii
-score_json-requires-clause-ascii c = names-ascii c.m.inside.roster c.m.invariant.names
+pub score_json-requires : goal.score_json-requires
+score_json-requires c = names-ascii c.m.inside.roster c.m.invariant.names
 
 pub returns : goal.returns
 returns c =

@@ -1,5 +1,5 @@
 use Rattle.std.proofs.Common.{◌≡◌, refl, ap, arith}
-use Rattle.race_hall.specs.declared.job.Work.TheVariants.{Copy}
+use Rattle.race_hall.specs.declared.doer.Work.TheVariants.{Copy}
 use Rattle.race_hall.proofs.CrewSeats.{posted-none, posted-left, posted-more, posted-whole}
 use Rattle.race_hall.proofs.crews.push_crew.Goals as goal
 

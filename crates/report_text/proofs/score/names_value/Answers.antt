@@ -4,4 +4,4 @@ use Rattle.report_text.proofs.score.names_value.Goals as goal
 
 pub returns : goal.returns
 returns c =
-    names-all c.args.names.now c.loop-player.player _ (omega (arith, c.requires.count, c.loop-player-test.false)) c.loop-player.invariant
+    names-all c.args.names.now c.loop-place.place _ (omega (arith, c.len-place-end.ensures, c.loop-place-test.false)) c.loop-place.invariant

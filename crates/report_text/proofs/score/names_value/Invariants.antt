@@ -3,5 +3,5 @@ use Rattle.serde_json.specs.Data.{string}
 use Rattle.serde_json.specs.View.{view}
 use Rattle.report_text.proofs.score.names_value.Given as goal
 
-abbrev pub invariant-loop-player : goal.invariant-loop-player
-invariant-loop-player l = map view l.values.items ≡ map string (take l.player l.names)
+abbrev pub invariant-loop-place : goal.invariant-loop-place
+invariant-loop-place l = map view l.values.items ≡ map string (take l.place l.names)

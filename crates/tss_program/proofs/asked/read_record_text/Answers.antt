@@ -1,28 +1,33 @@
-use Rattle.std.proofs.Common.{arith}
+use Rattle.std.proofs.Common.{refl, sym, ◌∙◌, arith}
+use Rattle.run_recorder.specs.Text.{record_text}
 use Rattle.tss_program.specs.Due.{IsFaultyRecord}
 use Rattle.tss_program.specs.Run.{WhyStopped}
-use Rattle.tss_program.proofs.Inputs.{reads-most, behind-whole, input-whole, from-fault, why-read, why-text, steady-ok, over-record, record-fails}
+use Rattle.tss_program.proofs.Inputs.{told-as, reads-most, behind-whole, input-whole, from-fault, why-read, why-text, steady-ok, over-record, record-fails}
 use Rattle.tss_program.proofs.asked.read_record_text.Goals as goal
 
 pub returns-in_err-text-clause-why : goal.returns-in_err-text-clause-why
 returns-in_err-text-clause-why g c =
-    from-fault c.from_residual.result _ (WhyStopped _ IsFaultyRecord _ _ _ _) c.from_residual.ensures.1
-    (why-read 33554432 IsFaultyRecord _ _ _ _ c.read_all.result c.in_err-text.field-0.0 c.in_err-text.was over-record c.read_all.ensures.over c.read_all.ensures.too_long c.read_all.ensures.rose c.read_all.ensures.steady)
+    from-fault c.from_residual.result _ (WhyStopped _ IsFaultyRecord _ _) c.from_residual.ensures.1
+    (why-read 33554432 IsFaultyRecord _ _ c.read_all.result c.in_err-text.field-0.0 c.in_err-text.was over-record
+    c.read_all.ensures.over c.read_all.ensures.too_long c.read_all.ensures.rose c.read_all.ensures.steady)
 
 pub returns-in_err-read_record-clause-why : goal.returns-in_err-read_record-clause-why
 returns-in_err-read_record-clause-why g c =
-    from-fault c.from_residual-in_err-read_record.result _ (WhyStopped _ IsFaultyRecord _ _ _ _) c.from_residual-in_err-read_record.ensures.1
-    (why-text _ IsFaultyRecord _ _ _ _ c.as_slice.result.now _ (rw c.as_slice.ensures.value (input-whole _ _ c.in_ok-text.text.items c.in_ok-text.ensures.whole c.in_ok-text.ensures.end))
+    from-fault c.from_residual-in_err-read_record.result _ (WhyStopped _ IsFaultyRecord _ _) c.from_residual-in_err-read_record.ensures.1
+    (why-text _ IsFaultyRecord _ _ c.as_slice.result.now _ (rw c.as_slice.ensures.value (input-whole _ _ c.in_ok-text.text.items c.in_ok-text.ensures.whole c.in_ok-text.ensures.end))
     (record-fails _ _ c.in_err-read_record.ensures.exact)
     (behind-whole 33554432 _ _ c.in_ok-text.text.items c.in_ok-text.ensures.whole c.in_ok-text.ensures.end c.in_ok-text.ensures.within)
     (steady-ok c.read_all.result c.in_ok-text.text _ c.in_ok-text.was c.read_all.ensures.steady))
 
-pub returns-clause-whole : goal.returns-clause-whole
-returns-clause-whole g c = (
-  behind-whole 33554432 _ _ c.in_ok-text.text.items c.in_ok-text.ensures.whole c.in_ok-text.ensures.end c.in_ok-text.ensures.within,
-  steady-ok c.read_all.result c.in_ok-text.text _ c.in_ok-text.was c.read_all.ensures.steady,
-)
+pub returns-clause-found : goal.returns-clause-found
+returns-clause-found g c = record {
+  input = record_text c.in_ok-read_record.field-0;
+  told = told-as _ c.in_ok-text.text.items _ (sym c.as_slice.ensures.value ∙ c.in_ok-read_record.ensures.found.1)
+      (input-whole _ _ c.in_ok-text.text.items c.in_ok-text.ensures.whole c.in_ok-text.ensures.end);
+  holds = (c.in_ok-read_record.ensures.found.0, refl);
+  left = behind-whole 33554432 _ _ c.in_ok-text.text.items c.in_ok-text.ensures.whole c.in_ok-text.ensures.end c.in_ok-text.ensures.within;
+  faults = steady-ok c.read_all.result c.in_ok-text.text _ c.in_ok-text.was c.read_all.ensures.steady;
+}
 
 pub returns-clause-most : goal.returns-clause-most
-returns-clause-most g c =
-    reads-most 33554433 _ _ _ _ c.in_ok-text.text.items (let short = c.in_ok-text.ensures.within in omega arith) c.in_ok-text.ensures.whole c.read_all.ensures.called
+returns-clause-most g c = reads-most 33554433 _ _ c.in_ok-text.text.items (let short = c.in_ok-text.ensures.within in omega arith) c.in_ok-text.ensures.whole c.read_all.ensures.called

@@ -1,6 +1,5 @@
-use Rattle.turn_lock.proofs.Serving.{reply_is_said}
-use Rattle.mirror_lock.specs.Locked.{mirror_rules}
+use Rattle.std.proofs.Common.{refl}
 use Rattle.mirror_lock.proofs.lock.MirrorLock+G.commit.Goals as goal
 
-pub unreachable-requires : goal.unreachable-requires
-unreachable-requires g c = c.in_default.not-Commit _ (reply_is_said (mirror_rules g.G.Game.rules) _ _ _ _ c.args.seat.now.opened c.call.ensures.called).1
+pub commit_from-requires-clause-commit : goal.commit_from-requires-clause-commit
+commit_from-requires-clause-commit g c = (c.args.r, refl)

@@ -1,5 +1,0 @@
-use Rattle.std.proofs.Common.{◌≡◌, ◌==◌, filter, take}
-use Rattle.race_hall.proofs.feeders.own_commands.Given as goal
-
-abbrev pub invariant-loop-x : goal.invariant-loop-x
-invariant-loop-x l = l.plan.items ≡ filter (λ x. x.from == l.mirror) (take l.x-index l.commands)

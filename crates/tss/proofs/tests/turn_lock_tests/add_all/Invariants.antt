@@ -1,8 +1,0 @@
-use Rattle.std.proofs.Common.{◌≡◌}
-use Rattle.tss.proofs.tests.turn_lock_tests.add_all.Given as goal
-
-abbrev pub invariant-adding : goal.invariant-adding
-invariant-adding g l = l.seat.seat.table_id ≡ l.initial.seat.seat.table_id
-
-abbrev pub decreases-adding : goal.decreases-adding
-decreases-adding g l = l.seat.calls

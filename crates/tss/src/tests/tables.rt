@@ -1,0 +1,9 @@
+//! Tables of runs: words, a text, what is written and with which status, and what is kept.
+
+pub(super) mod audits;
+pub(super) mod lifts;
+pub(super) mod orders;
+pub(super) mod plays;
+pub(super) mod refusals;
+pub(super) mod texts;
+pub(super) mod words;

@@ -1,0 +1,94 @@
+//! One run of the program with the watchers of `score`.
+
+ghost use Rattle.std.specs.Prelude.{◌≡◌, ◌≢◌, List, [], ◌∷◌, None, Err, map, IfOk, OnErr};
+ghost use Rattle.std.specs.String.{string_bytes};
+ghost use Rattle.watch_board.specs.Behaviour.{Behaviour};
+ghost use Rattle.watch_board.specs.Watchers.{repair_count, late_count, first_repair};
+ghost use Rattle.tss_program.specs.Subcommands.{subcommand_of, most_asked};
+ghost use Rattle.tss_program.specs.Run.{Seen, seen, taken, Answers, IsRun};
+
+use crate::done::Done;
+use crate::plain::ended;
+use crate::race::run;
+use crate::stop::Stop;
+use crate::subcommand::Subcommand;
+use copy_workers::Gate;
+use std::alloc::Global;
+use std::sync::Wait;
+use std::thread::Threads;
+use tss_io::{NoMemory, Sink, Source};
+use watch_board::{FirstRepair, LateCount, RepairCount, Watcher};
+
+// Why a run has no answer for which memory ran out before it began: words that ask for nothing are
+// answered all the same. It takes no memory.
+fn stop_at_start(words: &[String]) -> Stop
+    ensures { (watchers : List Behaviour) (source : Seen) → Answers watchers
+        (subcommand_of (map string_bytes words.now)) source source (Err result) }
+{
+    match Subcommand::of(words) {
+        Some(_) => Stop::NoMemory,
+        None => Stop::WrongWords,
+    }
+}
+
+// Makes the watchers and runs the program. Where no memory is found for them, nothing is read and
+// nothing is put.
+fn run_told<R: Threads + Wait + Sync, S: Source, K: Sink, P: Gate + Sync>(
+    rt: &R,
+    alloc: Global,
+    words: &[String],
+    source: &mut S,
+    sink: &mut K,
+    gate: &P,
+) -> Result<Done, NoMemory>
+    ensures run { IfOk result (λ done. IsRun (record {
+      watchers = repair_count 0 ∷ late_count 0 ∷ first_repair None ∷ [];
+      words = map string_bytes words.now;
+      source_old = seen S.left S.faults S.calls source.old;
+      source_new = seen S.left S.faults S.calls source.new;
+      sink_old = taken K.taken K.faults sink.old;
+      sink_new = taken K.taken K.faults sink.new;
+      status = done.status;
+      kept = done.kept;
+    })) }
+    ensures untouched { most_asked (subcommand_of (map string_bytes words.now)) ≡ 0
+        → source.new ≡ source.old }
+    ensures err { OnErr result ((source.new ≡ source.old) × (sink.new ≡ sink.old)) }
+{
+    let mut watchers: Vec<Box<dyn Watcher>> = Vec::new(alloc);
+    watchers.push(Box::new(alloc, RepairCount::new())?)?;
+    watchers.push(Box::new(alloc, LateCount::new())?)?;
+    watchers.push(Box::new(alloc, FirstRepair::new())?)?;
+    Ok(run(rt, alloc, words, source, sink, gate, watchers))
+}
+
+/// Runs the program on the words behind its name, as `run` does, with the watchers of `score` in
+/// the order in which they are told: a count of repairs, a count of late commands, and the first
+/// repair. Where no memory is found for them it ends with status 1, and wrong words are answered
+/// all the same.
+pub fn run_watched<R: Threads + Wait + Sync, S: Source, K: Sink, P: Gate + Sync>(
+    rt: &R,
+    alloc: Global,
+    words: &[String],
+    source: &mut S,
+    sink: &mut K,
+    gate: &P,
+) -> Done
+    ensures run { IsRun (record {
+      watchers = repair_count 0 ∷ late_count 0 ∷ first_repair None ∷ [];
+      words = map string_bytes words.now;
+      source_old = seen S.left S.faults S.calls source.old;
+      source_new = seen S.left S.faults S.calls source.new;
+      sink_old = taken K.taken K.faults sink.old;
+      sink_new = taken K.taken K.faults sink.new;
+      status = result.status;
+      kept = result.kept;
+    }) }
+    ensures untouched { most_asked (subcommand_of (map string_bytes words.now)) ≡ 0
+        → source.new ≡ source.old }
+{
+    match run_told(rt, alloc, words, source, sink, gate) {
+        Ok(done) => done,
+        Err(NoMemory) => ended(alloc, sink, Err(stop_at_start(words))),
+    }
+}
