@@ -1,5 +1,5 @@
 -- The words of a command line, and how much of an input they ask to read.
-use Rattle.std.specs.Prelude.{ℕ, ◌+◌, ◌-◌, ◌^◌, ◌&&◌, Bool, true, false, List, [], ◌∷◌, Option, Some, None, option_map, option_and_then, nat_le, length, bytes_eq, codes, if◌then◌else◌}
+use Rattle.std.specs.Prelude.{ℕ, ◌<◌, ◌≤◌, ◌+◌, ◌-◌, ◌^◌, ◌&&◌, Bool, true, false, List, [], ◌∷◌, Option, Some, None, option_map, option_and_then, nat_le, length, bytes_eq, codes, if◌then◌else◌}
 use Rattle.tss_io.specs.Decimals.{number_of}
 use Rattle.game_trait.specs.declared.limits.TheConstants.{LONGEST_MATCH, LONGEST_MATCH_TEXT, LONGEST_RECORD_TEXT, LONGEST_LOSSY_TEXT, MOST_MIRRORS, MOST_SCRIPT_LINES}
 use Rattle.tss_words.specs.declared.ticks.TheConstants.{MOST_LOOKS}
@@ -100,6 +100,33 @@ subcommand_of [] = None
 subcommand_of (word ∷ []) = subcommand_named word
 subcommand_of (word ∷ next ∷ []) = two_of word next
 subcommand_of (word ∷ next ∷ third ∷ more) = longer_of word next third more
+
+-- the ranges in which worlds may be kept for looks at a match: at every 1 to 8,192 ticks, and 1 to
+-- 64 of those that were looked up
+pub record IsKept (every room : ℕ) : Type 0 where
+  pub some_ticks : 0 < every
+  pub few_ticks : every ≤ LONGEST_MATCH
+  pub some_room : 0 < room
+  pub little_room : room ≤ 64
+
+-- what is asked of a match is in its ranges
+abbrev pub IsAskedOfMatch : MatchTask → Type 0
+IsAskedOfMatch Order = Unit {0}
+IsAskedOfMatch Play = Unit {0}
+IsAskedOfMatch Race = Unit {0}
+IsAskedOfMatch Lift = Unit {0}
+IsAskedOfMatch Score = Unit {0}
+IsAskedOfMatch PaintOrder = Unit {0}
+IsAskedOfMatch PaintPlay = Unit {0}
+IsAskedOfMatch (Join mirror lines) = Unit {0}
+IsAskedOfMatch (Rewind every room ticks) = IsKept every room
+
+-- the same of whatever words ask for
+abbrev pub IsAsked : Subcommand → Type 0
+IsAsked (OfMatch task) = IsAskedOfMatch task
+IsAsked Audit = Unit {0}
+IsAsked Lossy = Unit {0}
+IsAsked (Soak number) = Unit {0}
 
 -- how many bytes of an input a subcommand reads at most: as many as the text that it reads may
 -- have, and one more; none where it reads no text

@@ -4,7 +4,7 @@ ghost use Rattle.std.specs.Prelude.{◌≡◌, ◌≤◌, ◌&&◌, nat_le, map,
 ghost use Rattle.game_trait.specs.declared.limits.TheConstants.{LONGEST_MATCH};
 ghost use Rattle.std.specs.String.{string_bytes};
 ghost use Rattle.tss_io.specs.Decimals.{number_of};
-ghost use Rattle.tss_words.specs.Subcommands.{subcommand_named, subcommand_of, soak_of, paint_of, join_of, rewind_of, two_of, longer_of, ticks_of, numbers_of, number_between};
+ghost use Rattle.tss_words.specs.Subcommands.{subcommand_named, subcommand_of, soak_of, paint_of, join_of, rewind_of, two_of, longer_of, IsAsked, ticks_of, numbers_of, number_between};
 
 use crate::subcommand::{MatchTask, Subcommand};
 use crate::ticks::{MOST_LOOKS, Ticks};
@@ -15,14 +15,14 @@ use tss_io::decimal;
 // The greatest number of a mirror.
 const LAST_MIRROR: u64 = MOST_MIRRORS as u64 - 1;
 
-/// How many looked-up worlds a `rewind` keeps at most; it keeps 1 at least (this project's own).
+// How many looked-up worlds a `rewind` keeps at most; it keeps 1 at least (this project's own).
 const MOST_KEPT: u64 = 64;
 
 // The number whose canonical decimal the word is, where it lies between these.
 #[tactic(auto, unfolding(crate::specs::Subcommands::number_between))]
 fn number_between(word: &str, least: u64, most: u64) -> Option<u64>
     ensures exact { result ≡ number_between word.now least most }
-    ensures within { IfSome result (λ n. n ≤ most) }
+    ensures within { IfSome result (λ n. (least ≤ n) × (n ≤ most)) }
 {
     match decimal(word.as_bytes(), most) {
         Some(number) if number >= least => Some(number),
@@ -71,7 +71,8 @@ impl Subcommand {
     // The subcommand of this name.
     #[tactic(auto, unfolding(crate::specs::Subcommands::subcommand_named))]
     fn named(word: &str) -> Option<Subcommand>
-        ensures { result ≡ subcommand_named word.now }
+        ensures exact { result ≡ subcommand_named word.now }
+        ensures asked { IfSome result IsAsked }
     {
         match word {
             "order" => Some(Subcommand::OfMatch(MatchTask::Order)),
@@ -88,7 +89,8 @@ impl Subcommand {
     // To soak the number whose canonical decimal the word is, where it is below 2 ^ 32.
     #[tactic(auto, unfolding(crate::specs::Subcommands::soak_of))]
     fn soak(word: &str) -> Option<Subcommand>
-        ensures { result ≡ soak_of word.now }
+        ensures exact { result ≡ soak_of word.now }
+        ensures asked { IfSome result IsAsked }
     {
         match decimal(word.as_bytes(), u64::from(u32::MAX)) {
             Some(number) => Some(Subcommand::Soak(number as u32)),
@@ -99,7 +101,8 @@ impl Subcommand {
     // What is asked of a match in the game of painting.
     #[tactic(auto, unfolding(crate::specs::Subcommands::paint_of))]
     fn paint(word: &str) -> Option<Subcommand>
-        ensures { result ≡ paint_of word.now }
+        ensures exact { result ≡ paint_of word.now }
+        ensures asked { IfSome result IsAsked }
     {
         match word {
             "order" => Some(Subcommand::OfMatch(MatchTask::PaintOrder)),
@@ -111,7 +114,8 @@ impl Subcommand {
     // To let a mirror join from this one after so many lines of the script.
     #[tactic(auto, unfolding(crate::specs::Subcommands::join_of))]
     fn join(mirror: &str, lines: &str) -> Option<Subcommand>
-        ensures { result ≡ join_of mirror.now lines.now }
+        ensures exact { result ≡ join_of mirror.now lines.now }
+        ensures asked { IfSome result IsAsked }
     {
         let mirror = decimal(mirror.as_bytes(), LAST_MIRROR)?;
         let lines = decimal(lines.as_bytes(), MOST_SCRIPT_LINES as u64)?;
@@ -124,7 +128,8 @@ impl Subcommand {
     // To look at a match at each of these ticks, over worlds that are kept so.
     #[tactic(auto, unfolding(crate::specs::Subcommands::rewind_of))]
     fn rewind(every: &str, room: &str, ticks: &[String]) -> Option<Subcommand>
-        ensures { result ≡ rewind_of every.now room.now (map string_bytes ticks.now) }
+        ensures exact { result ≡ rewind_of every.now room.now (map string_bytes ticks.now) }
+        ensures asked { IfSome result IsAsked }
     {
         let every = number_between(every, 1, u64::from(LONGEST_MATCH))?;
         let room = number_between(room, 1, MOST_KEPT)?;
@@ -139,7 +144,8 @@ impl Subcommand {
     // What two words ask for.
     #[tactic(auto, unfolding(crate::specs::Subcommands::two_of))]
     fn two(word: &str, next: &str) -> Option<Subcommand>
-        ensures { result ≡ two_of word.now next.now }
+        ensures exact { result ≡ two_of word.now next.now }
+        ensures asked { IfSome result IsAsked }
     {
         match word {
             "soak" => Subcommand::soak(next),
@@ -151,7 +157,9 @@ impl Subcommand {
     // What three words and more ask for.
     #[tactic(auto, unfolding(crate::specs::Subcommands::longer_of))]
     fn longer(word: &str, next: &str, third: &str, more: &[String]) -> Option<Subcommand>
-        ensures { result ≡ longer_of word.now next.now third.now (map string_bytes more.now) }
+        ensures exact { result
+            ≡ longer_of word.now next.now third.now (map string_bytes more.now) }
+        ensures asked { IfSome result IsAsked }
     {
         match more {
             [] if word == "join" => Subcommand::join(next, third),
@@ -164,7 +172,8 @@ impl Subcommand {
     /// takes no memory.
     #[tactic(auto, unfolding(crate::specs::Subcommands::subcommand_of))]
     pub fn of(words: &[String]) -> Option<Subcommand>
-        ensures { result ≡ subcommand_of (map string_bytes words.now) }
+        ensures exact { result ≡ subcommand_of (map string_bytes words.now) }
+        ensures asked { IfSome result IsAsked }
     {
         match words {
             [] => None,
