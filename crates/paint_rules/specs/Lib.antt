@@ -1,0 +1,5 @@
+pub mod Owners
+pub mod Scene
+pub mod Command
+pub mod Beat
+pub mod World
