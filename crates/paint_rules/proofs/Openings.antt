@@ -1,5 +1,5 @@
 -- Where players and pickups stand as a match begins.
-use Rattle.std.proofs.Common.{◌≡◌, ◌∙◌, ℕ, ◌<◌, true, List, length, map, sym}
+use Rattle.std.proofs.Common.{◌≡◌, ◌∙◌, ◌<◌, true, List, map, sym}
 use Rattle.std.specs.List.{All, list_all}
 use Rattle.std.proofs.lemmas.Bool.{and_parts}
 use Rattle.std.proofs.lemmas.List.Elements.{All-weaker}
@@ -8,7 +8,6 @@ use Rattle.std.proofs.lemmas.List.Sums.{AllPass-from_list_all}
 use Rattle.arena_rules.specs.Ground.{Grid, IsGrid, is_open}
 use Rattle.arena_rules.specs.Setup.{Layout, Cell, spot_cell, pickup_cell, IsLayout}
 use Rattle.arena_rules.specs.declared.pickup.PickupSpot.{PickupSpot}
-use Rattle.arena_rules.specs.declared.spot.Spot.{Spot}
 use Rattle.paint_rules.specs.World.{Lies}
 use Rattle.paint_rules.proofs.Steps.{is_open-near}
 

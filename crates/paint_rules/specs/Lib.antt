@@ -3,3 +3,4 @@ pub mod Scene
 pub mod Command
 pub mod Beat
 pub mod World
+pub mod Block

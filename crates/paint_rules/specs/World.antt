@@ -1,5 +1,5 @@
 -- The worlds of the game, and its rules.
-use Rattle.std.specs.Prelude.{◌≡◌, ◌≤◌, true, List, length, All}
+use Rattle.std.specs.Prelude.{◌≡◌, ◌≤◌, true, length, All}
 use Rattle.game_trait.specs.Game.{Rules}
 use Rattle.game_trait.specs.declared.limits.TheConstants.{MOST_PLAYERS, MOST_PICKUPS}
 use Rattle.arena_rules.specs.Ground.{Grid, IsGrid, is_open}

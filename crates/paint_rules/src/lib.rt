@@ -2,6 +2,7 @@
 //! at.
 #![tactic(auto)]
 
+mod block;
 mod cells;
 mod copying;
 mod facing;

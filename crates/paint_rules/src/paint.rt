@@ -1,23 +1,26 @@
-//! The game of painting: a world that commands and beats change.
+//! The game of painting: a world that commands and beats change, and that a block shows.
 
-ghost use Rattle.std.specs.Prelude.{◌≡◌, ◌<◌, length, OnSome, slice_get};
+ghost use Rattle.std.specs.Prelude.{◌≡◌, ◌<◌, ◌++◌, length, take, OnOk, OnSome, slice_get};
 ghost use Rattle.arena_rules.specs.Setup.{layout_of, IsLayout};
 ghost use Rattle.arena_rules.specs.Command.{turned_left, turned_right};
 ghost use Rattle.paint_rules.specs.Owners.{owned};
 ghost use Rattle.paint_rules.specs.Scene.{opening};
 ghost use Rattle.paint_rules.specs.Command.{turned, moved, shot, applied};
 ghost use Rattle.paint_rules.specs.Beat.{beaten};
+ghost use Rattle.paint_rules.specs.Block.{block_of};
 
+use crate::block::{push_painters, push_rows};
 use crate::cells::Cells;
 use crate::copying::{copied, copy_into};
 use crate::facing::{open_ahead, turned_left, turned_right};
 use crate::painting::{paint_ahead, settle, wipe};
 use crate::players::{is_held, put};
-use arena_rules::{Ground, PickupSpot, Setup, Spot};
+use arena_rules::{Ground, PickupSpot, Roster, Setup, Shown, Spot};
 use arrayvec::ArrayVec;
 use game_trait::limits::{MOST_PICKUPS, MOST_PLAYERS};
 use game_trait::{Act, Command, Game, Tick};
 use std::marker::Model;
+use tss_io::NoMemory;
 
 /// A world of the game: its ground, the cell and facing of each player, who owns each cell, where
 /// pickups lie, and the time. It has a fixed size.
@@ -82,6 +85,16 @@ impl Paint {
         // Reads the world, whose invariant the answers below rest on.
         let _ = &self.time;
         self.cells.owned(player)
+    }
+
+    // Appends the lines after the block's head. On `NoMemory` some may have been appended.
+    #[tactic(auto, unfolding(crate::specs::Block::block_of))]
+    fn push_lines(&self, roster: &Roster, out: &mut Vec<u8>) -> Result<(), NoMemory>
+        ensures ok { OnOk result (out.new.items ≡ out.old.items ++ block_of self.now roster.now) }
+        ensures front { take (length out.old.items) out.new.items ≡ out.old.items }
+    {
+        push_painters(&self.players, &self.cells, roster, out)?;
+        push_rows(&self.ground, &self.cells, out)
     }
 
     // Where the player of this number stands and looks, if there is one.
@@ -193,6 +206,23 @@ impl Game for Paint {
             cells: self.cells.twin(),
             pickups: copied(&self.pickups),
             time: self.time,
+        }
+    }
+}
+
+impl Shown for Paint {
+    ghost use Rattle.paint_rules.specs.Block.{block_of};
+
+    ghost lines = { block_of };
+
+    fn block(&self, roster: &Roster, out: &mut Vec<u8>) -> Result<(), NoMemory> {
+        let length = out.len();
+        match self.push_lines(roster, out) {
+            Ok(()) => Ok(()),
+            Err(fault) => {
+                out.truncate(length);
+                Err(fault)
+            }
         }
     }
 }

@@ -1,4 +1,4 @@
-use Rattle.std.proofs.Common.{◌≡◌, sym, ◌∙◌, arith, ◌<◌}
+use Rattle.std.proofs.Common.{sym, ◌∙◌, arith}
 use Rattle.paint_rules.proofs.Steps.{is_free-near}
 use Rattle.paint_rules.proofs.facing.open_spot.Goals as goal
 

@@ -1,4 +1,4 @@
-use Rattle.std.proofs.Common.{◌≡◌, ℕ, suc, ◌+◌, ◌-◌, ◌≤◌, ◌∙◌, ap, sym, arith}
+use Rattle.std.proofs.Common.{◌≡◌, ℕ, suc, ◌+◌, ◌-◌, ◌∙◌, ap, sym, arith}
 use Rattle.paint_rules.specs.Command.{painted_ahead}
 use Rattle.paint_rules.proofs.Steps.{painted_ahead-next, painted_ahead-stopped, painted_ahead-none}
 use Rattle.paint_rules.proofs.painting.paint_ahead.Goals as goal

@@ -1,4 +1,4 @@
-use Rattle.std.proofs.Common.{◌≡◌, ◌≤◌, ◌∙◌, length, sym, arith}
+use Rattle.std.proofs.Common.{◌∙◌, sym, arith}
 use Rattle.paint_rules.proofs.Steps.{settled-next, settled-all}
 use Rattle.paint_rules.proofs.painting.settle.Goals as goal
 

@@ -1,4 +1,4 @@
-use Rattle.std.proofs.Common.{◌≡◌, ◌≤◌, ◌∙◌, length, sym, arith}
+use Rattle.std.proofs.Common.{◌∙◌, sym, arith}
 use Rattle.paint_rules.proofs.Steps.{wiped-next, wiped-all}
 use Rattle.paint_rules.proofs.painting.wipe.Goals as goal
 

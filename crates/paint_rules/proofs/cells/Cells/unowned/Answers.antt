@@ -1,4 +1,4 @@
-use Rattle.std.proofs.Common.{◌≡◌, refl}
+use Rattle.std.proofs.Common.{refl}
 use Rattle.paint_rules.specs.Owners.{unowned}
 use Rattle.paint_rules.proofs.Counts.{AreCounts-unowned, owners-unowned}
 use Rattle.paint_rules.proofs.cells.Cells.unowned.Goals as goal

@@ -1,6 +1,4 @@
-use Rattle.std.proofs.Common.{rules, ◌≡◌, ◌∙◌, refl, ap}
-use Rattle.arena_rules.specs.Setup.{layout_of}
-use Rattle.paint_rules.specs.Scene.{opening, settled}
+use Rattle.std.proofs.Common.{refl}
 use Rattle.paint_rules.proofs.Openings.{homes-near, pickups-lie}
 use Rattle.paint_rules.proofs.paint.Paint.start.Goals as goal
 
