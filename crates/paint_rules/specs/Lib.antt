@@ -1,0 +1,6 @@
+pub mod Owners
+pub mod Scene
+pub mod Command
+pub mod Beat
+pub mod World
+pub mod Block
