@@ -1,11 +1,14 @@
 -- A whole lossy text, both ways, and its first fault.
-use Rattle.std.proofs.Common.{◌≡◌, ℕ, ◌≤◌, List, ◌++◌, sym, length, Result, Ok, Err, refl, ap, subst, ◌∙◌, length-append, arith}
+use Rattle.std.proofs.Common.{◌≡◌, ℕ, ◌<◌, ◌≤◌, List, ◌++◌, sym, length, Result, Ok, Err, refl, ap, subst, ◌∙◌, length-append, arith}
 use Rattle.std.specs.Prelude.{IfOk, IfErr}
 use Rattle.tss_io.specs.Results.{◌>>=◌}
 use Rattle.tss_io.specs.declared.fault.Refused.{Refused}
 use Rattle.tss_io.specs.declared.fault.TextFault.{TextFault}
+use Rattle.tss_io.specs.declared.fault.TextFault.TheVariants as text_faults
+use Rattle.tss_io.specs.declared.cause.Cause.TheVariants.{Long}
+use Rattle.std.proofs.lemmas.Bool.{lt-ltb}
 use Rattle.tss_io.specs.Lines.{as_line, lines_text}
-use Rattle.tss_io.specs.Reading.{Gives}
+use Rattle.tss_io.specs.Reading.{Gives, refused_at}
 use Rattle.tss_io.proofs.FormLaws.{through}
 use Rattle.tss_io.proofs.MachineLaws.{gives_found, gives_only, gives_refused}
 use Rattle.tss_io.proofs.Printing.{lines_text-append}
@@ -30,9 +33,9 @@ same_text : (x y : LossyData) → ◌≡◌ {A = Result LossyData Refused} (Ok x
 same_text x y e = cc
 
 -- what is read was written so
-lossy_found : (text : List ℕ) (x : LossyData) → read_lossy text ≡ Ok x → IsLossy x × (text ≡ lossy_text x)
+pub whole_found : (text : List ℕ) (x : LossyData) → read_lossy text ≡ Ok x → IsLossy x × (text ≡ lossy_text x)
 unfolding lines_text
-lossy_found text x e = through _ _ _ e (λ (y : MatchData × Tail) y_is e.
+whole_found text x e = through _ _ _ e (λ (y : MatchData × Tail) y_is e.
     let f = around_found LONGEST_LOSSY_TEXT lossy_head net_tail text y y_is in
     let w = said_whole y.0 y.1 f.is f.last in
     let found : IsLossy (lossy_with y) × (text ≡ lossy_text (lossy_with y)) =
@@ -51,8 +54,8 @@ lossy_short x is =
     omega (arith, game, net, ap length (lines_text-append (match_lines x.game) (net_lines x.lines)), length-append (match_text x.game) (lines_text (net_lines x.lines)))
 
 -- what is written is read
-lossy_again : (x : LossyData) → IsLossy x → read_lossy (lossy_text x) ≡ Ok x
-lossy_again x is =
+pub whole_read : (x : LossyData) → IsLossy x → read_lossy (lossy_text x) ≡ Ok x
+whole_read x is =
     let read = around_again LONGEST_LOSSY_TEXT lossy_head net_machine no_tail x.game (net_lines x.lines) (ended_with x.lines) refl head_lacks is.game
     (net_lacks x.game is.game x.lines is.count is.lines) (lossy_short x is) (net_follows x.game is.game x.lines is.count is.lines) refl in
     rw read refl
@@ -61,13 +64,22 @@ read_err : (r : Result (MatchData × Tail) Refused) (refused : Refused) → (r >
 read_err (Ok y) refused e = absurd cc
 read_err (Err c) refused e = cc
 
+-- a refusal names the first faulty line and its first failing check
+pub refused_first : (text : List ℕ) (refused : Refused) → read_lossy text ≡ Err refused → IsFirstOfLossy text (text_faults.Refused refused)
+refused_first text refused e = around_first LONGEST_LOSSY_TEXT lossy_head net_tail text refused (read_err (around_of text) refused e)
+
+-- a text over the limit is refused as a whole
+pub long_fails : (text : List ℕ) → LONGEST_LOSSY_TEXT < length text → read_lossy text ≡ Err (refused_at 0 Long)
+unfolding read_around
+long_fails text long = rw (lt-ltb LONGEST_LOSSY_TEXT (length text) long) refl
+
 -- ---- what reading answers
 
 pub found : (text : List ℕ) (r : Result LossyData TextFault) → Gives (λ x. x) r (read_lossy text) → IfOk r (λ x. IsLossy x × (text ≡ lossy_text x))
-found text r h = gives_found _ r (read_lossy text) h (lossy_found text)
+found text r h = gives_found _ r (read_lossy text) h (whole_found text)
 
 pub only : (text : List ℕ) (r : Result LossyData TextFault) → Gives (λ x. x) r (read_lossy text) → (x : LossyData) → IsLossy x → text ≡ lossy_text x → Gives (λ v. v) r (Ok x)
-only text r h x is e = gives_only x r (read_lossy text) h (ap read_lossy e ∙ lossy_again x is)
+only text r h x is e = gives_only x r (read_lossy text) h (ap read_lossy e ∙ whole_read x is)
 
-pub refused_first : (text : List ℕ) (r : Result LossyData TextFault) → Gives (λ x. x) r (read_lossy text) → IfErr r (IsFirstOfLossy text)
-refused_first text r h = gives_refused (IsFirstOfLossy text) r (read_lossy text) h tt (λ refused e. around_first LONGEST_LOSSY_TEXT lossy_head net_tail text refused (read_err (around_of text) refused e))
+pub refused : (text : List ℕ) (r : Result LossyData TextFault) → Gives (λ x. x) r (read_lossy text) → IfErr r (IsFirstOfLossy text)
+refused text r h = gives_refused (IsFirstOfLossy text) r (read_lossy text) h tt (refused_first text)
