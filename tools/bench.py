@@ -227,19 +227,27 @@ def net_texts():
     return tuple("".join(line + "\n" for line in lines).encode() for lines in (lossy, match))
 
 
+def one_mirror(text):
+    """The match of a text with mirror 0 alone, which issues every command, and the number of its script's lines."""
+    lines = text.decode().splitlines()
+    begin = lines.index("script")
+    head = ["mirrors 1" if line.startswith("mirrors") else line for line in lines[:begin + 1]]
+    head = [" ".join(w if at != 2 else "0" for at, w in enumerate(line.split(" "))) if line.startswith("cmd ") else line for line in head]
+    own = [line.split(" ") for line in lines[begin + 1:-1] if line.split(" ")[1] == "0"]
+    own = [" ".join((*words[:2], "0", words[3])) if words[0] == "arrive" else " ".join(words) for words in own]
+    return "".join(line + "\n" for line in [*head, *own, "end"]).encode(), len(own)
+
+
 def time_beside(program, runs):
     """Times words in turn with `order` or `play` of the same match, and prints how many times as long they take."""
     text = hall_text(8192, "four")
-    lines = text.decode().split("\n")
-    begin = lines.index("script")
-    own = [line for line in lines[begin + 1:-2] if line.split(" ")[1] == "0"]
-    one = "\n".join(lines[:begin + 1] + own + lines[-2:]).encode()
+    one, own = one_mirror(text)
     net, script = net_texts()
     ticks = [str(256 * k) for k in range(16)]
     for words, given, beside, other, times in (
         (["paint", "order"], text, ["order"], text, 1), (["paint", "play"], text, ["play"], text, 1),
         (["rewind", "64", "16", *ticks], text, ["order"], text, 1),
-        (["join", "0", str(len(own) // 2)], one, ["play"], one, 2), (["lossy"], net, ["play"], script, 1),
+        (["join", "0", str(own // 2)], one, ["play"], one, 2), (["lossy"], net, ["play"], script, 1),
     ):
         made = [(run_once(program, words, given), run_once(program, beside, other)) for _ in range(runs)]
         least, by = (min(pair[at][0] for pair in made) for at in (0, 1))
