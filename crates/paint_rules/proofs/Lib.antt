@@ -2,3 +2,5 @@ mod Counts
 mod Steps
 mod Openings
 mod Lines
+mod Computing
+mod Homes

@@ -4,3 +4,4 @@ pub mod Command
 pub mod Beat
 pub mod World
 pub mod Block
+pub mod Worked

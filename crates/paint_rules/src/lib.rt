@@ -9,5 +9,6 @@ mod facing;
 mod paint;
 mod painting;
 mod players;
+pub mod worked;
 
 pub use paint::Paint;

@@ -1,11 +1,12 @@
 //! The game of painting: a world that commands and beats change, and that a block shows.
 
-ghost use Rattle.std.specs.Prelude.{◌≡◌, ◌<◌, ◌++◌, length, take, OnOk, OnSome, slice_get};
-ghost use Rattle.arena_rules.specs.Setup.{layout_of, IsLayout};
+ghost use Rattle.std.specs.Prelude.{◌≡◌, ℕ, ◌<◌, ◌++◌, false, length, take, OnOk, OnSome, slice_get, slice_index_or};
+ghost use Rattle.arena_rules.specs.Setup.{layout_of, IsLayout, spot_cell};
 ghost use Rattle.arena_rules.specs.Command.{turned_left, turned_right};
-ghost use Rattle.paint_rules.specs.Owners.{owned};
+ghost use Rattle.arena_rules.specs.declared.spot.Spot.{Spot as ASpot};
+ghost use Rattle.paint_rules.specs.Owners.{nobody, owner_of, owned};
 ghost use Rattle.paint_rules.specs.Scene.{opening};
-ghost use Rattle.paint_rules.specs.Command.{turned, moved, shot, applied};
+ghost use Rattle.paint_rules.specs.Command.{is_held, turned, moved, shot, applied};
 ghost use Rattle.paint_rules.specs.Beat.{beaten};
 ghost use Rattle.paint_rules.specs.Block.{block_of};
 
@@ -63,7 +64,12 @@ impl Paint {
     /// It takes no memory.
     pub fn start(setup: &Setup) -> Paint
         requires { IsLayout (layout_of setup.now) }
-        ensures { result ≡ opening (layout_of setup.now) }
+        ensures opening { result ≡ opening (layout_of setup.now) }
+        ensures homes { (k : ℕ) → (d : ASpot) → k < length result.players
+            → owner_of result.owners (spot_cell (slice_index_or result.players k d)) ≡ k }
+        ensures others { (x y : ℕ) → x < 64
+            → is_held result.players (record { x = x; y = y }) ≡ false
+            → owner_of result.owners (record { x = x; y = y }) ≡ nobody }
     {
         let mut cells = Cells::unowned();
         settle(&mut cells, &setup.players);

@@ -1,5 +1,6 @@
 use Rattle.std.proofs.Common.{refl}
 use Rattle.paint_rules.proofs.Openings.{homes-near, pickups-lie}
+use Rattle.paint_rules.proofs.Homes.{opening-homes, opening-others}
 use Rattle.paint_rules.proofs.paint.Paint.start.Goals as goal
 
 pub settle-requires-clause-within : goal.settle-requires-clause-within
@@ -13,5 +14,11 @@ invariant_of-result c = rw (c.copied.ensures, c.copied-2.ensures) (record {
   pickups = pickups-lie _ c.requires;
 })
 
-pub returns : goal.returns
-returns c = rw (c.copied.ensures, c.copied-2.ensures, c.settle.ensures, c.deref.ensures.0, c.unowned-cells.ensures) refl
+pub returns-clause-opening : goal.returns-clause-opening
+returns-clause-opening c = rw (c.copied.ensures, c.copied-2.ensures, c.settle.ensures, c.deref.ensures.0, c.unowned-cells.ensures) refl
+
+pub returns-clause-homes : goal.returns-clause-homes
+returns-clause-homes c = rw (c.copied.ensures, c.settle.ensures, c.deref.ensures.0, c.unowned-cells.ensures) (opening-homes _ c.requires)
+
+pub returns-clause-others : goal.returns-clause-others
+returns-clause-others c = rw (c.copied.ensures, c.settle.ensures, c.deref.ensures.0, c.unowned-cells.ensures) (opening-others _ c.requires)
