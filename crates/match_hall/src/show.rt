@@ -128,10 +128,7 @@ fn taken_in<G: Game>(mirror: &Mirror<G>) -> (u32, u32)
 {
     mirror.always();
     let _ = mirror.events();
-    (
-        mirror.accepted().len() as u32,
-        mirror.turned().len() as u32,
-    )
+    (mirror.accepted().len() as u32, mirror.turned().len() as u32)
 }
 
 /// Appends the line of the mirror of this number. On `NoMemory` `out` is unchanged.
