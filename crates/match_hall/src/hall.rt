@@ -227,12 +227,7 @@ impl<G: Game + Shown> Hall<G> {
 
     /// The mirrors of a match as it begins with this world, each with room for so many arrivals, at
     /// most 1,048,576, and for no change of its plan. Want of memory makes nothing.
-    pub fn with_room(
-        alloc: Global,
-        m: &Match,
-        opening: &G,
-        room: u32,
-    ) -> Result<Hall<G>, NoMemory>
+    pub fn with_room(alloc: Global, m: &Match, opening: &G, room: u32) -> Result<Hall<G>, NoMemory>
         requires { room ≤ MOST_ROOM }
         ensures { IfOk result (λ hall. hall
             ≡ replicate m.now.mirrors
@@ -244,12 +239,7 @@ impl<G: Game + Shown> Hall<G> {
 
     /// Makes a script line at the mirror that it names, and appends what it prints. It may be made
     /// there. On `NoMemory` it was made, and `out` is unchanged.
-    pub fn make(
-        &mut self,
-        m: &Match,
-        line: &ScriptLine,
-        out: &mut Vec<u8>,
-    ) -> Result<(), NoMemory>
+    pub fn make(&mut self, m: &Match, line: &ScriptLine, out: &mut Vec<u8>) -> Result<(), NoMemory>
         requires { IsReady m.now line.now self.old }
         ensures state { self.new
             ≡ changed_at (after_line m.now.commands line.now) (mirror_of line.now) self.old }
