@@ -16,9 +16,7 @@ use report_text::{done_line, hits_line, world_block};
 use rewind_store::{Looked, Rewind};
 use std::alloc::Global;
 use tss_io::{NoMemory, Seq};
-
-/// At how many ticks one text looks at most.
-pub const MOST_LOOKS: usize = 16;
+use tss_words::MOST_LOOKS;
 
 // How much a look counts among those that hit.
 fn count(hit: bool) -> u32

@@ -4,4 +4,4 @@
 
 mod answer;
 
-pub use answer::{MOST_LOOKS, rewind};
+pub use answer::rewind;
