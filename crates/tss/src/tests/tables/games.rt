@@ -15,7 +15,7 @@ const PAINTED: Row = Row {
 };
 
 // Matches, and what painting comes to.
-pub const PAINTS: [Row; 7] = [
+pub const PAINTS: [Row; 8] = [
     PAINTED,
     Row {
         name: "a pickup's cell becomes nobody's",
@@ -60,6 +60,31 @@ pub const PAINTS: [Row; 7] = [
         rest: "player ann 3 0 e\nend\n",
         status: 5,
         written: "refused line 7 cause 4 place\n",
+        ..PAINTED
+    },
+    Row {
+        name: "thirty-two players",
+        front: "tss match 2\nlength 1\ngrid 34 1\nmirrors 1\ndelays 0\npace 0\n",
+        rest: "player p0 0 0 s\nplayer p1 1 0 n\nplayer p2 2 0 s\nplayer p3 3 0 n\n\
+            player p4 4 0 s\nplayer p5 5 0 n\nplayer p6 6 0 s\nplayer p7 7 0 n\n\
+            player p8 8 0 s\nplayer p9 9 0 n\nplayer p10 10 0 s\nplayer p11 11 0 n\n\
+            player p12 12 0 s\nplayer p13 13 0 n\nplayer p14 14 0 s\nplayer p15 15 0 n\n\
+            player p16 16 0 s\nplayer p17 17 0 n\nplayer p18 18 0 s\nplayer p19 19 0 n\n\
+            player p20 20 0 s\nplayer p21 21 0 n\nplayer p22 22 0 s\nplayer p23 23 0 n\n\
+            player p24 24 0 s\nplayer p25 25 0 n\nplayer p26 26 0 s\nplayer p27 27 0 n\n\
+            player p28 28 0 s\nplayer p29 29 0 n\nplayer p30 30 0 s\nplayer p31 31 0 n\nend\n",
+        written: "order 1\npainter p0 0 0 s 1\npainter p1 1 0 n 1\npainter p2 2 0 s 1\n\
+            painter p3 3 0 n 1\npainter p4 4 0 s 1\npainter p5 5 0 n 1\n\
+            painter p6 6 0 s 1\npainter p7 7 0 n 1\npainter p8 8 0 s 1\n\
+            painter p9 9 0 n 1\npainter p10 10 0 s 1\npainter p11 11 0 n 1\n\
+            painter p12 12 0 s 1\npainter p13 13 0 n 1\npainter p14 14 0 s 1\n\
+            painter p15 15 0 n 1\npainter p16 16 0 s 1\npainter p17 17 0 n 1\n\
+            painter p18 18 0 s 1\npainter p19 19 0 n 1\npainter p20 20 0 s 1\n\
+            painter p21 21 0 n 1\npainter p22 22 0 s 1\npainter p23 23 0 n 1\n\
+            painter p24 24 0 s 1\npainter p25 25 0 n 1\npainter p26 26 0 s 1\n\
+            painter p27 27 0 n 1\npainter p28 28 0 s 1\npainter p29 29 0 n 1\n\
+            painter p30 30 0 s 1\npainter p31 31 0 n 1\n\
+            row abcdefghijklmnopqrstuvwxyzABCDEF..\ndone\n",
         ..PAINTED
     },
 ];

@@ -18,7 +18,7 @@ const JOINED: Row = Row {
 };
 
 // Matches of which a mirror is joined, and what is told.
-pub const JOINS: [Row; 8] = [
+pub const JOINS: [Row; 9] = [
     JOINED,
     Row {
         name: "a command from before the joiner's start",
@@ -74,12 +74,24 @@ pub const JOINS: [Row; 8] = [
     Row {
         name: "a change of the plan behind the snapshot",
         words: &["join", "0", "3"],
-        front: "tss match 2\nlength 6\ngrid 5 1\nmirrors 1\ndelays 0 1\nplan 0 3\npace 0\n\
+        front: "tss match 2\nlength 6\ngrid 5 1\nmirrors 1\ndelays 0 1\npace 0\nplan 0 3\n\
             player ann 0 0 e\ncmd 1 0 0 0 go\ncmd 3 0 1 0 go\n",
         rest: "script\nturn 0\nturn 0\nturn 0\nrestagger 0 1\narrive 0 0 1\nturn 0\narrive 0 0 0\nend\n",
         written: "join 0 3 clock 2\nbefore 0 0 1 2\nmirror 0 accepted 1 turned 1 repairs 0\n\
             world 0 1 6\nlive ann 1 0 e 3 5 0\njoiner accepted 1 turned 0 repairs 0\n\
             world joiner 6\nlive ann 1 0 e 3 5 0\nsame yes\ndone\n",
+        ..JOINED
+    },
+    Row {
+        name: "changes of the plan in front of the snapshot and behind it",
+        words: &["join", "0", "7"],
+        front: "tss match 2\nlength 8\ngrid 9 1\nmirrors 1\ndelays 0 1\npace 0\nplan 0 3\n\
+            player ann 0 0 e\ncmd 1 0 0 0 go\ncmd 4 0 1 0 go\ncmd 6 0 2 0 go\n",
+        rest: "script\narrive 0 0 0\nturn 0\nturn 0\nrestagger 0 1\nturn 0\nturn 0\nturn 0\n\
+            restagger 0 0\narrive 0 0 1\nturn 0\nturn 0\narrive 0 0 2\nturn 0\nend\n",
+        written: "join 0 7 clock 2\nmirror 0 accepted 3 turned 0 repairs 1\nworld 0 1 8\n\
+            live ann 3 0 e 3 5 0\njoiner accepted 2 turned 0 repairs 0\nworld joiner 8\n\
+            live ann 3 0 e 3 5 0\nsame yes\ndone\n",
         ..JOINED
     },
 ];
