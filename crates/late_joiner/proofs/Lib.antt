@@ -1,6 +1,6 @@
 pub mod Shift
 mod Names
-mod Taken
+pub mod Taken
 pub mod Joining
 mod Arriving
 pub mod Begun

@@ -63,7 +63,7 @@ some-joined number lines m sound = by (nat_lt number m.mirrors) refl
     by : (there : Bool) → nat_lt number m.mirrors ≡ there → (due : Due) × IsJoined number lines m due
     by true is =
         (let there : number < m.mirrors = grind (arith, nat_tests) in
-        let told = some_told m sound number lines there in
+        let told = some_told m sound number lines in
         (due_of_join told.0, joined told.0 there told.1 refl))
     by false is =
         (let none : m.mirrors ≤ number = grind (arith, nat_tests) in
