@@ -81,9 +81,9 @@ unfolding next_links
 issue-step commands n from number x new is = rw (new, is) refl
 
 pub row-room :
-    (m : MatchData) (n : NetLinks) (x : Command) (from : ℕ) (row : List LinkState) → AreLinks m n → from < m.mirrors → Contains m.commands x
+    (m : MatchData) (n : NetLinks) (x : Command) (from : ℕ) (row : List LinkState) → AreLinks m n → from < m.mirrors → x.from ≡ from → Contains m.commands x
     → has_command n.issued x.from x.number ≡ false → row ≡ row_at n.rows from → AllByRecursion (λ l. length l.sent < l.room) row
-row-room m n x from row h a there new is =
+row-room m n x from row h a own there new is =
     subst (λ (ls : List LinkState). AllByRecursion (λ l. length l.sent < l.room) ls) (sym is)
     (all-numbered (λ l. length l.sent < l.room) (row_at n.rows from) (new_link 0)
-    (λ to below. (issue-room m n x from to h a (let row = h.row from a in omega arith) there new).0))
+    (λ to below. (issue-room m n x from to h a (let row = h.row from a in omega arith) own there new).0))

@@ -1,11 +1,12 @@
 -- Whatever a net line does to the links of a net, they stay what they are.
-use Rattle.std.proofs.Common.{◌≡◌, ℕ, zero, suc, ◌≤◌, ◌<◌, max, Bool, true, false, cond, ◌==◌, List, [], ◌∷◌, ◌++◌, length, get_or, set, take, drop, map, filter, replicate, Contains, Option, Some, None, inl, inr, refl, ap, sym, ◌∙◌, subst, append-nil, arith}
-use Rattle.std.proofs.lemmas.List.{length-append, length-set, length-map, length-replicate, get_or-set_same, get_or-set_other, get_or-replicate, get_or-map}
+use Rattle.std.proofs.Common.{◌≡◌, ℕ, zero, suc, ◌<◌, max, Bool, true, false, cond, ◌==◌, List, [], ◌∷◌, ◌++◌, length, get_or, set, take, drop, map, filter, replicate, Contains, Option, Some, None, inl, inr, refl, ap, sym, ◌∙◌, subst, append-nil, arith}
+use Rattle.std.proofs.lemmas.List.{get_or_at, get_or_append_left, get_or_past, length-append, length-set, length-map, length-replicate, get_or-set_same, get_or-set_other, get_or-replicate, get_or-map}
 use Rattle.std.proofs.lemmas.List.Elements.{filter-append}
-use Rattle.std.proofs.lemmas.Bool.{cases_eq}
+use Rattle.std.proofs.lemmas.Bool.{cases_eq, cases_lt}
 use Rattle.std.proofs.lemmas.Bool.Decides.{nat_tests}
 use Rattle.std.proofs.Math.Seq.{drop-append_seam}
 use Rattle.game_trait.specs.declared.command.Command.{Command}
+use Rattle.game_trait.specs.Count.{times}
 use Rattle.game_trait.specs.Keys.{NamesDiffer}
 use Rattle.game_trait.specs.CommandList.{command_named, has_command}
 use Rattle.game_trait.proofs.CommandLists.{names-push, command_named-Contains}
@@ -17,11 +18,11 @@ use Rattle.lossy_text.specs.declared.net_line.NetLine.{NetLine}
 use Rattle.lossy_text.specs.declared.net_line.NetLine.TheVariants.{Issue, Send, Carry, Ack, Hear, Turn}
 use Rattle.lossy_link.specs.Ends.{is_open}
 use Rattle.lossy_link.specs.Link.{LinkState, IsLinked, new_link, has_flown, next_of, brings, brought, after_put, after_take, after_send, after_carry, after_ack, after_hear}
-use Rattle.lossy_link.specs.Links.{NetLinks, IsLinkOf, AreLinks, row_at, link_at, changed, row_issued, after_issue, next_links, new_links, is_from}
+use Rattle.lossy_link.specs.Links.{NetLinks, IsLinkOf, AreLinks, row_at, link_at, changed, row_issued, after_issue, next_links, new_links, new_rows, is_from}
 use Rattle.lossy_link.specs.Way.{IsThere}
 use Rattle.lossy_link.proofs.LinkLaws.{new-IsLinked, put-IsLinked, take-IsLinked, send-IsLinked, carry-IsLinked, ack-IsLinked, hear-IsLinked, next-none}
 use Rattle.lossy_link.proofs.Places.{IsPlace, changed-rows, changed-row, changed-same, changed-other, same-place}
-use Rattle.lossy_link.proofs.Names.{names-most, found-named}
+use Rattle.lossy_link.proofs.Names.{names-most, own-most, own-length, found-named}
 
 -- ---- what a step of one link leaves as it was
 
@@ -76,8 +77,8 @@ brought-none k l all =
 -- ---- one link of all
 
 -- it is still a link of its mirror, whatever the other links are
-moved : (n : NetLinks) (rows : List (List LinkState)) (i : ℕ) (l k : LinkState) → k ≡ l → IsLinkOf n i l → IsLinkOf (record n { rows = rows }) i k
-moved n rows i l k same h = subst (λ (t : LinkState). IsLinkOf (record n { rows = rows }) i t) (sym same) (record { linked = h.linked; sent = h.sent; room = h.room })
+moved : (m : MatchData) (n : NetLinks) (rows : List (List LinkState)) (i : ℕ) (l k : LinkState) → k ≡ l → IsLinkOf m n i l → IsLinkOf m (record n { rows = rows }) i k
+moved m n rows i l k same h = subst (λ (t : LinkState). IsLinkOf m (record n { rows = rows }) i t) (sym same) (record { linked = h.linked; sent = h.sent; room = h.room })
 
 changed-at :
     (f : LinkState → LinkState) (from to i j : ℕ) (rows : List (List LinkState)) → IsPlace rows from to → i ≡ from → j ≡ to
@@ -91,7 +92,7 @@ place-in m n from to h a b = record { from = (let rows = h.rows in omega arith);
 
 changed-AreLinks :
     (m : MatchData) (n : NetLinks) (f : LinkState → LinkState) (from to : ℕ) → from < m.mirrors → to < m.mirrors → AreLinks m n
-    → IsLinkOf n from (f (link_at n.rows from to))
+    → IsLinkOf m n from (f (link_at n.rows from to))
     → (from ≡ to → (f (link_at n.rows from to)).received ≡ (f (link_at n.rows from to)).sent)
     → AreLinks m (record n { rows = changed f from to n.rows })
 changed-AreLinks m n f from to a b h here own =
@@ -105,9 +106,9 @@ changed-AreLinks m n f from to a b h here own =
       row = λ i below. changed-row f from to n.rows i there ∙ h.row i below;
       links = λ i j bi bj.
           elim (same-place i j from to) [
-            | inl same ↦ subst (λ (k : ℕ). IsLinkOf (record n { rows = rows }) k (link_at rows i j)) (sym same.0)
-                (moved n rows from (f (link_at n.rows from to)) (link_at rows i j) (changed-at f from to i j n.rows there same.0 same.1) here)
-            | inr apart ↦ moved n rows i (link_at n.rows i j) (link_at rows i j) (changed-other f from to n.rows i j there apart) (h.links i j bi bj)
+            | inl same ↦ subst (λ (k : ℕ). IsLinkOf m (record n { rows = rows }) k (link_at rows i j)) (sym same.0)
+                (moved m n rows from (f (link_at n.rows from to)) (link_at rows i j) (changed-at f from to i j n.rows there same.0 same.1) here)
+            | inr apart ↦ moved m n rows i (link_at n.rows i j) (link_at rows i j) (changed-other f from to n.rows i j there apart) (h.links i j bi bj)
           ];
       own = λ i below.
           elim (same-place i i from to) [
@@ -210,24 +211,24 @@ other-more issued x from apart =
     let here : (x.from == from) ≡ false = grind (arith, nat_tests) in
     filter-append (is_from from) issued (x ∷ []) ∙ ap (λ (b : Bool). filter (is_from from) issued ++ cond b (x ∷ []) []) here ∙ append-nil (filter (is_from from) issued)
 
-filter-most : {X : Type 0} (p : X → Bool) (xs : List X) → length (filter p xs) ≤ length xs
-filter-most p [] = omega arith
-filter-most p (x ∷ xs) = (let rest = filter-most p xs in elim (p x) as (λ v. length (cond v (x ∷ filter p xs) (filter p xs)) ≤ suc (length xs)) [ true ↦ omega arith | false ↦ omega arith ])
-
 -- there is room for a command that wasn't issued before
 pub issue-room :
     (m : MatchData) (n : NetLinks) (x : Command) (from to : ℕ) → AreLinks m n → from < m.mirrors → to < m.mirrors
-    → Contains m.commands x → has_command n.issued x.from x.number ≡ false
+    → x.from ≡ from → Contains m.commands x → has_command n.issued x.from x.number ≡ false
     → (length (link_at n.rows from to).sent < (link_at n.rows from to).room) × (length n.issued < n.room)
-issue-room m n x from to h a b there new =
-    let most = names-most m.commands (n.issued ++ x ∷ []) (names-push n.issued x h.differ new) (all-push (Contains m.commands) n.issued x h.there there) in
-    let long = length-append n.issued (x ∷ []) in
+issue-room m n x from to h a b is there new =
+    let differ = names-push n.issued x h.differ new in
+    let all = all-push (Contains m.commands) n.issued x h.there there in
+    let most = names-most m.commands (n.issued ++ x ∷ []) differ all in
+    let own = own-most from m.commands (n.issued ++ x ∷ []) differ all in
     let l = h.links from to a b in
     let sent = ap (λ (xs : List Command). length xs) l.sent in
-    let few = filter-most (is_from from) n.issued in
+    let more = ap (λ (xs : List Command). length xs) (own-more n.issued x from is) in
     let room = l.room in
-    let all = h.room in
-    (omega arith, omega arith)
+    let whole = h.room in (
+      omega (arith, own-length from (n.issued ++ x ∷ []), length-append (filter (is_from from) n.issued) (x ∷ [])),
+      omega (arith, length-append n.issued (x ∷ [])),
+    )
 
 issue-AreLinks :
     (m : MatchData) (n : NetLinks) (x : Command) (from : ℕ) → from < m.mirrors → AreLinks m n → x.from ≡ from
@@ -236,7 +237,7 @@ issue-AreLinks m n x from a h is there new =
     let place = place-in m n from from h a a in
     let rows = changed_at (row_issued x from) from n.rows in
     let put : (j : ℕ) → j < m.mirrors → IsLinked (after_put x (link_at n.rows from j)) =
-    λ j below. put-IsLinked x (link_at n.rows from j) (issue-room m n x from j h a below there new).0 (h.links from j a below).linked in
+    λ j below. put-IsLinked x (link_at n.rows from j) (issue-room m n x from j h a below is there new).0 (h.links from j a below).linked in
     let sent : (j : ℕ) → j < m.mirrors → (after_put x (link_at n.rows from j)).sent ≡ filter (is_from from) (n.issued ++ x ∷ []) =
     λ j below. (put-sent x (link_at n.rows from j)).0 ∙ ap (λ (xs : List Command). xs ++ x ∷ []) (h.links from j a below).sent ∙ sym (own-more n.issued x from is) in
     let own = link_at n.rows from from in
@@ -249,22 +250,22 @@ issue-AreLinks m n x from a h is there new =
       row = λ i below. issued-row x from i n.rows place ∙ h.row i below;
       links = λ i j bi bj.
           elim (cases_eq i from) [
-            | inl same ↦ subst (λ (k : ℕ). IsLinkOf (after_issue (Some x) from n) k (link_at rows k j)) (sym same)
+            | inl same ↦ subst (λ (k : ℕ). IsLinkOf m (after_issue (Some x) from n) k (link_at rows k j)) (sym same)
                 (elim (cases_eq j from) [
-                  | inl here ↦ subst (λ (k : ℕ). IsLinkOf (after_issue (Some x) from n) from (link_at rows from k)) (sym here)
-                      (subst (λ (t : LinkState). IsLinkOf (after_issue (Some x) from n) from t) (sym (issued-own x from n.rows place))
+                  | inl here ↦ subst (λ (k : ℕ). IsLinkOf m (after_issue (Some x) from n) from (link_at rows from k)) (sym here)
+                      (subst (λ (t : LinkState). IsLinkOf m (after_issue (Some x) from n) from t) (sym (issued-own x from n.rows place))
                       (record {
                         linked = take-IsLinked (after_put x own) (put from a);
                         sent = taken.1 ∙ sent from a;
                         room = taken.2 ∙ (put-sent x own).2 ∙ (h.links from from a a).room;
                       }))
-                  | inr apart ↦ subst (λ (t : LinkState). IsLinkOf (after_issue (Some x) from n) from t)
+                  | inr apart ↦ subst (λ (t : LinkState). IsLinkOf m (after_issue (Some x) from n) from t)
                       (sym (issued-same x from j n.rows place (let row = h.row from a in omega arith) apart))
                       (record { linked = put j bj; sent = sent j bj; room = (put-sent x (link_at n.rows from j)).2 ∙ (h.links from j a bj).room })
                 ])
             | inr apart ↦
                 (let before = h.links i j bi bj in
-                subst (λ (t : LinkState). IsLinkOf (after_issue (Some x) from n) i t) (sym (issued-other x from i j n.rows place apart))
+                subst (λ (t : LinkState). IsLinkOf m (after_issue (Some x) from n) i t) (sym (issued-other x from i j n.rows place apart))
                 (record { linked = before.linked; sent = before.sent ∙ sym (other-more n.issued x i (λ e. apart (sym e ∙ is))); room = before.room }))
           ];
       own = λ i below.
@@ -309,30 +310,51 @@ next-AreLinks m n (Turn mirror) a h = h
 
 -- ---- the start
 
-new-row : (n room i : ℕ) → (get_or (replicate n (new_link room)) i (new_link 0)).received ≡ []
-new-row zero room i = refl
-new-row (suc n) room zero = refl
-new-row (suc n) room (suc i) = new-row n room i
+-- the rows up to one that isn't there yet
+new-length : (commands : List Command) (mirrors n : ℕ) → length (new_rows commands mirrors n) ≡ n
+unfolding new_rows
+new-length commands mirrors zero = refl
+new-length commands mirrors (suc n) =
+    omega (arith, length-append (new_rows commands mirrors n) (replicate mirrors (new_link (times (is_from n) commands)) ∷ []), new-length commands mirrors n)
 
-pub new-received : (n k room f i : ℕ) → (link_at (replicate n (replicate k (new_link room))) f i).received ≡ []
-new-received zero k room f i = refl
-new-received (suc n) k room zero i = new-row k room i
-new-received (suc n) k room (suc f) i = new-received n k room f i
+new-row : (commands : List Command) (mirrors n i : ℕ) → i < n → row_at (new_rows commands mirrors n) i ≡ replicate mirrors (new_link (times (is_from i) commands))
+unfolding new_rows
+new-row commands mirrors zero i below = absurd (omega arith)
+new-row commands mirrors (suc n) i below =
+    let rows = new_rows commands mirrors n in
+    let row = replicate mirrors (new_link (times (is_from n) commands)) in
+    let long = new-length commands mirrors n in
+    elim (cases_eq i n) [
+      | inl same ↦ subst (λ (k : ℕ). get_or (rows ++ row ∷ []) k [] ≡ replicate mirrors (new_link (times (is_from k) commands))) (sym same) (get_or_at rows row [] [] n long)
+      | inr apart ↦ get_or_append_left rows (row ∷ []) [] i (omega arith) ∙ new-row commands mirrors n i (omega arith)
+    ]
 
-pub new-AreLinks : (m : MatchData) → AreLinks m (new_links m.mirrors (length m.commands))
+none-received : (n room i : ℕ) → (get_or (replicate n (new_link room)) i (new_link 0)).received ≡ []
+none-received zero room i = refl
+none-received (suc n) room zero = refl
+none-received (suc n) room (suc i) = none-received n room i
+
+pub new-received : (commands : List Command) (mirrors f i : ℕ) → (link_at (new_links mirrors commands).rows f i).received ≡ []
+new-received commands mirrors f i =
+    elim (cases_lt f mirrors) [
+      | inl below ↦ ap (λ (row : List LinkState). (get_or row i (new_link 0)).received) (new-row commands mirrors mirrors f below) ∙ none-received mirrors (times (is_from f) commands) i
+      | inr past ↦ ap (λ (row : List LinkState). (get_or row i (new_link 0)).received) (get_or_past (new_rows commands mirrors mirrors) f [] (let long = new-length commands mirrors mirrors in omega arith))
+    ]
+
+pub new-AreLinks : (m : MatchData) → AreLinks m (new_links m.mirrors m.commands)
 unfolding NamesDiffer
 new-AreLinks m =
-    let n = new_links m.mirrors (length m.commands) in
-    let row : (i : ℕ) → i < m.mirrors → row_at n.rows i ≡ replicate m.mirrors (new_link (length m.commands)) =
-    λ i below. get_or-replicate m.mirrors i (replicate m.mirrors (new_link (length m.commands))) [] below in
-    let at : (i j : ℕ) → i < m.mirrors → j < m.mirrors → link_at n.rows i j ≡ new_link (length m.commands) =
-    λ i j bi bj. ap (λ (r : List LinkState). get_or r j (new_link 0)) (row i bi) ∙ get_or-replicate m.mirrors j (new_link (length m.commands)) (new_link 0) bj in
+    let n = new_links m.mirrors m.commands in
+    let room : ℕ → ℕ = λ i. times (is_from i) m.commands in
+    let row : (i : ℕ) → i < m.mirrors → row_at n.rows i ≡ replicate m.mirrors (new_link (room i)) = λ i below. new-row m.commands m.mirrors m.mirrors i below in
+    let at : (i j : ℕ) → i < m.mirrors → j < m.mirrors → link_at n.rows i j ≡ new_link (room i) =
+    λ i j bi bj. ap (λ (r : List LinkState). get_or r j (new_link 0)) (row i bi) ∙ get_or-replicate m.mirrors j (new_link (room i)) (new_link 0) bj in
     record {
       room = refl;
       there = tt;
       differ = tt;
-      rows = length-replicate m.mirrors (replicate m.mirrors (new_link (length m.commands)));
-      row = λ i below. ap (λ (r : List LinkState). length r) (row i below) ∙ length-replicate m.mirrors (new_link (length m.commands));
-      links = λ i j bi bj. subst (λ (t : LinkState). IsLinkOf n i t) (sym (at i j bi bj)) (record { linked = new-IsLinked (length m.commands); sent = refl; room = refl });
+      rows = new-length m.commands m.mirrors m.mirrors;
+      row = λ i below. ap (λ (r : List LinkState). length r) (row i below) ∙ length-replicate m.mirrors (new_link (room i));
+      links = λ i j bi bj. subst (λ (t : LinkState). IsLinkOf m n i t) (sym (at i j bi bj)) (record { linked = new-IsLinked (room i); sent = refl; room = refl });
       own = λ i below. subst (λ (t : LinkState). t.received ≡ t.sent) (sym (at i i below below)) refl;
     }

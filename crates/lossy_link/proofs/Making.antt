@@ -123,11 +123,11 @@ on_ok_of (Err e) p = tt
 -- ---- the start
 
 pub opened :
-    {W : Type 0} (m : MatchData) (opening : W) (mirrors room : ℕ) (links : NetLinks) (ms : List (MirrorState W)) → mirrors ≡ m.mirrors → room ≡ length m.commands
-    → links ≡ new_links mirrors room → ms ≡ replicate m.mirrors (opening_state opening m.length (all_plans m) room 0)
+    {W : Type 0} (m : MatchData) (opening : W) (room : ℕ) (links : NetLinks) (ms : List (MirrorState W)) → room ≡ length m.commands
+    → links ≡ new_links m.mirrors m.commands → ms ≡ replicate m.mirrors (opening_state opening m.length (all_plans m) room 0)
     → ◌≡◌ {A = NetState W} (record { links = links; mirrors = ms }) (opening_net opening m)
 unfolding net_mirror
-opened {W} m opening mirrors room links ms so_many size linked made =
-    ap (λ (k : NetLinks). record { links = k; mirrors = ms }) (linked ∙ ap (λ (j : ℕ). new_links j room) so_many ∙ ap (λ (j : ℕ). new_links m.mirrors j) size)
-    ∙ ap (λ (k : List (MirrorState W)). record { links = new_links m.mirrors (length m.commands); mirrors = k })
+opened {W} m opening room links ms size linked made =
+    ap (λ (k : NetLinks). record { links = k; mirrors = ms }) linked
+    ∙ ap (λ (k : List (MirrorState W)). record { links = new_links m.mirrors m.commands; mirrors = k })
     (made ∙ ap (λ (j : ℕ). replicate m.mirrors (opening_state opening m.length (all_plans m) j 0)) size)

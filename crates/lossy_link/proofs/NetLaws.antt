@@ -353,6 +353,6 @@ net-opening {W} m opening =
       links = new-AreLinks m;
       count = length-replicate m.mirrors (net_mirror opening m);
       mirrors = λ i d below.
-          subst (AtMirror m opening (column (new_links m.mirrors (length m.commands)).rows i)) (sym (get_or-replicate m.mirrors i (net_mirror opening m) d below))
-          (start-AtMirror opening m (column (new_links m.mirrors (length m.commands)).rows i) (λ k. new-received m.mirrors m.mirrors (length m.commands) k i));
+          subst (AtMirror m opening (column (new_links m.mirrors m.commands).rows i)) (sym (get_or-replicate m.mirrors i (net_mirror opening m) d below))
+          (start-AtMirror opening m (column (new_links m.mirrors m.commands).rows i) (λ k. new-received m.commands m.mirrors k i));
     }

@@ -1,8 +1,9 @@
 -- All links of a net: how its lines change them, and what each line comes to: script lines at the
 -- mirrors, or a note.
-use Rattle.std.specs.Prelude.{◌≡◌, ℕ, ◌<◌, Bool, ◌==◌, if◌then◌else◌, Option, Some, None, List, [], ◌∷◌, ◌++◌, length, map, filter, replicate, slice_index_or, codes, decimal, Contains}
+use Rattle.std.specs.Prelude.{◌≡◌, ℕ, zero, suc, ◌<◌, Bool, ◌==◌, if◌then◌else◌, Option, Some, None, List, [], ◌∷◌, ◌++◌, length, map, filter, replicate, slice_index_or, codes, decimal, Contains}
 use Rattle.std.specs.List.{AllByRecursion}
 use Rattle.game_trait.specs.declared.command.Command.{Command}
+use Rattle.game_trait.specs.Count.{times}
 use Rattle.game_trait.specs.Keys.{NamesDiffer}
 use Rattle.game_trait.specs.CommandList.{command_named, has_command}
 use Rattle.tss_io.specs.Lines.{as_line, spaced}
@@ -15,21 +16,33 @@ use Rattle.lossy_text.specs.declared.net_line.NetLine.TheVariants.{Issue, Send, 
 use Rattle.lossy_link.specs.Ends.{is_open}
 use Rattle.lossy_link.specs.Link.{LinkState, IsLinked, new_link, has_flown, after_put, after_take, after_send, after_carry, brought, after_ack, after_hear}
 
--- the links of a net: for how many commands each has room, which commands were issued, in order,
--- and a row of links for each mirror, to each mirror. A mirror's link to itself receives at once
--- what is sent
+-- the links of a net: for how many commands that are issued there is room, which were issued, in
+-- order, and a row of links for each mirror, to each mirror. A mirror's link to itself receives at
+-- once what is sent
 pub record NetLinks : Type 0 where
   pub room : ℕ
   pub issued : List Command
   pub rows : List (List LinkState)
 
--- links of so many mirrors over which nothing was sent
-abbrev pub new_links : ℕ → ℕ → NetLinks
-new_links mirrors room =
+-- a command is of this mirror
+abbrev pub is_from : ℕ → Command → Bool
+is_from from x = x.from == from
+
+-- the rows of so many mirrors over which nothing was sent, each with a link to each of the mirrors
+-- that has room for its mirror's own commands
+unfoldable pub new_rows : List Command → ℕ → ℕ → List (List LinkState)
+new_rows commands mirrors zero = []
+new_rows commands mirrors (suc n) =
+    new_rows commands mirrors n
+    ++ replicate mirrors (new_link (times (is_from n) commands)) ∷ []
+
+-- the links of so many mirrors over which nothing was sent
+abbrev pub new_links : ℕ → List Command → NetLinks
+new_links mirrors commands =
     record {
-      room = room;
+      room = length commands;
       issued = [];
-      rows = replicate mirrors (replicate mirrors (new_link room));
+      rows = new_rows commands mirrors mirrors;
     }
 
 -- the links from a mirror, and the link from one mirror to another
@@ -134,15 +147,12 @@ note_text n (Turn mirror) = []
 
 -- ---- what is always true of the links
 
--- a command is of this mirror
-abbrev pub is_from : ℕ → Command → Bool
-is_from from x = x.from == from
-
--- what is true of a link from a mirror: what was sent is what that mirror issued, in order
-pub record IsLinkOf (n : NetLinks) (from : ℕ) (l : LinkState) : Type 0 where
+-- what is true of a link from a mirror: what was sent is what that mirror issued, in order, and
+-- there is room for all its commands
+pub record IsLinkOf (m : MatchData) (n : NetLinks) (from : ℕ) (l : LinkState) : Type 0 where
   pub linked : IsLinked l
   pub sent : l.sent ≡ filter (is_from from) n.issued
-  pub room : l.room ≡ n.room
+  pub room : l.room ≡ times (is_from from) m.commands
 
 -- the links of a net of a match
 pub record AreLinks (m : MatchData) (n : NetLinks) : Type 0 where
@@ -154,7 +164,7 @@ pub record AreLinks (m : MatchData) (n : NetLinks) : Type 0 where
   pub rows : length n.rows ≡ m.mirrors
   pub row : (from : ℕ) → from < m.mirrors → length (row_at n.rows from) ≡ m.mirrors
   pub links : (from to : ℕ) → from < m.mirrors → to < m.mirrors
-      → IsLinkOf n from (link_at n.rows from to)
+      → IsLinkOf m n from (link_at n.rows from to)
   -- a mirror's link to itself has received all
   pub own : (from : ℕ) → from < m.mirrors
       → (link_at n.rows from from).received ≡ (link_at n.rows from from).sent

@@ -24,7 +24,7 @@ net_mirror opening m =
 abbrev pub opening_net : {W : Type 0} → W → MatchData → NetState W
 opening_net opening m =
     record {
-      links = new_links m.mirrors (length m.commands);
+      links = new_links m.mirrors m.commands;
       mirrors = replicate m.mirrors (net_mirror opening m);
     }
 

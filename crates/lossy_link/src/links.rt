@@ -2,14 +2,15 @@
 
 ghost use Rattle.std.specs.Prelude.{◌≡◌, ◌<◌, ◌≤◌, [], if◌then◌else◌, length, option_to_list, IfOk, IfSome};
 ghost use Rattle.game_trait.specs.declared.limits.TheConstants.{MOST_ROOM};
+ghost use Rattle.game_trait.specs.Count.{times};
 ghost use Rattle.lossy_link.specs.Way.{IsThere};
-ghost use Rattle.lossy_link.specs.Links.{AreLinks, new_links, next_links, script_of, note_text, nothing_line, link_at, row_at};
+ghost use Rattle.lossy_link.specs.Links.{AreLinks, is_from, new_links, next_links, script_of, note_text, nothing_line, link_at, row_at};
 ghost use Rattle.lossy_link.specs.Outcome.{script_in, note_in, outcome_of};
 ghost use Rattle.lossy_text.specs.declared.net_line.NetLine.TheVariants.{Issue as IssueLine, Send as SendLine, Carry as CarryLine, Ack as AckLine, Hear as HearLine};
 
 use crate::link::{Carried, Link};
 use crate::row::Row;
-use game_trait::{CommandList, MirrorId, Number};
+use game_trait::{Command, CommandList, MirrorId, Number};
 use lossy_text::NetLine;
 use match_file::{Match, ScriptLine, find_command};
 use std::alloc::Global;
@@ -91,19 +92,34 @@ fn of_carried(from: MirrorId, to: MirrorId, packet: u32, carried: Carried) -> Ou
     }
 }
 
+// How many of the commands are of this mirror.
+#[tactic(auto, unfolding(game_trait::specs::Count::times))]
+fn count_from(commands: &[Command], from: MirrorId) -> u32
+    requires { length commands.now ≤ MOST_ROOM }
+    ensures value { result ≡ times (is_from from) commands.now }
+    ensures few { result ≤ MOST_ROOM }
+{
+    let mut many = 0;
+    for x in commands {
+        many += u32::from(x.from == from);
+    }
+    many
+}
+
 impl Links {
-    /// Links of so many mirrors over which nothing was sent, each with room for so many commands.
-    /// Want of memory makes nothing.
-    pub fn new(alloc: Global, mirrors: u8, room: u32) -> Result<Links, NoMemory>
-        requires { room ≤ MOST_ROOM }
-        ensures { IfOk result (λ n. n ≡ new_links mirrors room) }
+    /// The links of a match's mirrors over which nothing was sent, each with room for the commands
+    /// of the mirror that sends. Want of memory makes nothing.
+    #[tactic(auto, unfolding(crate::specs::Links::new_rows))]
+    pub fn new(alloc: Global, m: &Match) -> Result<Links, NoMemory>
+        ensures { IfOk result (λ n. n ≡ new_links m.now.mirrors m.now.commands) }
     {
         let mut rows = Vec::new(alloc);
-        for _ in 0..mirrors {
-            rows.push(Row::new(alloc, mirrors, room)?)?;
+        for from in 0..m.mirrors {
+            let room = count_from(m.commands.as_slice(), from);
+            rows.push(Row::new(alloc, m.mirrors, room)?)?;
         }
         Ok(Links {
-            issued: CommandList::with_room(alloc, room as usize)?,
+            issued: CommandList::with_room(alloc, m.commands.len())?,
             rows,
         })
     }

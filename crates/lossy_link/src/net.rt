@@ -110,7 +110,7 @@ impl<G: Game + Shown> Net<G> {
     {
         let m = &x.game;
         let room = m.commands.len() as u32;
-        let links = Links::new(alloc, m.mirrors, room)?;
+        let links = Links::new(alloc, m)?;
         let hall = Hall::with_room(alloc, m, opening, room)?;
         let mut net = Net { links, hall };
         net.make_each(m, x.lines.as_slice(), out)?;

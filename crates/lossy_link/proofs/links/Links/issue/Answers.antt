@@ -21,6 +21,7 @@ push_reserved-requires-clause-room c =
     let n : NetLinks = record { room = c.self.inside.issued.room; issued = c.self.inside.issued.items; rows = c.self.inside.rows.items } in
     let links = subst (AreLinks c.args.m.now) (sym c.self.view_is) c.requires.links in
     (issue-room c.args.m.now n c.in-Some.x c.args.from c.args.from links c.requires.line c.requires.line
+    (found-named c.args.m.now.commands c.args.from c.args.number c.in-Some.x (sym c.find_command.ensures ∙ c.in-Some.is)).0
     (command_named-Contains c.args.m.now.commands c.args.from c.args.number c.in-Some.x (sym c.find_command.ensures ∙ c.in-Some.is)) (push_reserved-requires-clause-new_name c)).1
 
 pub issue-requires-clause-room : goal.issue-requires-clause-room
@@ -31,7 +32,7 @@ issue-requires-clause-room c =
     let new = subst (λ (f : ℕ). has_command c.self.inside.issued.items f c.in-Some.x.number ≡ false) (sym named.0)
     (subst (λ (k : ℕ). has_command c.self.inside.issued.items c.args.from k ≡ false) (sym named.1) (sym c.has.ensures ∙ c.if-has.false)) in
     let below : c.args.from < length n.rows = (let rows = links.rows in let line = c.requires.line in omega arith) in
-    row-room c.args.m.now n c.in-Some.x c.args.from c.index_mut.result.now links c.requires.line
+    row-room c.args.m.now n c.in-Some.x c.args.from c.index_mut.result.now links c.requires.line named.0
     (command_named-Contains c.args.m.now.commands c.args.from c.args.number c.in-Some.x (sym c.find_command.ensures ∙ c.in-Some.is)) new
     (row-is n.rows n.rows c.args.from c.from.result c.index_mut.result.now c.from.ensures refl below c.index_mut.ensures.value)
 

@@ -40,14 +40,14 @@ make_each-requires-clause-lines g c =
 pub make_each-requires-clause-net : goal.make_each-requires-clause-net
 make_each-requires-clause-net g c =
     let m = c.x.inside.game in
-    let begun = opened m c.args.opening.now _ c.len-room.result c.in_ok-links.links c.in_ok-hall.hall (ap (λ (y : MatchData). y.mirrors) c.m.view_is)
+    let begun = opened m c.args.opening.now c.len-room.result c.in_ok-links.links c.in_ok-hall.hall
     (c.len-room.ensures ∙ ap (λ (y : MatchData). length y.commands) c.m.view_is) c.in_ok-links.ensures c.in_ok-hall.ensures in
     (c.args.opening.now, subst (IsNet m c.args.opening.now) (sym begun) (net-opening m c.args.opening.now))
 
 pub returns-clause-net : goal.returns-clause-net
 returns-clause-net g c =
     let m = c.x.inside.game in
-    let begun = opened m c.args.opening.now _ c.len-room.result c.in_ok-links.links c.in_ok-hall.hall (ap (λ (y : MatchData). y.mirrors) c.m.view_is)
+    let begun = opened m c.args.opening.now c.len-room.result c.in_ok-links.links c.in_ok-hall.hall
     (c.len-room.ensures ∙ ap (λ (y : MatchData). length y.commands) c.m.view_is) c.in_ok-links.ensures c.in_ok-hall.ensures in
     c.in_ok-make_each.ensures.state
     ∙ ap (λ (n : NetState _). after_net m.commands n c.as_slice.result.now) begun
@@ -59,7 +59,7 @@ returns-clause-text g c =
     let m = c.x.inside.game in
     let old = c.args.out.now.items in
     let show : Showing _ = record { rules = g.G.Game.rules; lines = g.G.Shown.lines; names = m.names } in
-    let begun = opened m c.args.opening.now _ c.len-room.result c.in_ok-links.links c.in_ok-hall.hall (ap (λ (y : MatchData). y.mirrors) c.m.view_is)
+    let begun = opened m c.args.opening.now c.len-room.result c.in_ok-links.links c.in_ok-hall.hall
     (c.len-room.ensures ∙ ap (λ (y : MatchData). length y.commands) c.m.view_is) c.in_ok-links.ensures c.in_ok-hall.ensures in
     c.in_ok-make_each.ensures.ok
     ∙ ap (λ (n : NetState _). old ++ net_text show m.commands n c.as_slice.result.now) begun
@@ -71,7 +71,7 @@ returns-in_err-make_each-clause-err g c =
     let m = c.x.inside.game in
     let old = c.args.out.now.items in
     let show : Showing _ = record { rules = g.G.Game.rules; lines = g.G.Shown.lines; names = m.names } in
-    let begun = opened m c.args.opening.now _ c.len-room.result c.in_ok-links.links c.in_ok-hall.hall (ap (λ (y : MatchData). y.mirrors) c.m.view_is)
+    let begun = opened m c.args.opening.now c.len-room.result c.in_ok-links.links c.in_ok-hall.hall
     (c.len-room.ensures ∙ ap (λ (y : MatchData). length y.commands) c.m.view_is) c.in_ok-links.ensures c.in_ok-hall.ensures in
     let due = ap (λ (n : NetState _). net_text show m.commands n c.as_slice.result.now) begun
     ∙ ap (λ (ls : List NetLine). net_text show m.commands (opening_net c.args.opening.now m) ls) c.as_slice.ensures
