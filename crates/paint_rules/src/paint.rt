@@ -151,7 +151,8 @@ impl Paint {
         }
     }
 
-    // The player of this number shoots.
+    // The player of this number shoots. It stands apart, so that the other acts are short.
+    #[inline(never)]
     fn shoot(&mut self, number: u8)
         ensures shot { self.new ≡ shot self.old number }
     {
