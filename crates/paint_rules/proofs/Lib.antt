@@ -4,3 +4,4 @@ mod Openings
 mod Lines
 mod Computing
 mod Homes
+mod Marks

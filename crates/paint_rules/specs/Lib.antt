@@ -4,4 +4,5 @@ pub mod Command
 pub mod Beat
 pub mod World
 pub mod Block
+pub mod Kept
 pub mod Worked

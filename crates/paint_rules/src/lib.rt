@@ -3,6 +3,7 @@
 #![tactic(auto)]
 
 mod block;
+mod board;
 mod cells;
 mod copying;
 mod facing;

@@ -11,14 +11,15 @@ ghost use Rattle.paint_rules.specs.Beat.{beaten};
 ghost use Rattle.paint_rules.specs.Block.{block_of};
 
 use crate::block::{push_painters, push_rows};
+use crate::board::Board;
 use crate::cells::Cells;
 use crate::copying::{copied, copy_into};
 use crate::facing::{open_ahead, turned_left, turned_right};
-use crate::painting::{paint_ahead, settle, wipe};
+use crate::painting::{paint_ahead, settle};
 use crate::players::{is_held, put};
-use arena_rules::{Ground, PickupSpot, Roster, Setup, Shown, Spot};
+use arena_rules::{Ground, Roster, Setup, Shown, Spot};
 use arrayvec::ArrayVec;
-use game_trait::limits::{MOST_PICKUPS, MOST_PLAYERS};
+use game_trait::limits::MOST_PLAYERS;
 use game_trait::{Act, Command, Game, Tick};
 use std::marker::Model;
 use tss_io::NoMemory;
@@ -29,8 +30,7 @@ use tss_io::NoMemory;
 pub struct Paint {
     ground: Ground,
     players: ArrayVec<Spot, MOST_PLAYERS>,
-    cells: Cells,
-    pickups: ArrayVec<PickupSpot, MOST_PICKUPS>,
+    board: Board,
     time: Tick,
 }
 
@@ -43,8 +43,8 @@ impl Model for Paint {
         record {
           grid = p.ground;
           players = p.players.items;
-          owners = p.cells;
-          pickups = p.pickups.items;
+          owners = p.board.owners;
+          pickups = p.board.pickups;
           time = p.time;
         } };
 
@@ -52,8 +52,8 @@ impl Model for Paint {
         (record {
           grid = p.ground;
           players = p.players.items;
-          owners = p.cells;
-          pickups = p.pickups.items;
+          owners = p.board.owners;
+          pickups = p.board.pickups;
           time = p.time;
         }) };
 }
@@ -76,8 +76,7 @@ impl Paint {
         Paint {
             ground: setup.ground,
             players: copied(&setup.players),
-            cells,
-            pickups: copied(&setup.pickups),
+            board: Board::new(cells, &setup.pickups),
             time: 0,
         }
     }
@@ -90,7 +89,7 @@ impl Paint {
     {
         // Reads the world, whose invariant the answers below rest on.
         let _ = &self.time;
-        self.cells.owned(player)
+        self.board.cells().owned(player)
     }
 
     // Appends the lines after the block's head. On `NoMemory` some may have been appended.
@@ -99,8 +98,9 @@ impl Paint {
         ensures ok { OnOk result (out.new.items ≡ out.old.items ++ block_of self.now roster.now) }
         ensures front { take (length out.old.items) out.new.items ≡ out.old.items }
     {
-        push_painters(&self.players, &self.cells, roster, out)?;
-        push_rows(&self.ground, &self.cells, out)
+        let cells = self.board.cells();
+        push_painters(&self.players, cells, roster, out)?;
+        push_rows(&self.ground, cells, out)
     }
 
     // Where the player of this number stands and looks, if there is one.
@@ -127,7 +127,7 @@ impl Paint {
         };
         if !is_held(&self.players, next) {
             put(&mut self.players, number, next);
-            self.cells.paint(next.x, next.y, number);
+            self.board.paint(next.x, next.y, number);
         }
     }
 
@@ -151,12 +151,13 @@ impl Paint {
         }
     }
 
-    // The player of this number shoots.
+    // The player of this number shoots. It stands apart, so that the other acts are short.
+    #[inline(never)]
     fn shoot(&mut self, number: u8)
         ensures shot { self.new ≡ shot self.old number }
     {
         if let Some(spot) = self.spot(number) {
-            paint_ahead(&mut self.cells, &self.ground, number, spot);
+            paint_ahead(&mut self.board, &self.ground, number, spot);
         }
     }
 }
@@ -189,7 +190,7 @@ impl Game for Paint {
     fn beat(&mut self)
         ensures beaten { self.new ≡ beaten self.old }
     {
-        wipe(&mut self.cells, &self.pickups);
+        self.board.wipe();
         self.time = self.time.saturating_add(1);
     }
 
@@ -198,8 +199,7 @@ impl Game for Paint {
     {
         self.ground = other.ground;
         copy_into(&mut self.players, &other.players);
-        self.cells.set_from(&other.cells);
-        copy_into(&mut self.pickups, &other.pickups);
+        self.board.set_from(&other.board);
         self.time = other.time;
     }
 
@@ -209,8 +209,7 @@ impl Game for Paint {
         Paint {
             ground: self.ground,
             players: copied(&self.players),
-            cells: self.cells.twin(),
-            pickups: copied(&self.pickups),
+            board: self.board.twin(),
             time: self.time,
         }
     }

@@ -3,11 +3,11 @@
 ghost use Rattle.std.specs.Prelude.{◌≡◌, ◌<◌, ◌≤◌, length, All};
 ghost use Rattle.paint_rules.specs.Scene.{settled};
 ghost use Rattle.paint_rules.specs.Command.{painted_ahead};
-ghost use Rattle.paint_rules.specs.Beat.{wiped};
 
-use crate::cells::{Cells, NOBODY};
+use crate::board::Board;
+use crate::cells::Cells;
 use crate::facing::open_ahead;
-use arena_rules::{Ground, PickupSpot, Spot};
+use arena_rules::{Ground, Spot};
 
 // How many cells ahead a shot paints.
 const REACH: usize = 3;
@@ -25,26 +25,18 @@ pub fn settle(cells: &mut Cells, homes: &[Spot])
 
 /// The three cells ahead of this spot become the player's, up to the first that is outside or
 /// walled.
-pub fn paint_ahead(cells: &mut Cells, ground: &Ground, number: u8, spot: Spot)
+pub fn paint_ahead(board: &mut Board, ground: &Ground, number: u8, spot: Spot)
     requires { number < 32 }
-    ensures { cells.new ≡ painted_ahead ground.now number 3 spot cells.old }
+    ensures { board.new ≡ record board.old {
+      owners = painted_ahead ground.now number 3 spot board.old.owners;
+    } }
 {
     let mut at = spot;
     for _ in 0..REACH {
         let Some(next) = open_ahead(ground, at) else {
             return;
         };
-        cells.paint(next.x, next.y, number);
+        board.paint(next.x, next.y, number);
         at = next;
-    }
-}
-
-/// The cells of the pickups become nobody's.
-pub fn wipe(cells: &mut Cells, pickups: &[PickupSpot])
-    requires { All (λ pickup. (pickup.x < 64) × (pickup.y < 64)) pickups.now }
-    ensures { cells.new ≡ wiped pickups.now cells.old }
-{
-    for pickup in pickups {
-        cells.paint(pickup.x, pickup.y, NOBODY);
     }
 }

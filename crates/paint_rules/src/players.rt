@@ -16,7 +16,7 @@ pub fn is_held(players: &[Spot], spot: Spot) -> bool
 {
     let mut held = false;
     for player in players {
-        held |= spot.x == player.x && spot.y == player.y;
+        held |= (spot.x == player.x) & (spot.y == player.y);
     }
     held
 }
