@@ -147,12 +147,7 @@ fn due_of_join(alloc: Global, answer: JoinAnswer) -> Due
 /// The answer of `join` to a match: what is told of this mirror and of one that joins late from it
 /// after so many lines of the script. A match without such a mirror is refused at the line that
 /// states its mirrors.
-pub fn join_match(
-    alloc: Global,
-    m: &Match,
-    mirror: MirrorId,
-    lines: u32,
-) -> Result<Due, Stop>
+pub fn join_match(alloc: Global, m: &Match, mirror: MirrorId, lines: u32) -> Result<Due, Stop>
     ensures { Gives (IsJoined mirror lines m.now) result }
 {
     if mirror >= m.mirrors {

@@ -14,7 +14,6 @@ use crate::due::Due;
 use crate::plain::{ended, run_plain};
 use crate::status::Status;
 use crate::stop::Stop;
-use tss_words::{MatchTask, Subcommand};
 use arena_rules::Arena;
 use copy_workers::Gate;
 use match_file::{Cause, Match, Refused};
@@ -23,6 +22,7 @@ use std::sync::Wait;
 use std::thread::Threads;
 use tss_io::{Sink, Source};
 use tss_race::{Raced, race_match};
+use tss_words::{MatchTask, Subcommand};
 use watch_board::Watcher;
 
 // The line of a match text that states the pace.

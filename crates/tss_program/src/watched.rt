@@ -11,12 +11,12 @@ use crate::done::Done;
 use crate::plain::ended;
 use crate::race::run;
 use crate::stop::Stop;
-use tss_words::Subcommand;
 use copy_workers::Gate;
 use std::alloc::Global;
 use std::sync::Wait;
 use std::thread::Threads;
 use tss_io::{NoMemory, Sink, Source};
+use tss_words::Subcommand;
 use watch_board::{FirstRepair, LateCount, RepairCount, Watcher};
 
 // Why a run has no answer for which memory ran out before it began: words that ask for nothing are
