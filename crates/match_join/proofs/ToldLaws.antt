@@ -6,6 +6,7 @@ use Rattle.std.specs.Bool.{one_answer}
 use Rattle.std.proofs.lemmas.Bool.Decides.{nat_tests}
 use Rattle.std.proofs.lemmas.List.{take-append-drop}
 use Rattle.game_trait.proofs.Lists.{all-first, all-weaker}
+use Rattle.game_trait.specs.Run.{beats}
 use Rattle.sync_model.specs.State.{MirrorState, last_clock}
 use Rattle.sync_model.specs.Change.{Fits}
 use Rattle.sync_model.specs.Legal.{NamesWhatIsThere}
@@ -41,6 +42,7 @@ one_told show opening m number k (TooLate a) (TooLate b) is its = ap (λ (t : Li
 
 -- the last copy's clock is at most the match's length
 clock-within : {W : Type 0} (opening : W) (m : MatchData) (number n : ℕ) → IsMatch m → last_clock (mirror_before opening m number n).runs ≤ m.length
+unfolding beats
 clock-within {W} opening m number n sound =
     let split = take-append-drop n m.script in
     let lines = all-first (IsScriptLine m) (take n m.script) (drop n m.script) (subst (AllByRecursion (IsScriptLine m)) (sym split) sound.script) in
