@@ -30,6 +30,7 @@ use run_recorder::RaceRecord;
 use soak::{SoakAnswer, soak};
 use std::alloc::Global;
 use tss_io::{NoMemory, Seq};
+use tss_words::Ticks;
 use watch_board::Watcher;
 
 // The line of a match text that states its length.
@@ -176,11 +177,12 @@ pub fn rewind_match(
     m: &Match,
     every: Tick,
     room: u8,
-    ticks: &[Tick],
+    ticks: &Ticks,
 ) -> Result<Due, Stop>
     requires { IsKept every room }
     ensures { Gives (λ due. due ≡ due_of_rewind room ticks.now m.now) result }
 {
+    let ticks = ticks.as_slice();
     if !are_within(m, ticks) {
         return Err(Stop::Refused(Refused {
             line: LENGTH_LINE,
