@@ -74,6 +74,12 @@ given-match ws s task m old new r asks read given =
     answers-as ws s (OfMatch task) old new r asks
     (answers-given ws (OfMatch task) (λ input. IsMatchText m input) (λ due. IsMatchAnswer ws task m due) old new r (λ input due text is. answer m text is) read given)
 
+-- what was answered to a match, by another name of what was asked
+pub shown-as :
+    (m : MatchData) (t u : MatchTask) (r : Result Due Stop) → t ≡ u → ((ws : List Behaviour) → Gives (λ due. IsMatchAnswer ws u m due) r)
+    → (ws : List Behaviour) → Gives (λ due. IsMatchAnswer ws t m due) r
+shown-as m t u r is given ws = subst (λ (x : MatchTask). Gives (λ due. IsMatchAnswer ws x m due) r) (sym is) (given ws)
+
 -- of a record
 pub stopped-record :
     (ws : List Behaviour) (s : Subcommand) (old new : Seen) (r : Result Due Stop) (stop : Stop) → s ≡ Audit → IsErrAnd r (λ x. x ≡ stop)

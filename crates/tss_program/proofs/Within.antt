@@ -1,6 +1,6 @@
 -- Ticks that are within a match.
-use Rattle.std.proofs.Common.{◌≡◌, true, false, Bool, ℕ, ◌≤◌, ◌&&◌, List, [], ◌∷◌, refl, sym, arith}
-use Rattle.std.specs.Prelude.{nat_le, not}
+use Rattle.std.proofs.Common.{◌≡◌, true, false, Bool, ℕ, ◌≤◌, ◌&&◌, List, [], ◌∷◌, refl, sym, ◌∙◌, arith}
+use Rattle.std.specs.Prelude.{nat_le}
 use Rattle.std.specs.List.{AllByRecursion, list_all}
 use Rattle.std.proofs.lemmas.Bool.Decides.{nat_tests}
 
@@ -16,7 +16,6 @@ within-each : (n : ℕ) (ts : List ℕ) → list_all (λ t. nat_le t n) ts ≡ t
 within-each n [] h = tt
 within-each n (t ∷ ts) h = (let one = both (nat_le t n) (list_all (λ u. nat_le u n) ts) h in (least t n one.0, within-each n ts one.1))
 
--- told by a test that didn't fail
-pub within-told : (n : ℕ) (ts : List ℕ) (r : Bool) → not r ≡ false → r ≡ list_all (λ t. nat_le t n) ts → AllByRecursion (λ t. t ≤ n) ts
-within-told n ts true no is = within-each n ts (sym is)
-within-told n ts false no is = absurd cc
+-- told by a test
+pub within-told : (n : ℕ) (ts : List ℕ) (r : Bool) → r ≡ true → r ≡ list_all (λ t. nat_le t n) ts → AllByRecursion (λ t. t ≤ n) ts
+within-told n ts r h is = within-each n ts (sym is ∙ h)
