@@ -5,6 +5,7 @@
     python3 tools/bench.py PROGRAM --word audit [--record FILE] [--runs N]
     python3 tools/bench.py PROGRAM --word soak [--runs N]
     python3 tools/bench.py PROGRAM --word race [--text four|eight|largest] [--runs N]
+    python3 tools/bench.py PROGRAM --word beside [--runs N]
     python3 tools/bench.py LOCK_BENCH --word lock [--runs N]
 
 PROGRAM is the built program `tss`. The match has 8,192 ticks and 2,048 to 16,384 commands of one mirror, in a mixed
@@ -29,6 +30,10 @@ With the word `audit` the texts are records of eight mirrors with eight copies e
 
 With the word `race` a match of such a kind (four, if none is given) with 8,192 commands, whose pace is the longest delay,
 is raced on 1, 2 and 4 cores; `play` of the same text stands beside it.
+
+With the word `beside` the words of painting, late mirrors, worlds at ticks and lossy nets are timed in turn with `order` or `play` of
+the same match, `four` with 8,192 commands. `join` stands beside `play` of one mirror's lines, taken twice. `lossy` has a net of 262,144
+lines over 32,768 commands, and beside it stands `play` of a script with the same arrivals and turns.
 
 LOCK_BENCH is the built program `lock_bench`. With the word `lock` it makes 3,600,000 calls of a counter, of 1, 2, 4 and 9
 threads together, each with a seat of a turn lock, and then behind a mutex of std; the calls a second are printed.
@@ -191,6 +196,66 @@ def record_text(count):
     return "".join(line + "\n" for line in lines).encode()
 
 
+def net_texts():
+    """A lossy text of 262,144 lines of a net, and a match whose script has the same arrivals and turns."""
+    mirrors, delays, length, lag = HALLS["four"]
+    draws = Draws(7)
+    head = ["tss match 2", f"length {length}", "grid 64 64", f"mirrors {mirrors}", "delays " + " ".join(map(str, delays)), "pace 0"]
+    head += [f"player p{i} {8 * i + 1} 2 {'nesw'[i % 4]}" for i in range(8)]
+    commands = sorted((draws.below(length), number % mirrors, number, draws.below(8), draws.below(5)) for number in range(32_768))
+    head += [f"cmd {tick} {sender} {number} {player} {('go', 'go', 'left', 'right', 'shoot')[act]}" for tick, sender, number, player, act in commands]
+    net, script, packets, last = {}, {}, {}, {}
+    for tick, sender, number, _, _ in commands:
+        net.setdefault(tick, []).append(f"issue {sender} {number}")
+        script.setdefault(tick, []).append(f"arrive {sender} {sender} {number}")
+        packet = packets[sender] = packets.get(sender, -1) + 1
+        for receiver in range(mirrors):
+            if receiver != sender:
+                clock = last[sender, receiver] = max(last.get((sender, receiver), 0), tick + draws.below(lag + 1))
+                net.setdefault(clock, []).extend((f"send {sender} {receiver} {packet}", f"carry {sender} {receiver} {packet}"))
+                script.setdefault(clock, []).append(f"arrive {receiver} {sender} {number}")
+    turns = [f"turn {mirror}" for mirror in range(mirrors)]
+    net_lines, script_lines = [], []
+    for clock in range(length + lag + 1):
+        net_lines += net.get(clock, []) + (turns if clock < length else [])
+        script_lines += script.get(clock, []) + (turns if clock < length else [])
+    pairs = [(f, t) for f in range(mirrors) for t in range(mirrors) if f != t]
+    while len(net_lines) < 262_144:
+        net_lines.append("ack %d %d" % pairs[len(net_lines) % len(pairs)])
+    lossy = ["tss lossy 1", *head, "end", f"net {len(net_lines)}", *net_lines, "done"]
+    match = [*head, "script", *script_lines, "end"]
+    return tuple("".join(line + "\n" for line in lines).encode() for lines in (lossy, match))
+
+
+def one_mirror(text):
+    """The match of a text with mirror 0 alone, which issues every command, and the number of its script's lines."""
+    lines = text.decode().splitlines()
+    begin = lines.index("script")
+    head = ["mirrors 1" if line.startswith("mirrors") else line for line in lines[:begin + 1]]
+    head = [" ".join(w if at != 2 else "0" for at, w in enumerate(line.split(" "))) if line.startswith("cmd ") else line for line in head]
+    own = [line.split(" ") for line in lines[begin + 1:-1] if line.split(" ")[1] == "0"]
+    own = [" ".join((*words[:2], "0", words[3])) if words[0] == "arrive" else " ".join(words) for words in own]
+    return "".join(line + "\n" for line in [*head, *own, "end"]).encode(), len(own)
+
+
+def time_beside(program, runs):
+    """Times words in turn with `order` or `play` of the same match, and prints how many times as long they take."""
+    text = hall_text(8192, "four")
+    one, own = one_mirror(text)
+    net, script = net_texts()
+    ticks = [str(256 * k) for k in range(16)]
+    for words, given, beside, other, times in (
+        (["paint", "order"], text, ["order"], text, 1), (["paint", "play"], text, ["play"], text, 1),
+        (["rewind", "64", "16", *ticks], text, ["order"], text, 1),
+        (["join", "0", str(own // 2)], one, ["play"], one, 2), (["lossy"], net, ["play"], script, 1),
+    ):
+        made = [(run_once(program, words, given), run_once(program, beside, other)) for _ in range(runs)]
+        least, by = (min(pair[at][0] for pair in made) for at in (0, 1))
+        peak = max(pair[0][1] for pair in made)
+        print(f"{' '.join(words[:2]):12} {least * 1000:8.2f} ms  {peak / 1024:6.1f} MiB  {beside[0]} {by * 1000:8.2f} ms"
+              f"  x{least / by / times:.2f}{' of it twice' if times == 2 else ''}")
+
+
 def run_once(program, words, text):
     """The wall time in seconds and the peak memory in KiB of one run."""
     read_end, write_end = os.pipe()
@@ -255,7 +320,7 @@ def time_races(program, kind, runs):
 def main():
     parser = argparse.ArgumentParser()
     parser.add_argument("program")
-    parser.add_argument("--word", choices=("order", "play", "score", "audit", "soak", "race", "lock"), default="order")
+    parser.add_argument("--word", choices=("order", "play", "score", "audit", "soak", "race", "beside", "lock"), default="order")
     parser.add_argument("--text", choices=("plain", "script", "late", "copies", "falling", "arena", "large", *HALLS))
     parser.add_argument("--record", help="the file of a record that is audited alone")
     parser.add_argument("--runs", type=int, default=15)
@@ -268,6 +333,9 @@ def main():
         return
     if given.word == "soak":
         time_soaks(program, given.runs)
+        return
+    if given.word == "beside":
+        time_beside(program, given.runs)
         return
     if given.word == "race":
         time_races(program, given.text or "four", given.runs)

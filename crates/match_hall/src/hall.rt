@@ -1,21 +1,24 @@
 //! The hall of a match: its mirrors, played along its script and drained.
 
-ghost use Rattle.std.specs.Prelude.{◌≡◌, ◌++◌, ◌<◌, ◌≤◌, Some, length, map, OnOk, OnErr, IfOk, slice_get};
+ghost use Rattle.std.specs.Prelude.{◌≡◌, ◌++◌, ◌<◌, ◌≤◌, Some, length, map, replicate, OnOk, OnErr, IfOk, slice_get};
 ghost use Rattle.std.specs.List.{AllByRecursion};
 ghost use Rattle.sync_model.specs.State.{MirrorState};
 ghost use Rattle.sync_model.specs.Change.{Fits};
 ghost use Rattle.sync_model.specs.History.{HasRoomAlong};
 ghost use Rattle.sync_model.specs.Turns.{drain};
 ghost use Rattle.match_file.specs.Data.{IsScriptLine};
-ghost use Rattle.match_hall.specs.Script.{events_of, after_line, after_script, opening_mirrors, logs_from};
+ghost use Rattle.game_trait.specs.declared.limits.TheConstants.{MOST_ROOM};
+ghost use Rattle.sync_model.specs.State.{opening_state};
+ghost use Rattle.match_hall.specs.Script.{all_plans, mirror_of, changed_at, told_at, events_of, after_line, after_script, opening_mirrors, logs_from};
+ghost use Rattle.match_hall.specs.Ready.{IsReady};
 ghost use Rattle.match_hall.specs.Report.{Showing, line_text, script_text, drains_text, mirrors_text, lines_of_mirrors};
-ghost use Rattle.match_hall.specs.Stops.{IsStoppedScript, IsStoppedDraining};
+ghost use Rattle.match_hall.specs.Stops.{IsStoppedScript, IsStoppedDraining, IsFrontPut};
 ghost use Rattle.match_hall.specs.Notes.{notes_of_all};
 ghost use Rattle.watch_board.specs.Told.{AreTold};
 
 use crate::drain::drain_mirror;
 use crate::events::{command_of, push_turn};
-use crate::open::open;
+use crate::open::{open, open_with};
 use crate::script::mirror_of;
 use crate::show::{push_copy, push_line_of_mirror, push_mirror, push_run};
 use crate::tell::tell_mirror;
@@ -156,7 +159,8 @@ fn tell_mirrors<G: Game>(
     Ok(())
 }
 
-// Appends the lines of mirrors, mirror 0 first, each with its copies' blocks.
+// Appends the lines of mirrors, mirror 0 first, each with its copies' blocks. On `NoMemory` `out`
+// gained a front of that.
 #[tactic(auto, unfolding(crate::specs::Report::mirrors_text))]
 fn push_mirrors<G: Game + Shown>(
     mirrors: &[Mirror<G>],
@@ -164,9 +168,12 @@ fn push_mirrors<G: Game + Shown>(
     out: &mut Vec<u8>,
 ) -> Result<(), NoMemory>
     requires { length mirrors.now ≤ 8 }
-    ensures { let show : Showing G =
+    ensures ok { let show : Showing G =
         record { rules = G.rules; lines = G.lines; names = roster.now } in
         OnOk result (out.new.items ≡ out.old.items ++ mirrors_text show 0 mirrors.now) }
+    ensures err { let show : Showing G =
+        record { rules = G.rules; lines = G.lines; names = roster.now } in
+        OnErr result (IsFrontPut out.old.items out.new.items (mirrors_text show 0 mirrors.now)) }
 {
     let mut number: MirrorId = 0;
     for mirror in mirrors {
@@ -216,6 +223,34 @@ impl<G: Game + Shown> Hall<G> {
     {
         let mirrors = open(alloc, opening, m)?;
         Ok(Hall { mirrors })
+    }
+
+    /// The mirrors of a match as it begins with this world, each with room for so many arrivals, at
+    /// most 1,048,576, and for no change of its plan. Want of memory makes nothing.
+    pub fn with_room(alloc: Global, m: &Match, opening: &G, room: u32) -> Result<Hall<G>, NoMemory>
+        requires { room ≤ MOST_ROOM }
+        ensures { IfOk result (λ hall. hall
+            ≡ replicate m.now.mirrors
+            (opening_state opening.now m.now.length (all_plans m.now) room 0)) }
+    {
+        let mirrors = open_with(alloc, opening, m, room)?;
+        Ok(Hall { mirrors })
+    }
+
+    /// Makes a script line at the mirror that it names, and appends what it prints. It may be made
+    /// there. On `NoMemory` it was made, and `out` is unchanged.
+    pub fn make(&mut self, m: &Match, line: &ScriptLine, out: &mut Vec<u8>) -> Result<(), NoMemory>
+        requires { IsReady m.now line.now self.old }
+        ensures state { self.new
+            ≡ changed_at (after_line m.now.commands line.now) (mirror_of line.now) self.old }
+        ensures ok { let show : Showing G =
+            record { rules = G.rules; lines = G.lines; names = m.now.names } in
+            OnOk result (out.new.items ≡ out.old.items
+            ++ told_at (line_text show m.now.commands line.now) (mirror_of line.now) self.old) }
+        ensures err { OnErr result (out.new.items ≡ out.old.items) }
+    {
+        let place = usize::from(mirror_of(line));
+        play_line(&mut self.mirrors[place], m, line, out)
     }
 
     /// Makes the lines of the match's script one after another, each at the mirror that it names,
@@ -270,11 +305,14 @@ impl<G: Game + Shown> Hall<G> {
     }
 
     /// Appends the line of each mirror, mirror 0 first, and behind it the blocks of its copies,
-    /// copy 0 first. On `NoMemory` some of it may have been appended.
+    /// copy 0 first. On `NoMemory` `out` gained a front of that.
     pub fn show(&self, roster: &Roster, out: &mut Vec<u8>) -> Result<(), NoMemory>
-        ensures { let show : Showing G =
+        ensures ok { let show : Showing G =
             record { rules = G.rules; lines = G.lines; names = roster.now } in
             OnOk result (out.new.items ≡ out.old.items ++ mirrors_text show 0 self.now) }
+        ensures err { let show : Showing G =
+            record { rules = G.rules; lines = G.lines; names = roster.now } in
+            OnErr result (IsFrontPut out.old.items out.new.items (mirrors_text show 0 self.now)) }
     {
         push_mirrors(self.mirrors.as_slice(), roster, out)
     }

@@ -4,6 +4,7 @@ ghost use Rattle.std.specs.Prelude.{◌≡◌, ◌++◌, ◌<◌, length, take, 
 ghost use Rattle.sync_model.specs.History.{repaired_in};
 ghost use Rattle.report_text.specs.Mirrors.{run_line};
 ghost use Rattle.match_file.specs.declared.script_line.ScriptLine.TheVariants.{Turn};
+ghost use Rattle.match_hall.specs.Stops.{IsFrontPut};
 ghost use Rattle.match_hall.specs.Report.{Showing, run_of, copy_block, copy_blocks, replies_text, line_of_mirror};
 
 use arena_rules::{Roster, Shown};
@@ -143,8 +144,8 @@ pub fn push_line_of_mirror<G: Game>(
     mirror_line(out, number, accepted, turned, mirror.repairs())
 }
 
-/// Appends the line of the mirror of this number, and its copies' blocks. On `NoMemory` some of it
-/// may have been appended.
+/// Appends the line of the mirror of this number, and its copies' blocks. On `NoMemory` `out` gained
+/// a front of that.
 #[tactic(auto, unfolding(crate::specs::Report::copy_blocks))]
 pub fn push_mirror<G: Game + Shown>(
     out: &mut Vec<u8>,
@@ -152,10 +153,15 @@ pub fn push_mirror<G: Game + Shown>(
     mirror: &Mirror<G>,
     roster: &Roster,
 ) -> Result<(), NoMemory>
-    ensures { let show : Showing G =
+    ensures ok { let show : Showing G =
         record { rules = G.rules; lines = G.lines; names = roster.now } in
         OnOk result (out.new.items ≡ out.old.items
         ++ (line_of_mirror number mirror.now
+        ++ copy_blocks show number mirror.now.opening 0 mirror.now.runs)) }
+    ensures err { let show : Showing G =
+        record { rules = G.rules; lines = G.lines; names = roster.now } in
+        OnErr result (IsFrontPut out.old.items out.new.items
+        (line_of_mirror number mirror.now
         ++ copy_blocks show number mirror.now.opening 0 mirror.now.runs)) }
 {
     push_line_of_mirror(out, number, mirror)?;

@@ -14,4 +14,5 @@ refused_text r = as_line (spaced (refused_words r))
 
 -- the text for words that ask for nothing that is built
 unfoldable pub usage_text : List ℕ
-usage_text = codes "usage: tss order|play|race|audit|score|lift|soak N" ++ 10 ∷ []
+usage_text =
+    codes "usage: tss order|play|race|audit|score|lift|soak N|paint order|paint play|lossy|join M K|rewind E C T ..." ++ 10 ∷ []

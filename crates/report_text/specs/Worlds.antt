@@ -30,3 +30,7 @@ copy_block show mirror opening copy run =
 -- the words of the head of the block of the time-ordered execution after so many ticks
 abbrev pub order_head : ℕ → List (List ℕ)
 order_head length = codes "order" ∷ decimal length ∷ []
+
+-- the words of the head of the block of a match's world at a tick
+abbrev pub at_head : ℕ → List (List ℕ)
+at_head tick = codes "at" ∷ decimal tick ∷ []

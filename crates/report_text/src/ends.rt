@@ -46,5 +46,5 @@ pub fn refused_line(out: &mut Vec<u8>, refused: &Refused) -> Result<(), NoMemory
 pub fn usage_line() -> &'static str
     ensures { result.now ≡ usage_text }
 {
-    "usage: tss order|play|race|audit|score|lift|soak N\n"
+    "usage: tss order|play|race|audit|score|lift|soak N|paint order|paint play|lossy|join M K|rewind E C T ...\n"
 }

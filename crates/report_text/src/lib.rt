@@ -3,6 +3,7 @@
 #![tactic(auto)]
 
 mod ends;
+mod hits;
 mod mirrors;
 mod replies;
 mod score;
@@ -10,6 +11,7 @@ mod soak;
 mod worlds;
 
 pub use ends::{done_line, refusal_text, refused_line, usage_line};
+pub use hits::hits_line;
 pub use mirrors::{line_end, mirror_line, run_head, run_mark};
 pub use replies::{arrival_line, repair_line, step_line, tick_line};
 pub use score::{ScoreRow, score_json};

@@ -1,6 +1,6 @@
 -- What is due: one answer for any words but `race`, with its status and what it keeps.
-use Rattle.std.proofs.Common.{◌≡◌, true, false, ℕ, ◌<◌, ◌⊎◌, List, [], Option, Some, None, inl, inr, sym, ap, subst, refl, ◌∙◌, arith}
-use Rattle.std.specs.Prelude.{nat_eq}
+use Rattle.std.proofs.Common.{◌≡◌, true, false, Bool, ℕ, ◌<◌, ◌≤◌, ◌⊎◌, List, [], Option, Some, None, inl, inr, sym, ap, subst, refl, ◌∙◌, arith}
+use Rattle.std.specs.Prelude.{nat_eq, nat_lt}
 use Rattle.std.proofs.lemmas.Bool.Decides.{nat_tests}
 use Rattle.tss_io.specs.declared.cause.Cause.TheVariants.{Number}
 use Rattle.tss_io.specs.declared.fault.Refused.{Refused}
@@ -21,17 +21,25 @@ use Rattle.match_maker.proofs.Sound.{IsMatch-match_of_number}
 use Rattle.run_recorder.specs.declared.log.MirrorLog.{MirrorLog}
 use Rattle.tss_race.specs.Record.{IsRecordOfRace}
 use Rattle.watch_board.specs.Behaviour.{Behaviour}
-use Rattle.tss_program.specs.declared.subcommand.MatchTask.{MatchTask}
-use Rattle.tss_program.specs.declared.subcommand.MatchTask.TheVariants.{Order, Play, Race, Lift, Score}
-use Rattle.tss_program.specs.declared.subcommand.Subcommand.{Subcommand}
-use Rattle.tss_program.specs.declared.subcommand.Subcommand.TheVariants.{OfMatch, Audit, Soak}
+use Rattle.tss_words.specs.declared.subcommand.MatchTask.{MatchTask}
+use Rattle.tss_words.specs.declared.subcommand.MatchTask.TheVariants.{Order, Play, Race, Lift, Score, PaintOrder, PaintPlay, Join, Rewind}
+use Rattle.tss_words.specs.declared.subcommand.Subcommand.{Subcommand}
+use Rattle.tss_words.specs.declared.subcommand.Subcommand.TheVariants.{OfMatch, Audit, Lossy, Soak}
+use Rattle.paint_rules.specs.World.{paint_rules}
+use Rattle.paint_rules.specs.Scene.{opening as opening_paint}
+use Rattle.match_join.specs.declared.answer.JoinAnswer.{JoinAnswer}
+use Rattle.match_join.specs.declared.answer.JoinAnswer.TheVariants.{Told, TooLate}
+use Rattle.match_join.specs.Join.{IsTold}
+use Rattle.match_join.proofs.ToldLaws.{one_told, some_told}
+use Rattle.lossy_text.specs.Data.{LossyData, IsLossy}
+use Rattle.lossy_link.proofs.Ended.{net-ended}
 use Rattle.tss_program.specs.declared.status.Status.{Status}
-use Rattle.tss_program.specs.declared.status.Status.TheVariants.{Complete, WrongWords, Refusal, NotLegal as NotLegalRecord}
+use Rattle.tss_program.specs.declared.status.Status.TheVariants.{Complete, WrongWords, Refusal, NotLegal as NotLegalRecord, TooLate as NoTickLeft}
 use Rattle.tss_program.specs.declared.due.Due.{Due}
-use Rattle.tss_program.specs.Subcommands.{is_race, races}
-use Rattle.tss_program.specs.Due.{IsDueFor, answer, refusal, IsMatchText, IsMatchAnswer, IsRaced, raced, no_pace, pace_line, complete, order_text, arena_shown, IsRecordText, IsAudited, IsAnswer, IsDueOf, due_of_number, usage_due, refusal_due, code, IsVerdictOf, status_of, due_of_verdict}
-use Rattle.tss_program.specs.Promises.{keeps_logs, PlaysMatch, KeepsPlayed, KeepsLogsOf, SaysIfLegal}
-use Rattle.tss_program.proofs.Texts.{one-for, some-for, match-exact, record-exact}
+use Rattle.tss_words.specs.Subcommands.{is_race, races}
+use Rattle.tss_program.specs.Due.{IsDueFor, answer, refusal, IsMatchText, IsMatchAnswer, IsRaced, raced, no_pace, pace_line, IsJoined, joined, no_mirror, mirrors_line, due_of_join, due_of_rewind, are_within, due_of_lossy, net_of, complete, order_text, arena_shown, IsRecordText, IsAudited, IsAnswer, IsDueOf, due_of_number, usage_due, refusal_due, code, IsVerdictOf, status_of, due_of_verdict}
+use Rattle.tss_program.specs.Promises.{keeps_logs, PlaysMatch, KeepsPlayed, KeepsPainted, KeepsNet, KeepsLogsOf, SaysIfLegal}
+use Rattle.tss_program.proofs.Texts.{one-for, some-for, match-exact, record-exact, lossy-exact}
 
 -- ---- numbers
 
@@ -40,19 +48,48 @@ not n m status apart is other = (let same : n ≡ m = sym is ∙ other in grind 
 
 -- ---- one answer
 
+-- of a match of which a mirror is joined
+
+one-joined : (number lines : ℕ) (m : MatchData) (a b : Due) → IsJoined number lines m a → IsJoined number lines m b → a ≡ b
+one-joined number lines m a b (joined x there told is) (joined y here also its) =
+    is ∙ ap (λ (z : JoinAnswer). due_of_join z) (one_told (arena_shown m) (opening_world m.layout) m number lines x y told also) ∙ sym its
+one-joined number lines m a b (joined x there told is) (no_mirror none its) = absurd (omega (arith, there, none))
+one-joined number lines m a b (no_mirror none is) (joined y here also its) = absurd (omega (arith, here, none))
+one-joined number lines m a b (no_mirror none is) (no_mirror also its) = is ∙ sym its
+
+some-joined : (number lines : ℕ) (m : MatchData) → IsMatch m → (due : Due) × IsJoined number lines m due
+some-joined number lines m sound = by (nat_lt number m.mirrors) refl
+  where
+    by : (there : Bool) → nat_lt number m.mirrors ≡ there → (due : Due) × IsJoined number lines m due
+    by true is =
+        (let there : number < m.mirrors = grind (arith, nat_tests) in
+        let told = some_told m sound number lines in
+        (due_of_join told.0, joined told.0 there told.1 refl))
+    by false is =
+        (let none : m.mirrors ≤ number = grind (arith, nat_tests) in
+        (refusal_due (refused_at mirrors_line Number), no_mirror none refl))
+
 one-match : (ws : List Behaviour) (task : MatchTask) → is_race task ≡ false → (m : MatchData) (a b : Due) → IsMatchAnswer ws task m a → IsMatchAnswer ws task m b → a ≡ b
 one-match ws Order plain m a b is its = is ∙ sym its
 one-match ws Play plain m a b is its = is ∙ sym its
 one-match ws Race plain m a b is its = absurd cc
 one-match ws Lift plain m a b is its = is ∙ sym its
 one-match ws Score plain m a b is its = is ∙ sym its
+one-match ws PaintOrder plain m a b is its = is ∙ sym its
+one-match ws PaintPlay plain m a b is its = is ∙ sym its
+one-match ws (Join number lines) plain m a b is its = one-joined number lines m a b is its
+one-match ws (Rewind every room ticks) plain m a b is its = is ∙ sym its
 
-some-match : (ws : List Behaviour) (task : MatchTask) → is_race task ≡ false → (m : MatchData) → (due : Due) × IsMatchAnswer ws task m due
-some-match ws Order plain m = (_, refl)
-some-match ws Play plain m = (_, refl)
-some-match ws Race plain m = absurd cc
-some-match ws Lift plain m = (_, refl)
-some-match ws Score plain m = (_, refl)
+some-match : (ws : List Behaviour) (task : MatchTask) → is_race task ≡ false → (m : MatchData) → IsMatch m → (due : Due) × IsMatchAnswer ws task m due
+some-match ws Order plain m sound = (_, refl)
+some-match ws Play plain m sound = (_, refl)
+some-match ws Race plain m sound = absurd cc
+some-match ws Lift plain m sound = (_, refl)
+some-match ws Score plain m sound = (_, refl)
+some-match ws PaintOrder plain m sound = (_, refl)
+some-match ws PaintPlay plain m sound = (_, refl)
+some-match ws (Join number lines) plain m sound = some-joined number lines m sound
+some-match ws (Rewind every room ticks) plain m sound = (_, refl)
 
 one-audit : (r : RaceRecord) (a b : Due) → IsAudited r a → IsAudited r b → a ≡ b
 one-audit r a b is its =
@@ -68,47 +105,75 @@ pub one-due : (ws : List Behaviour) (what : Option Subcommand) → races what �
 one-due ws None plain input a b is its = is ∙ sym its
 one-due ws (Some (OfMatch task)) plain input a b is its = one-for (IsMatchAnswer ws task) match-exact (one-match ws task plain) input a b is its
 one-due ws (Some Audit) plain input a b is its = one-for IsAudited record-exact one-audit input a b is its
+one-due ws (Some Lossy) plain input a b is its = one-for (λ x due. due ≡ due_of_lossy x) lossy-exact (λ x a b is its. is ∙ sym its) input a b is its
 one-due ws (Some (Soak n)) plain input a b is its = is ∙ sym its
 
 -- and some text is
 pub some-due : (ws : List Behaviour) (what : Option Subcommand) → races what ≡ false → (input : List ℕ) → (due : Due) × IsDueOf ws what input due
 some-due ws None plain input = (usage_due, refl)
-some-due ws (Some (OfMatch task)) plain input = some-for (IsMatchAnswer ws task) match-exact (λ m text is. some-match ws task plain m) input
+some-due ws (Some (OfMatch task)) plain input = some-for (IsMatchAnswer ws task) match-exact (λ m text is. some-match ws task plain m is.0) input
 some-due ws (Some Audit) plain input = some-for IsAudited record-exact some-audit input
+some-due ws (Some Lossy) plain input = some-for (λ x due. due ≡ due_of_lossy x) lossy-exact (λ x text is. (due_of_lossy x, refl)) input
 some-due ws (Some (Soak n)) plain input = (due_of_number n, refl)
 
 -- ---- its status
 
-match-status : (ws : List Behaviour) (P : Status → Type 0) (task : MatchTask) (m : MatchData) (due : Due) → IsMatchAnswer ws task m due → P Complete → P Refusal → P due.status
-match-status ws P Order m due is a b = subst (λ (d : Due). P d.status) (sym is) a
-match-status ws P Play m due is a b = subst (λ (d : Due). P d.status) (sym is) a
-match-status ws P Race m due (raced mirrors pace is of) a b = subst P (sym is) a
-match-status ws P Race m due (no_pace pace is) a b = subst (λ (d : Due). P d.status) (sym is) b
-match-status ws P Lift m due is a b = subst (λ (d : Due). P d.status) (sym is) a
-match-status ws P Score m due is a b = subst (λ (d : Due). P d.status) (sym is) a
+join-status : (P : Status → Type 0) (number lines : ℕ) (m : MatchData) (due : Due) → IsJoined number lines m due → P Complete → P Refusal → P NoTickLeft → P due.status
+join-status P number lines m due (joined (Told text) there told is) a b c = subst (λ (d : Due). P d.status) (sym is) a
+join-status P number lines m due (joined (TooLate text) there told is) a b c = subst (λ (d : Due). P d.status) (sym is) c
+join-status P number lines m due (no_mirror none is) a b c = subst (λ (d : Due). P d.status) (sym is) b
+
+rewind-status : (P : Status → Type 0) (room : ℕ) (ticks : List ℕ) (m : MatchData) (due : Due) → due ≡ due_of_rewind room ticks m → P Complete → P Refusal → P due.status
+rewind-status P room ticks m due is a b = subst (λ (d : Due). P d.status) (sym is) (by (are_within m ticks) refl)
+  where
+    by : (within : Bool) → are_within m ticks ≡ within → P (due_of_rewind room ticks m).status
+    by true h = rw h a
+    by false h = rw h b
+
+match-status : (ws : List Behaviour) (P : Status → Type 0) (task : MatchTask) (m : MatchData) (due : Due) → IsMatchAnswer ws task m due → P Complete → P Refusal
+    → ((number lines : ℕ) → task ≡ Join number lines → P NoTickLeft) → P due.status
+match-status ws P Order m due is a b c = subst (λ (d : Due). P d.status) (sym is) a
+match-status ws P Play m due is a b c = subst (λ (d : Due). P d.status) (sym is) a
+match-status ws P Race m due (raced mirrors pace is of) a b c = subst P (sym is) a
+match-status ws P Race m due (no_pace pace is) a b c = subst (λ (d : Due). P d.status) (sym is) b
+match-status ws P Lift m due is a b c = subst (λ (d : Due). P d.status) (sym is) a
+match-status ws P Score m due is a b c = subst (λ (d : Due). P d.status) (sym is) a
+match-status ws P PaintOrder m due is a b c = subst (λ (d : Due). P d.status) (sym is) a
+match-status ws P PaintPlay m due is a b c = subst (λ (d : Due). P d.status) (sym is) a
+match-status ws P (Join number lines) m due is a b c = join-status P number lines m due is a b (c number lines refl)
+match-status ws P (Rewind every room ticks) m due is a b c = rewind-status P room ticks m due is a b
 
 verdict-status : (P : Status → Type 0) (verdict : Verdict) → P Complete → P NotLegalRecord → P (status_of verdict)
 verdict-status P (Legal events) a b = a
 verdict-status P (NotLegal mirror place why) a b = b
 
+-- the words ask for a mirror that joins late
+pub record AsksJoin (what : Option Subcommand) : Type 0 where
+  pub number : ℕ
+  pub lines : ℕ
+  pub asks : what ≡ Some (OfMatch (Join number lines))
+
 -- a status that goes with what is due
 pub due-status :
     (ws : List Behaviour) (P : Status → Type 0) (what : Option Subcommand) (input : List ℕ) (due : Due) → IsDueOf ws what input due
-    → (what ≡ None → P WrongWords) → P Complete → P Refusal → (what ≡ Some Audit → P NotLegalRecord) → P due.status
-due-status ws P None input due is a b c d = subst (λ (x : Due). P x.status) (sym is) (a refl)
-due-status ws P (Some (OfMatch task)) input due (answer m text is) a b c d = match-status ws P task m due is b c
-due-status ws P (Some (OfMatch task)) input due (refusal r lacks is) a b c d = subst (λ (x : Due). P x.status) (sym is) c
-due-status ws P (Some Audit) input due (answer r text is) a b c d = subst (λ (x : Due). P x.status) (sym is.2) (verdict-status P is.0 b (d refl))
-due-status ws P (Some Audit) input due (refusal r lacks is) a b c d = subst (λ (x : Due). P x.status) (sym is) c
-due-status ws P (Some (Soak n)) input due is a b c d = subst (λ (x : Due). P x.status) (sym is) b
+    → (what ≡ None → P WrongWords) → P Complete → P Refusal → (what ≡ Some Audit → P NotLegalRecord) → (AsksJoin what → P NoTickLeft) → P due.status
+due-status ws P None input due is a b c d e = subst (λ (x : Due). P x.status) (sym is) (a refl)
+due-status ws P (Some (OfMatch task)) input due (answer m text is) a b c d e =
+    match-status ws P task m due is b c (λ number lines joins. e (record { number = number; lines = lines; asks = ap (λ (t : MatchTask). Some (OfMatch t)) joins }))
+due-status ws P (Some (OfMatch task)) input due (refusal r lacks is) a b c d e = subst (λ (x : Due). P x.status) (sym is) c
+due-status ws P (Some Audit) input due (answer r text is) a b c d e = subst (λ (x : Due). P x.status) (sym is.2) (verdict-status P is.0 b (d refl))
+due-status ws P (Some Audit) input due (refusal r lacks is) a b c d e = subst (λ (x : Due). P x.status) (sym is) c
+due-status ws P (Some Lossy) input due (answer x text is) a b c d e = subst (λ (x : Due). P x.status) (sym is) b
+due-status ws P (Some Lossy) input due (refusal r lacks is) a b c d e = subst (λ (x : Due). P x.status) (sym is) c
+due-status ws P (Some (Soak n)) input due is a b c d e = subst (λ (x : Due). P x.status) (sym is) b
 
 -- it is none but these
 pub due-no :
     (ws : List Behaviour) (n : ℕ) (what : Option Subcommand) (input : List ℕ) (due : Due) → IsDueOf ws what input due
-    → nat_eq 0 n ≡ false → nat_eq 2 n ≡ false → nat_eq 5 n ≡ false → nat_eq 6 n ≡ false → (status : ℕ) → status ≡ code due.status → status ≡ n → ⊥
-due-no ws n what input due is zero two five six status of at =
+    → nat_eq 0 n ≡ false → nat_eq 2 n ≡ false → nat_eq 5 n ≡ false → nat_eq 6 n ≡ false → nat_eq 7 n ≡ false → (status : ℕ) → status ≡ code due.status → status ≡ n → ⊥
+due-no ws n what input due is zero two five six seven status of at =
     due-status ws (λ s. status ≡ code s → ⊥) what input due is (λ none e. not 2 n status two e at) (λ e. not 0 n status zero e at)
-    (λ e. not 5 n status five e at) (λ audits e. not 6 n status six e at) of
+    (λ e. not 5 n status five e at) (λ audits e. not 6 n status six e at) (λ joins e. not 7 n status seven e at) of
 
 -- ---- what it keeps
 
@@ -129,6 +194,25 @@ pub record KeepsLogs (s : Subcommand) (input : List ℕ) (due : Due) : Type 0 wh
 of-played : (m : MatchData) (text : List ℕ) (due : Due) → IsMatch m → due ≡ complete text (logs_from 0 (played (opening_world m.layout) m)) → KeepsPlayed m due.kept
 of-played m text due sound is = subst (λ (d : Due). KeepsPlayed m d.kept) (sym is) (played-AllPlayed arena_rules m (opening_world m.layout) sound)
 
+of-painted : (m : MatchData) (text : List ℕ) (due : Due) → IsMatch m → due ≡ complete text (logs_from 0 (played (opening_paint m.layout) m)) → KeepsPainted m due.kept
+of-painted m text due sound is = subst (λ (d : Due). KeepsPainted m d.kept) (sym is) (played-AllPlayed paint_rules m (opening_paint m.layout) sound)
+
+-- a match over its net keeps what its net came to
+pub of-net : (x : LossyData) (due : Due) → due ≡ due_of_lossy x → IsLossy x → KeepsNet x due.kept
+of-net x due is sound = record { ended = net-ended arena_rules x (opening_world x.game.layout) sound; logs = ap (λ (d : Due). d.kept) is }
+
+join-kept : (number lines : ℕ) (m : MatchData) (due : Due) → IsJoined number lines m due → due.kept ≡ []
+join-kept number lines m due (joined (Told text) there told is) = ap (λ (d : Due). d.kept) is
+join-kept number lines m due (joined (TooLate text) there told is) = ap (λ (d : Due). d.kept) is
+join-kept number lines m due (no_mirror none is) = ap (λ (d : Due). d.kept) is
+
+rewind-kept : (room : ℕ) (ticks : List ℕ) (m : MatchData) → (due_of_rewind room ticks m).kept ≡ []
+rewind-kept room ticks m = by (are_within m ticks) refl
+  where
+    by : (within : Bool) → are_within m ticks ≡ within → (due_of_rewind room ticks m).kept ≡ []
+    by true h = rw h refl
+    by false h = rw h refl
+
 -- what is played for an input is what the input is the text of
 plays-text : (task : MatchTask) (input : List ℕ) (m : MatchData) → PlaysMatch (OfMatch task) input m → IsMatchText m input
 plays-text Order input m plays = absurd plays
@@ -136,10 +220,15 @@ plays-text Play input m plays = plays
 plays-text Race input m plays = plays.0
 plays-text Lift input m plays = absurd plays
 plays-text Score input m plays = plays
+plays-text PaintOrder input m plays = absurd plays
+plays-text PaintPlay input m plays = plays
+plays-text (Join number lines) input m plays = absurd plays
+plays-text (Rewind every room ticks) input m plays = absurd plays
 
 pub one-played : (s : Subcommand) (input : List ℕ) (m n : MatchData) → PlaysMatch s input m → PlaysMatch s input n → m ≡ n
 one-played (OfMatch task) input m n is its = match-exact.one m n input (plays-text task input m is) (plays-text task input n its)
 one-played Audit input m n is its = absurd is
+one-played Lossy input m n is its = is.2 ∙ ap (λ (x : LossyData). x.game) (lossy-exact.one is.0 its.0 input is.1 its.1) ∙ sym its.2
 one-played (Soak number) input m n is its = is ∙ sym its
 
 unkept : (s : Subcommand) (input : List ℕ) (due : Due) → due.kept ≡ [] → ((m : MatchData) → PlaysMatch s input m → ⊥) → keeps_logs s ≡ false → (KeepsNothing s input due) ⊎ (KeepsLogs s input due)
@@ -162,12 +251,21 @@ match-keeps ws Race input m due text (no_pace pace is) = refused-keeps (OfMatch 
     (let same : m ≡ n = match-exact.one m n input text plays.0 in let one = ap (λ (x : MatchData). x.pace) same in let more = plays.1 in absurd (omega arith)))
 match-keeps ws Lift input m due text is = unkept (OfMatch Lift) input due (ap (λ (d : Due). d.kept) is) (λ n plays. plays) refl
 match-keeps ws Score input m due text is = inr (record { m = m; plays = text; keeps = of-played m _ due text.0 is; keeping = refl; whole = ap (λ (d : Due). code d.status) is })
+match-keeps ws PaintOrder input m due text is = unkept (OfMatch PaintOrder) input due (ap (λ (d : Due). d.kept) is) (λ n plays. plays) refl
+match-keeps ws PaintPlay input m due text is =
+    inr (record { m = m; plays = text; keeps = of-painted m _ due text.0 is; keeping = refl; whole = ap (λ (d : Due). code d.status) is })
+match-keeps ws (Join number lines) input m due text is = unkept (OfMatch (Join number lines)) input due (join-kept number lines m due is) (λ n plays. plays) refl
+match-keeps ws (Rewind every room ticks) input m due text is =
+    unkept (OfMatch (Rewind every room ticks)) input due (ap (λ (d : Due). d.kept) is ∙ rewind-kept room ticks m) (λ n plays. plays) refl
 
 pub due-keeps : (ws : List Behaviour) (s : Subcommand) (input : List ℕ) (due : Due) → IsAnswer ws s input due → (KeepsNothing s input due) ⊎ (KeepsLogs s input due)
 due-keeps ws (OfMatch task) input due (answer m text is) = match-keeps ws task input m due text is
 due-keeps ws (OfMatch task) input due (refusal r lacks is) = refused-keeps (OfMatch task) input r due is (λ m plays. match-exact.apart m input r (plays-text task input m plays) lacks)
 due-keeps ws Audit input due (answer r text is) = unkept Audit input due (ap (λ (d : Due). d.kept) is.2) (λ m plays. plays) refl
 due-keeps ws Audit input due (refusal r lacks is) = unkept Audit input due (ap (λ (d : Due). d.kept) is) (λ m plays. plays) refl
+due-keeps ws Lossy input due (answer x text is) =
+    inr (record { m = x.game; plays = (x, text, refl); keeps = (x, refl, of-net x due is text.0); keeping = refl; whole = ap (λ (d : Due). code d.status) is })
+due-keeps ws Lossy input due (refusal r lacks is) = refused-keeps Lossy input r due is (λ m plays. lossy-exact.apart plays.0 input r plays.1 lacks)
 due-keeps ws (Soak n) input due is = inr (record {
   m = match_of_number n;
   plays = refl;

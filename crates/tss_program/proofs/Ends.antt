@@ -6,17 +6,18 @@ use Rattle.run_recorder.specs.declared.log.MirrorLog.{MirrorLog}
 use Rattle.watch_board.specs.Behaviour.{Behaviour}
 use Rattle.match_file.specs.Data.{MatchData}
 use Rattle.run_recorder.specs.declared.race_record.RaceRecord.{RaceRecord}
-use Rattle.tss_program.specs.declared.subcommand.MatchTask.{MatchTask}
-use Rattle.tss_program.specs.declared.subcommand.MatchTask.TheVariants.{Order, Play, Race, Lift, Score}
-use Rattle.tss_program.specs.declared.subcommand.Subcommand.{Subcommand}
-use Rattle.tss_program.specs.declared.subcommand.Subcommand.TheVariants.{OfMatch, Audit, Soak}
+use Rattle.lossy_text.specs.Data.{LossyData}
+use Rattle.tss_words.specs.declared.subcommand.MatchTask.{MatchTask}
+use Rattle.tss_words.specs.declared.subcommand.MatchTask.TheVariants.{Order, Play, Race, Lift, Score, PaintOrder, PaintPlay, Join, Rewind}
+use Rattle.tss_words.specs.declared.subcommand.Subcommand.{Subcommand}
+use Rattle.tss_words.specs.declared.subcommand.Subcommand.TheVariants.{OfMatch, Audit, Lossy, Soak}
 use Rattle.tss_program.specs.declared.status.Status.{Status}
 use Rattle.tss_program.specs.declared.status.Status.TheVariants.{Complete}
 use Rattle.tss_program.specs.declared.stop.Stop.{Stop}
 use Rattle.tss_program.specs.declared.stop.Stop.TheVariants as stops
 use Rattle.tss_program.specs.declared.due.Due.{Due}
-use Rattle.tss_program.specs.Subcommands.{most_read, most_asked, races}
-use Rattle.tss_program.specs.Due.{IsDueFor, answer, refusal, refusal_due, complete, IsMatchText, IsFaultyMatch, IsMatchAnswer, IsRecordText, IsFaultyRecord, IsAudited, due_of_number, IsAnswer}
+use Rattle.tss_words.specs.Subcommands.{most_read, most_asked, races}
+use Rattle.tss_program.specs.Due.{IsDueFor, answer, refusal, refusal_due, complete, IsMatchText, IsFaultyMatch, IsMatchAnswer, IsRecordText, IsFaultyRecord, IsLossyText, IsFaultyLossy, IsAudited, due_of_lossy, due_of_number, IsAnswer}
 use Rattle.tss_program.specs.Run.{Seen, Taken, OfInput, ReadsAtMost, WhyStopped, Answers, Gives, IsPut, IsStopped, IsEnded, Run, asked, Ends, no_memory, unread, answered, IsRun}
 use Rattle.tss_program.proofs.Inputs.{some-input, behind-none, reads-none}
 
@@ -73,6 +74,12 @@ given-match ws s task m old new r asks read given =
     answers-as ws s (OfMatch task) old new r asks
     (answers-given ws (OfMatch task) (λ input. IsMatchText m input) (λ due. IsMatchAnswer ws task m due) old new r (λ input due text is. answer m text is) read given)
 
+-- what was answered to a match, by another name of what was asked
+pub shown-as :
+    (m : MatchData) (t u : MatchTask) (r : Result Due Stop) → t ≡ u → ((ws : List Behaviour) → Gives (λ due. IsMatchAnswer ws u m due) r)
+    → (ws : List Behaviour) → Gives (λ due. IsMatchAnswer ws t m due) r
+shown-as m t u r is given ws = subst (λ (x : MatchTask). Gives (λ due. IsMatchAnswer ws x m due) r) (sym is) (given ws)
+
 -- of a record
 pub stopped-record :
     (ws : List Behaviour) (s : Subcommand) (old new : Seen) (r : Result Due Stop) (stop : Stop) → s ≡ Audit → IsErrAnd r (λ x. x ≡ stop)
@@ -86,6 +93,20 @@ pub given-record :
     → OfInput (most_read Audit) old new (λ input. IsRecordText q input) → IsAudited q due → Answers ws (Some s) old new (Ok due)
 given-record ws s q old new due asks read given =
     answers-as ws s Audit old new (Ok due) asks (answers-given ws Audit (λ input. IsRecordText q input) (λ due. IsAudited q due) old new (Ok due) (λ input due text is. answer q text is) read given)
+
+-- of a match over its net
+pub stopped-lossy :
+    (ws : List Behaviour) (s : Subcommand) (old new : Seen) (r : Result Due Stop) (stop : Stop) → s ≡ Lossy → IsErrAnd r (λ x. x ≡ stop)
+    → WhyStopped (most_read Lossy) IsFaultyLossy old new stop → Answers ws (Some s) old new r
+stopped-lossy ws s old new r stop asks is why =
+    answers-as ws s Lossy old new r asks (of-fault r stop (λ x. Answers ws (Some Lossy) old new x) is
+    (answers-stopped ws Lossy IsFaultyLossy old new stop (λ input refused lacks. refusal refused lacks refl) (omega arith) why))
+
+pub given-lossy :
+    (ws : List Behaviour) (s : Subcommand) (x : LossyData) (old new : Seen) (due : Due) → s ≡ Lossy
+    → OfInput (most_read Lossy) old new (λ input. IsLossyText x input) → due ≡ due_of_lossy x → Answers ws (Some s) old new (Ok due)
+given-lossy ws s x old new due asks read given =
+    answers-as ws s Lossy old new (Ok due) asks (answers-given ws Lossy (λ input. IsLossyText x input) (λ due. due ≡ due_of_lossy x) old new (Ok due) (λ input due text is. answer x text is) read given)
 
 -- of a number, and of nothing
 pub given-number : (ws : List Behaviour) (s : Subcommand) (n : ℕ) (old : Seen) (due : Due) → s ≡ Soak n → due ≡ due_of_number n → Answers ws (Some s) old old (Ok due)
@@ -166,7 +187,12 @@ race-asked (Some (OfMatch Play)) is = absurd cc
 race-asked (Some (OfMatch Race)) is = refl
 race-asked (Some (OfMatch Lift)) is = absurd cc
 race-asked (Some (OfMatch Score)) is = absurd cc
+race-asked (Some (OfMatch PaintOrder)) is = absurd cc
+race-asked (Some (OfMatch PaintPlay)) is = absurd cc
+race-asked (Some (OfMatch (Join number lines))) is = absurd cc
+race-asked (Some (OfMatch (Rewind every room ticks))) is = absurd cc
 race-asked (Some Audit) is = absurd cc
+race-asked (Some Lossy) is = absurd cc
 race-asked (Some (Soak number)) is = absurd cc
 
 -- a race tells no watchers

@@ -5,3 +5,4 @@ mod Lifting
 mod RunLaws
 mod Texts
 mod Whole
+mod Within

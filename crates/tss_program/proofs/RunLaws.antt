@@ -6,21 +6,26 @@ use Rattle.tss_io.specs.Streams.{Rose, Gains}
 use Rattle.match_file.specs.Data.{MatchData}
 use Rattle.run_recorder.specs.declared.log.MirrorLog.{MirrorLog}
 use Rattle.run_recorder.specs.declared.race_record.RaceRecord.{RaceRecord}
+use Rattle.arena_rules.specs.World.{opening_world}
+use Rattle.match_join.specs.declared.answer.JoinAnswer.TheVariants.{Told, TooLate}
+use Rattle.match_join.specs.Join.{IsTooLate, TellsOfBoth}
+use Rattle.lossy_text.specs.Data.{LossyData}
 use Rattle.soak.specs.Answer.{soak_opening}
 use Rattle.soak.proofs.Agreed.{length-played}
 use Rattle.soak.proofs.Whole.{text-whole, soaked-each, soaked-all}
 use Rattle.watch_board.specs.Behaviour.{Behaviour}
-use Rattle.tss_program.specs.declared.subcommand.Subcommand.{Subcommand}
-use Rattle.tss_program.specs.declared.subcommand.Subcommand.TheVariants.{Audit, Soak}
+use Rattle.tss_words.specs.declared.subcommand.Subcommand.{Subcommand}
+use Rattle.tss_words.specs.declared.subcommand.Subcommand.TheVariants.{OfMatch, Audit, Lossy, Soak}
+use Rattle.tss_words.specs.declared.subcommand.MatchTask.TheVariants.{Join}
 use Rattle.tss_program.specs.declared.status.Status.{Status}
 use Rattle.tss_program.specs.declared.due.Due.{Due}
-use Rattle.tss_program.specs.Subcommands.{most_asked, races}
-use Rattle.tss_program.specs.Due.{IsDueFor, answer, refusal, IsRecordText, IsDueOf, IsAnswer, due_of_number, code}
+use Rattle.tss_words.specs.Subcommands.{most_asked, races}
+use Rattle.tss_program.specs.Due.{IsDueFor, answer, refusal, IsMatchText, IsRecordText, IsLossyText, IsJoined, joined, no_mirror, arena_shown, due_of_lossy, IsDueOf, IsAnswer, due_of_number, code}
 use Rattle.tss_program.specs.Run.{IsInput, behind, OfInput, ReadsAtMost, IsSilent, IsPut, whole, front, Run, asked, Ends, no_memory, unread, answered, IsRun}
-use Rattle.tss_program.specs.Promises.{keeps_logs, PlaysMatch, KeepsLogsOf, KeepsAMatch, KeepsSome, SoaksWhole, SaysIfLegal, AuditsARecord, EndsWith, IsComplete}
+use Rattle.tss_program.specs.Promises.{keeps_logs, PlaysMatch, KeepsLogsOf, KeepsAMatch, KeepsSome, KeepsNet, SoaksWhole, SaysIfLegal, AuditsARecord, EndsWith, IsComplete}
 use Rattle.tss_program.specs.Promises as promises
-use Rattle.tss_program.proofs.Texts.{record-exact}
-use Rattle.tss_program.proofs.AnswerLaws.{not, one-due, due-status, due-no, due-keeps, KeepsNothing, KeepsLogs, one-played, audit-says}
+use Rattle.tss_program.proofs.Texts.{match-exact, record-exact, lossy-exact}
+use Rattle.tss_program.proofs.AnswerLaws.{not, one-due, due-status, due-no, due-keeps, KeepsNothing, KeepsLogs, one-played, of-net, audit-says}
 
 -- ---- by cases
 
@@ -79,10 +84,10 @@ run-whole r run no_read no_write = by-end ((r.status ≡ 1) ⊎ IsComplete r) r 
 
 -- ---- statuses
 
-pub run-at_most_six : (r : Run) → IsRun r → r.status ≤ 6
-run-at_most_six r run = by-end (r.status ≤ 6) r run.ends
+pub run-at_most_seven : (r : Run) → IsRun r → r.status ≤ 7
+run-at_most_seven r run = by-end (r.status ≤ 7) r run.ends
     (λ is asks steady silent. omega arith) (λ is asks rose silent. omega arith) (λ due has is rose kept. omega arith)
-    (λ due has is steady kept gains. (let most = due-status r.watchers (λ s. code s ≤ 6) (asked r) has.input due has.holds (λ none. lit≤ tt) (lit≤ tt) (lit≤ tt) (λ audits. lit≤ tt) in omega arith))
+    (λ due has is steady kept gains. (let most = due-status r.watchers (λ s. code s ≤ 7) (asked r) has.input due has.holds (λ none. lit≤ tt) (lit≤ tt) (lit≤ tt) (λ audits. lit≤ tt) (λ joins. lit≤ tt) in omega arith))
 
 pub run-wrong_words : (r : Run) → IsRun r → asked r ≡ None → (r.status ≡ 2) ⊎ (r.status ≡ 4)
 run-wrong_words r run none = by-end ((r.status ≡ 2) ⊎ (r.status ≡ 4)) r run.ends
@@ -92,22 +97,28 @@ run-wrong_words r run none = by-end ((r.status ≡ 2) ⊎ (r.status ≡ 4)) r ru
 pub run-only_wrong_words : (r : Run) → IsRun r → r.status ≡ 2 → asked r ≡ None
 run-only_wrong_words r run two = by-due (asked r ≡ None) r 2 run refl refl refl two (λ due has is kept gains.
     due-status r.watchers (λ s. code s ≡ 2 → asked r ≡ None) (asked r) has.input due has.holds (λ none at. none)
-    (λ at. absurd (not 0 2 0 refl refl at)) (λ at. absurd (not 5 2 5 refl refl at)) (λ audits at. absurd (not 6 2 6 refl refl at)) is)
+    (λ at. absurd (not 0 2 0 refl refl at)) (λ at. absurd (not 5 2 5 refl refl at)) (λ audits at. absurd (not 6 2 6 refl refl at)) (λ joins at. absurd (not 7 2 7 refl refl at)) is)
 
 pub run-only_audited : (r : Run) → IsRun r → r.status ≡ 6 → asked r ≡ Some Audit
 run-only_audited r run six = by-due (asked r ≡ Some Audit) r 6 run refl refl refl six (λ due has is kept gains.
     due-status r.watchers (λ s. code s ≡ 6 → asked r ≡ Some Audit) (asked r) has.input due has.holds (λ none at. absurd (not 2 6 2 refl refl at))
-    (λ at. absurd (not 0 6 0 refl refl at)) (λ at. absurd (not 5 6 5 refl refl at)) (λ audits at. audits) is)
+    (λ at. absurd (not 0 6 0 refl refl at)) (λ at. absurd (not 5 6 5 refl refl at)) (λ audits at. audits) (λ joins at. absurd (not 7 6 7 refl refl at)) is)
+
+pub run-only_joined : (r : Run) → IsRun r → r.status ≡ 7 → (number : ℕ) × (lines : ℕ) × (asked r ≡ Some (OfMatch (Join number lines)))
+run-only_joined r run seven = by-due ((number : ℕ) × (lines : ℕ) × (asked r ≡ Some (OfMatch (Join number lines)))) r 7 run refl refl refl seven (λ due has is kept gains.
+    due-status r.watchers (λ s. code s ≡ 7 → (number : ℕ) × (lines : ℕ) × (asked r ≡ Some (OfMatch (Join number lines)))) (asked r) has.input due has.holds
+    (λ none at. absurd (not 2 7 2 refl refl at)) (λ at. absurd (not 0 7 0 refl refl at)) (λ at. absurd (not 5 7 5 refl refl at))
+    (λ audits at. absurd (not 6 7 6 refl refl at)) (λ joins at. (joins.number, joins.lines, joins.asks)) is)
 
 pub run-read_fault : (r : Run) → IsRun r → r.status ≡ 3 → Rose r.source_old.faults r.source_new.faults
 run-read_fault r run three = by-end (Rose r.source_old.faults r.source_new.faults) r run.ends
     (λ is asks steady silent. absurd (not 1 3 r.status refl is three)) (λ is asks rose silent. rose) (λ due has is rose kept. absurd (not 4 3 r.status refl is three))
-    (λ due has is steady kept gains. absurd (due-no r.watchers 3 (asked r) has.input due has.holds refl refl refl refl r.status is three))
+    (λ due has is steady kept gains. absurd (due-no r.watchers 3 (asked r) has.input due has.holds refl refl refl refl refl r.status is three))
 
 pub run-write_fault : (r : Run) → IsRun r → r.status ≡ 4 → Rose r.sink_old.faults r.sink_new.faults
 run-write_fault r run four = by-end (Rose r.sink_old.faults r.sink_new.faults) r run.ends
     (λ is asks steady silent. absurd (not 1 4 r.status refl is four)) (λ is asks rose silent. absurd (not 3 4 r.status refl is four)) (λ due has is rose kept. rose)
-    (λ due has is steady kept gains. absurd (due-no r.watchers 4 (asked r) has.input due has.holds refl refl refl refl r.status is four))
+    (λ due has is steady kept gains. absurd (due-no r.watchers 4 (asked r) has.input due has.holds refl refl refl refl refl r.status is four))
 
 pub run-read_steady : (r : Run) → IsRun r → (r.status ≡ 3) ⊎ (r.source_new.faults ≡ r.source_old.faults)
 run-read_steady r run = by-end ((r.status ≡ 3) ⊎ (r.source_new.faults ≡ r.source_old.faults)) r run.ends
@@ -140,22 +151,24 @@ run-one-end r input bytes due run plain told first is no_read no_write = by (run
 
 -- ---- what was read and written
 
-pub run-read : (r : Run) → IsRun r → (r.status ≡ 0) ⊎ (r.status ≡ 5) ⊎ (r.status ≡ 6) → r.source_new.left ≡ behind (most_asked (asked r)) r.source_old.left
+pub run-read : (r : Run) → IsRun r → (r.status ≡ 0) ⊎ (r.status ≡ 5) ⊎ (r.status ≡ 6) ⊎ (r.status ≡ 7) → r.source_new.left ≡ behind (most_asked (asked r)) r.source_old.left
 run-read r run when = by-end (r.source_new.left ≡ behind (most_asked (asked r)) r.source_old.left) r run.ends
-    (λ is asks steady silent. absurd (no-answer 1 r.status refl refl refl is when)) (λ is asks rose silent. absurd (no-answer 3 r.status refl refl refl is when))
+    (λ is asks steady silent. absurd (no-answer 1 r.status refl refl refl refl is when)) (λ is asks rose silent. absurd (no-answer 3 r.status refl refl refl refl is when))
     (λ due has is rose kept. has.left) (λ due has is steady kept gains. has.left)
   where
-    no-answer : (n status : ℕ) → nat_eq n 0 ≡ false → nat_eq n 5 ≡ false → nat_eq n 6 ≡ false → status ≡ n → (status ≡ 0) ⊎ (status ≡ 5) ⊎ (status ≡ 6) → ⊥
-    no-answer n status zero five six is (inl e) = not n 0 status zero is e
-    no-answer n status zero five six is (inr (inl e)) = not n 5 status five is e
-    no-answer n status zero five six is (inr (inr e)) = not n 6 status six is e
+    no-answer : (n status : ℕ) → nat_eq n 0 ≡ false → nat_eq n 5 ≡ false → nat_eq n 6 ≡ false → nat_eq n 7 ≡ false → status ≡ n
+        → (status ≡ 0) ⊎ (status ≡ 5) ⊎ (status ≡ 6) ⊎ (status ≡ 7) → ⊥
+    no-answer n status zero five six seven is (inl e) = not n 0 status zero is e
+    no-answer n status zero five six seven is (inr (inl e)) = not n 5 status five is e
+    no-answer n status zero five six seven is (inr (inr (inl e))) = not n 6 status six is e
+    no-answer n status zero five six seven is (inr (inr (inr e))) = not n 7 status seven is e
 
 pub run-silent : (r : Run) → IsRun r → (r.status ≡ 1) ⊎ (r.status ≡ 3) → Gains r.sink_old.bytes [] r.sink_new.bytes
 run-silent r run when = by-end (Gains r.sink_old.bytes [] r.sink_new.bytes) r run.ends
     (λ is asks steady silent. silent.bytes) (λ is asks rose silent. silent.bytes)
     (λ due has is rose kept. absurd (no-stop r.status (not 4 1 r.status refl is) (not 4 3 r.status refl is) when))
     (λ due has is steady kept gains. absurd (no-stop r.status
-    (due-no r.watchers 1 (asked r) has.input due has.holds refl refl refl refl r.status is) (due-no r.watchers 3 (asked r) has.input due has.holds refl refl refl refl r.status is) when))
+    (due-no r.watchers 1 (asked r) has.input due has.holds refl refl refl refl refl r.status is) (due-no r.watchers 3 (asked r) has.input due has.holds refl refl refl refl refl r.status is) when))
   where
     no-stop : (status : ℕ) → (status ≡ 1 → ⊥) → (status ≡ 3 → ⊥) → (status ≡ 1) ⊎ (status ≡ 3) → ⊥
     no-stop status one three (inl e) = one e
@@ -210,23 +223,24 @@ run-keeps-told r s input m run asks told plays when = by-end (KeepsLogsOf s m r.
     by due same (inr keeps) =
         subst (λ (logs : List MirrorLog). KeepsLogsOf s m logs) (sym same) (subst (λ (n : MatchData). KeepsLogsOf s n due.kept) (one-played s input keeps.m m keeps.plays plays) keeps.keeps)
 
-pub run-keeps-nothing : (r : Run) → IsRun r → (r.status ≡ 1) ⊎ (r.status ≡ 2) ⊎ (r.status ≡ 3) ⊎ (r.status ≡ 5) ⊎ (r.status ≡ 6) → r.kept ≡ []
+pub run-keeps-nothing : (r : Run) → IsRun r → (r.status ≡ 1) ⊎ (r.status ≡ 2) ⊎ (r.status ≡ 3) ⊎ (r.status ≡ 5) ⊎ (r.status ≡ 6) ⊎ (r.status ≡ 7) → r.kept ≡ []
 run-keeps-nothing r run when = by-end (r.kept ≡ []) r run.ends
     (λ is asks steady silent. silent.nothing) (λ is asks rose silent. silent.nothing)
-    (λ due has is rose kept. absurd (no-kept 4 r.status refl refl refl refl refl is when))
+    (λ due has is rose kept. absurd (no-kept 4 r.status refl refl refl refl refl refl is when))
     (λ due has is steady kept gains. by (asked r) refl due has.input has.holds is kept)
   where
-    no-kept : (n status : ℕ) → nat_eq n 1 ≡ false → nat_eq n 2 ≡ false → nat_eq n 3 ≡ false → nat_eq n 5 ≡ false → nat_eq n 6 ≡ false → status ≡ n
-        → (status ≡ 1) ⊎ (status ≡ 2) ⊎ (status ≡ 3) ⊎ (status ≡ 5) ⊎ (status ≡ 6) → ⊥
-    no-kept n status one two three five six is (inl e) = not n 1 status one is e
-    no-kept n status one two three five six is (inr (inl e)) = not n 2 status two is e
-    no-kept n status one two three five six is (inr (inr (inl e))) = not n 3 status three is e
-    no-kept n status one two three five six is (inr (inr (inr (inl e)))) = not n 5 status five is e
-    no-kept n status one two three five six is (inr (inr (inr (inr e)))) = not n 6 status six is e
+    no-kept : (n status : ℕ) → nat_eq n 1 ≡ false → nat_eq n 2 ≡ false → nat_eq n 3 ≡ false → nat_eq n 5 ≡ false → nat_eq n 6 ≡ false → nat_eq n 7 ≡ false → status ≡ n
+        → (status ≡ 1) ⊎ (status ≡ 2) ⊎ (status ≡ 3) ⊎ (status ≡ 5) ⊎ (status ≡ 6) ⊎ (status ≡ 7) → ⊥
+    no-kept n status one two three five six seven is (inl e) = not n 1 status one is e
+    no-kept n status one two three five six seven is (inr (inl e)) = not n 2 status two is e
+    no-kept n status one two three five six seven is (inr (inr (inl e))) = not n 3 status three is e
+    no-kept n status one two three five six seven is (inr (inr (inr (inl e)))) = not n 5 status five is e
+    no-kept n status one two three five six seven is (inr (inr (inr (inr (inl e))))) = not n 6 status six is e
+    no-kept n status one two three five six seven is (inr (inr (inr (inr (inr e))))) = not n 7 status seven is e
 
     keeps-none : (s : Subcommand) (due : Due) (input : List ℕ) → r.status ≡ code due.status → r.kept ≡ due.kept → (KeepsNothing s input due) ⊎ (KeepsLogs s input due) → r.kept ≡ []
     keeps-none s due input is same (inl nothing) = same ∙ nothing.kept
-    keeps-none s due input is same (inr keeps) = absurd (no-kept 0 r.status refl refl refl refl refl (is ∙ keeps.whole) when)
+    keeps-none s due input is same (inr keeps) = absurd (no-kept 0 r.status refl refl refl refl refl refl (is ∙ keeps.whole) when)
 
     by : (what : Option Subcommand) → asked r ≡ what → (due : Due) (input : List ℕ) → IsDueOf r.watchers what input due → r.status ≡ code due.status → r.kept ≡ due.kept → r.kept ≡ []
     by None none due input holds is same = same ∙ ap (λ (d : Due). d.kept) holds
@@ -289,6 +303,65 @@ pub run-audits-told :
 run-audits-told r input q run asks told text when = audit-by (SaysIfLegal r.status q) r run asks when (λ other p is its says.
     subst (λ (x : RaceRecord). SaysIfLegal r.status x) (record-exact.one p q other its (subst (λ (l : List ℕ). IsRecordText q l) (told-same r.source_old.left input other told is) text)) says)
 
+-- ---- a mirror that joins late
+
+-- what was due for a match of which a mirror is joined
+join-due :
+    (P : Type 0) (r : Run) (input : List ℕ) (m : MatchData) (number lines : ℕ) → asked r ≡ Some (OfMatch (Join number lines)) → r.source_old.left ≡ Some input → IsMatchText m input
+    → (due : Due) → HasDue r due → (IsJoined number lines m due → P) → (code due.status ≡ 5 → P) → P
+join-due P r input m number lines asks told text due has f refused = by (asked-due r (OfMatch (Join number lines)) input due asks (told-due r input due told has))
+  where
+    by : IsAnswer r.watchers (OfMatch (Join number lines)) input due → P
+    by (answer n its is) = f (subst (λ (x : MatchData). IsJoined number lines x due) (match-exact.one n m input its text) is)
+    by (refusal refusal_is lacks is) = refused (ap (λ (d : Due). code d.status) is)
+
+pub run-joins-late :
+    (r : Run) (input : List ℕ) (m : MatchData) (number lines : ℕ) → IsRun r → asked r ≡ Some (OfMatch (Join number lines)) → r.source_old.left ≡ Some input → IsMatchText m input
+    → r.status ≡ 7 → IsTooLate (opening_world m.layout) m number lines
+run-joins-late r input m number lines run asks told text seven = by-due (IsTooLate (opening_world m.layout) m number lines) r 7 run refl refl refl seven
+    (λ due has is kept gains. join-due (IsTooLate (opening_world m.layout) m number lines) r input m number lines asks told text due has (by due is) (λ five. absurd (not 5 7 (code due.status) refl five is)))
+  where
+    by : (due : Due) → code due.status ≡ 7 → IsJoined number lines m due → IsTooLate (opening_world m.layout) m number lines
+    by due is (joined (Told t) there tells same) = absurd (not 0 7 (code due.status) refl (ap (λ (d : Due). code d.status) same) is)
+    by due is (joined (TooLate t) there tells same) = tells.0
+    by due is (no_mirror none same) = absurd (not 5 7 (code due.status) refl (ap (λ (d : Due). code d.status) same) is)
+
+-- a text tells of both, and was put
+abbrev TellsPut : Run → MatchData → ℕ → ℕ → Type 0
+TellsPut r m number lines = (text : List ℕ) × TellsOfBoth (arena_shown m) (opening_world m.layout) m number lines text × Gains r.sink_old.bytes text r.sink_new.bytes
+
+pub run-joins-both :
+    (r : Run) (input : List ℕ) (m : MatchData) (number lines : ℕ) → IsRun r → asked r ≡ Some (OfMatch (Join number lines)) → r.source_old.left ≡ Some input → IsMatchText m input
+    → r.status ≡ 0 → TellsPut r m number lines
+run-joins-both r input m number lines run asks told text zero = by-due (TellsPut r m number lines) r 0 run refl refl refl zero
+    (λ due has is kept gains. join-due (TellsPut r m number lines) r input m number lines asks told text due has (by due is gains) (λ five. absurd (not 5 0 (code due.status) refl five is)))
+  where
+    by : (due : Due) → code due.status ≡ 0 → Gains r.sink_old.bytes due.text r.sink_new.bytes → IsJoined number lines m due → TellsPut r m number lines
+    by due is gains (joined (Told t) there tells same) =
+        (t, tells, subst (λ (l : List ℕ). Gains r.sink_old.bytes l r.sink_new.bytes) (ap (λ (d : Due). d.text) same) gains)
+    by due is gains (joined (TooLate t) there tells same) = absurd (not 7 0 (code due.status) refl (ap (λ (d : Due). code d.status) same) is)
+    by due is gains (no_mirror none same) = absurd (not 5 0 (code due.status) refl (ap (λ (d : Due). code d.status) same) is)
+
+-- ---- a lossy net
+
+pub run-loses-nothing :
+    (r : Run) (input : List ℕ) (x : LossyData) → IsRun r → asked r ≡ Some Lossy → r.source_old.left ≡ Some input → IsLossyText x input
+    → (r.status ≡ 0) ⊎ (r.status ≡ 4) → KeepsNet x r.kept
+run-loses-nothing r input x run asks told text when = by-end (KeepsNet x r.kept) r run.ends
+    (λ is a steady silent. absurd (no-net 1 r.status refl refl is when)) (λ is a rose silent. absurd (no-net 3 r.status refl refl is when))
+    (λ due has is rose kept. by due kept (asked-due r Lossy input due asks (told-due r input due told has)))
+    (λ due has is steady kept gains. by due kept (asked-due r Lossy input due asks (told-due r input due told has)))
+  where
+    no-net : (n status : ℕ) → nat_eq n 0 ≡ false → nat_eq n 4 ≡ false → status ≡ n → (status ≡ 0) ⊎ (status ≡ 4) → ⊥
+    no-net n status zero four is (inl e) = not n 0 status zero is e
+    no-net n status zero four is (inr e) = not n 4 status four is e
+
+    by : (due : Due) → r.kept ≡ due.kept → IsAnswer r.watchers Lossy input due → KeepsNet x r.kept
+    by due same (answer y its is) =
+        subst (λ (logs : List MirrorLog). KeepsNet x logs) (sym same)
+        (of-net x due (is ∙ ap (λ (z : LossyData). due_of_lossy z) (lossy-exact.one y x input its text)) text.0)
+    by due same (refusal refused lacks is) = absurd (lossy-exact.apart x input refused text lacks)
+
 -- ---- the whole of a text
 
 gained-less : (bytes text : List ℕ) (old new : Option (List ℕ)) (n : ℕ) → old ≡ Some bytes → new ≡ Some (bytes ++ text) → n < length text → Gains old (take n text) new → ⊥
@@ -304,5 +377,5 @@ gained-less bytes text old new n first then less gains =
 pub whole-no_fault :
     (r : Run) (input bytes : List ℕ) (due : Due) → IsDueOf r.watchers (asked r) input due → IsPut due r.sink_old r.sink_new r.status r.kept
     → r.sink_old.bytes ≡ Some bytes → r.sink_new.bytes ≡ Some (bytes ++ due.text) → r.status ≡ 4 → ⊥
-whole-no_fault r input bytes due is (whole at steady gains kept) first then four = due-no r.watchers 4 (asked r) input due is refl refl refl refl r.status at four
+whole-no_fault r input bytes due is (whole at steady gains kept) first then four = due-no r.watchers 4 (asked r) input due is refl refl refl refl refl r.status at four
 whole-no_fault r input bytes due is (front n less at rose gains kept) first then four = gained-less bytes due.text r.sink_old.bytes r.sink_new.bytes n first then less gains

@@ -1,4 +1,5 @@
-//! What is answered to a match, a record or a number: one function for each subcommand.
+//! What is answered to a match, a record, a match over its net or a number: one function for each
+//! subcommand.
 
 ghost use Rattle.std.specs.Prelude.{◌≡◌, [], map, IfOk};
 ghost use Rattle.match_file.specs.Data.{lifted};
@@ -8,14 +9,20 @@ ghost use Rattle.report_text.specs.Worlds.{Showing};
 ghost use Rattle.match_hall.specs.Report.{play_text};
 ghost use Rattle.match_score.specs.Score.{ends_of, watched_text};
 ghost use Rattle.run_recorder.specs.Data.{IsRecord};
-ghost use Rattle.tss_program.specs.Due.{complete, order_text, due_of_number, status_of, IsAudited};
+ghost use Rattle.tss_words.specs.Subcommands.{IsKept};
+ghost use Rattle.tss_program.specs.Due.{complete, order_text, due_of_number, due_of_join, due_of_rewind, due_of_lossy, status_of, are_within, IsAudited, IsJoined};
+ghost use Rattle.tss_program.specs.Run.{Gives};
 
 use crate::due::Due;
 use crate::status::Status;
+use crate::stop::Stop;
 use arena_rules::{Arena, Shown};
-use game_trait::{Game, execute_in_order};
-use match_file::{Match, lift, print_match};
+use game_trait::{Game, MirrorId, Tick, execute_in_order};
+use lossy_link::{LossyAnswer, LossyText, lossy};
+use match_file::{Cause, Match, Refused, lift, print_match};
 use match_hall::Hall;
+use match_join::{JoinAnswer, join};
+use match_rewind::rewind;
 use match_score::{ScoreAnswer, score};
 use report_text::{done_line, world_block};
 use run_auditor::{Verdict, audit};
@@ -23,7 +30,14 @@ use run_recorder::RaceRecord;
 use soak::{SoakAnswer, soak};
 use std::alloc::Global;
 use tss_io::{NoMemory, Seq};
+use tss_words::Ticks;
 use watch_board::Watcher;
+
+// The line of a match text that states its length.
+const LENGTH_LINE: u32 = 2;
+
+// The line of a match text that states its mirrors.
+const MIRRORS_LINE: u32 = 4;
 
 /// The answer of `order` to a match that opens so: the world after its commands in key order and
 /// its beats.
@@ -106,6 +120,91 @@ pub fn soak_number(alloc: Global, number: u32) -> Result<Due, NoMemory>
     ensures { IfOk result (λ due. due ≡ due_of_number number) }
 {
     let SoakAnswer { text, kept } = soak(alloc, number)?;
+    Ok(Due {
+        status: Status::Complete,
+        text,
+        kept,
+    })
+}
+
+// What was told of a mirror and of one that joins late from it, as what is due.
+fn due_of_join(alloc: Global, answer: JoinAnswer) -> Due
+    ensures { result ≡ due_of_join answer }
+{
+    match answer {
+        JoinAnswer::Told { text } => Due {
+            status: Status::Complete,
+            text,
+            kept: Seq::new(alloc),
+        },
+        JoinAnswer::TooLate { text } => Due {
+            status: Status::TooLate,
+            text,
+            kept: Seq::new(alloc),
+        },
+    }
+}
+
+/// The answer of `join` to a match: what is told of this mirror and of one that joins late from it
+/// after so many lines of the script. A match without such a mirror is refused at the line that
+/// states its mirrors.
+pub fn join_match(alloc: Global, m: &Match, mirror: MirrorId, lines: u32) -> Result<Due, Stop>
+    ensures { Gives (IsJoined mirror lines m.now) result }
+{
+    if mirror >= m.mirrors {
+        return Err(Stop::Refused(Refused {
+            line: MIRRORS_LINE,
+            cause: Cause::Number,
+        }));
+    }
+    let answer = join(alloc, m, mirror, lines)?;
+    Ok(due_of_join(alloc, answer))
+}
+
+// Whether each of the ticks is one of the match, or its end.
+fn are_within(m: &Match, ticks: &[Tick]) -> bool
+    ensures { result ≡ are_within m.now ticks.now }
+{
+    let length = m.length;
+    ticks.iter().all(|tick| *tick <= length)
+}
+
+/// The answer of `rewind` to a match: its worlds at these ticks, where a world is kept at every so
+/// many ticks and so many of those that were looked up. Where a tick is past its end it is refused
+/// at the line that states its length.
+pub fn rewind_match(
+    alloc: Global,
+    m: &Match,
+    every: Tick,
+    room: u8,
+    ticks: &Ticks,
+) -> Result<Due, Stop>
+    requires { IsKept every room }
+    ensures { Gives (λ due. due ≡ due_of_rewind room ticks.now m.now) result }
+{
+    let ticks = ticks.as_slice();
+    if !are_within(m, ticks) {
+        return Err(Stop::Refused(Refused {
+            line: LENGTH_LINE,
+            cause: Cause::Number,
+        }));
+    }
+    let opening = Arena::start(&m.setup);
+    let text = rewind(alloc, &opening, m, every, usize::from(room), ticks)?;
+    Ok(Due {
+        status: Status::Complete,
+        text,
+        kept: Seq::new(alloc),
+    })
+}
+
+/// The answer of `lossy` to a match and what its net does: what the net's lines and then draining
+/// print, and its mirrors at the end.
+pub fn lossy_match(alloc: Global, x: &LossyText) -> Result<Due, NoMemory>
+    ensures { IfOk result (λ due. due ≡ due_of_lossy x.now) }
+{
+    let opening = Arena::start(&x.game.setup);
+    let LossyAnswer { text, kept } = lossy(alloc, x, &opening)?;
     Ok(Due {
         status: Status::Complete,
         text,

@@ -12,10 +12,10 @@ use tss_io::Seq;
 /// What a run of the program leaves.
 #[derive(Debug, Drop)]
 pub struct Done {
-    /// The exit status, from 0 to 6.
+    /// The exit status, from 0 to 7.
     pub status: u8,
-    /// One log for each mirror, mirror 0 first, at status 0 of `play`, `score` and `soak`, and at
-    /// status 4 where such a text was due; none elsewhere.
+    /// One log for each mirror, mirror 0 first, at status 0 of `play`, `score`, `paint play`,
+    /// `lossy`, `race` and `soak`, and at status 4 where such a text was due; none elsewhere.
     pub kept: Seq<MirrorLog>,
 }
 

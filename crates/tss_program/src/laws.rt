@@ -15,14 +15,17 @@ ghost use Rattle.match_hall.specs.Report.{play_text};
 ghost use Rattle.run_recorder.specs.declared.race_record.RaceRecord.{RaceRecord};
 ghost use Rattle.tss_race.specs.Record.{IsRecordOfRace};
 ghost use Rattle.watch_board.specs.Behaviour.{Behaviour};
-ghost use Rattle.tss_program.specs.declared.subcommand.Subcommand.{Subcommand};
-ghost use Rattle.tss_program.specs.declared.subcommand.Subcommand.TheVariants.{Audit, Soak};
+ghost use Rattle.tss_words.specs.declared.subcommand.Subcommand.{Subcommand};
+ghost use Rattle.tss_words.specs.declared.subcommand.Subcommand.TheVariants.{OfMatch, Audit, Lossy, Soak};
+ghost use Rattle.tss_words.specs.declared.subcommand.MatchTask.TheVariants.{Join};
+ghost use Rattle.lossy_text.specs.Data.{LossyData};
+ghost use Rattle.match_join.specs.Join.{IsTooLate, TellsOfBoth};
 ghost use Rattle.tss_program.specs.declared.due.Due.{Due};
-ghost use Rattle.tss_program.specs.Subcommands.{subcommand_of, most_asked, races};
+ghost use Rattle.tss_words.specs.Subcommands.{subcommand_of, most_asked, races};
 ghost use Rattle.tss_program.specs.declared.status.Status.TheVariants.{Complete};
-ghost use Rattle.tss_program.specs.Due.{IsDue, IsRecordText, IsLegalOne, IsRaced, arena_shown, refusal_due, code, order_text};
+ghost use Rattle.tss_program.specs.Due.{IsDue, IsMatchText, IsRecordText, IsLossyText, IsLegalOne, IsRaced, arena_shown, refusal_due, code, order_text};
 ghost use Rattle.tss_program.specs.Run.{Run, IsRun, IsPut, ReadsAtMost, behind, asked};
-ghost use Rattle.tss_program.specs.Promises.{keeps_logs, PlaysMatch, KeepsLogsOf, KeepsAMatch, KeepsSome, SoaksWhole, AuditsARecord, EndsWith, IsComplete};
+ghost use Rattle.tss_program.specs.Promises.{keeps_logs, PlaysMatch, KeepsLogsOf, KeepsAMatch, KeepsSome, KeepsNet, SoaksWhole, AuditsARecord, EndsWith, IsComplete};
 
 use game_trait::Game;
 
@@ -73,10 +76,12 @@ pub fn races_need_a_pace()
 
 /// Which statuses there are, and the cause of each.
 pub fn statuses_have_causes()
-    ensures at_most_six { (r : Run) → IsRun r → r.status ≤ 6 }
+    ensures at_most_seven { (r : Run) → IsRun r → r.status ≤ 7 }
     ensures wrong_words { (r : Run) → IsRun r → asked r ≡ None → (r.status ≡ 2) ⊎ (r.status ≡ 4) }
     ensures only_wrong_words { (r : Run) → IsRun r → r.status ≡ 2 → asked r ≡ None }
     ensures only_audited { (r : Run) → IsRun r → r.status ≡ 6 → asked r ≡ Some Audit }
+    ensures only_joined { (r : Run) → IsRun r → r.status ≡ 7
+        → (number : ℕ) × (lines : ℕ) × (asked r ≡ Some (OfMatch (Join number lines))) }
     ensures read_fault { (r : Run) → IsRun r → r.status ≡ 3
         → Rose r.source_old.faults r.source_new.faults }
     ensures write_fault { (r : Run) → IsRun r → r.status ≡ 4
@@ -87,10 +92,11 @@ pub fn statuses_have_causes()
         → (r.status ≡ 4) ⊎ (r.sink_new.faults ≡ r.sink_old.faults) }
 {}
 
-/// What was read and written: at status 0, 5 and 6 the input up to its end, or to one byte past the
+/// What was read and written: at status 0, 5, 6 and 7 the input up to its end, or to one byte past the
 /// limit of what the words ask to read; at status 1 and 3 nothing was written.
 pub fn runs_read_and_write()
-    ensures read { (r : Run) → IsRun r → (r.status ≡ 0) ⊎ (r.status ≡ 5) ⊎ (r.status ≡ 6)
+    ensures read { (r : Run) → IsRun r
+        → (r.status ≡ 0) ⊎ (r.status ≡ 5) ⊎ (r.status ≡ 6) ⊎ (r.status ≡ 7)
         → r.source_new.left ≡ behind (most_asked (asked r)) r.source_old.left }
     ensures most { (r : Run) → IsRun r
         → ReadsAtMost (most_asked (asked r)) r.source_old r.source_new }
@@ -109,7 +115,7 @@ pub fn runs_keep_what_is_played()
         → (r.status ≡ 0) ⊎ (r.status ≡ 4) → KeepsLogsOf s m r.kept }
     ensures nothing { (r : Run) → IsRun r
         → (r.status ≡ 1) ⊎ (r.status ≡ 2) ⊎ (r.status ≡ 3) ⊎ (r.status ≡ 5) ⊎ (r.status ≡ 6)
-        → r.kept ≡ [] }
+        ⊎ (r.status ≡ 7) → r.kept ≡ [] }
     ensures only_playing { (r : Run) → IsRun r
         → ((s : Subcommand) → asked r ≡ Some s → keeps_logs s ≡ true → ⊥) → r.kept ≡ [] }
 {}
@@ -118,6 +124,28 @@ pub fn runs_keep_what_is_played()
 pub fn soaks_are_whole()
     ensures { (r : Run) (number : ℕ) → IsRun r → asked r ≡ Some (Soak number) → r.status ≡ 0
         → SoaksWhole number r.sink_old.bytes r.sink_new.bytes r.kept }
+{}
+
+/// A mirror that joins late: at status 7 no tick was left for it, and at status 0 what was put
+/// tells of the mirror and of it, and whether their last worlds are one.
+pub fn joins_tell_of_both()
+    ensures too_late { (r : Run) (input : List ℕ) (m : MatchData) (number lines : ℕ) → IsRun r
+        → asked r ≡ Some (OfMatch (Join number lines)) → r.source_old.left ≡ Some input
+        → IsMatchText m input → r.status ≡ 7 → IsTooLate (opening_world m.layout) m number lines }
+    ensures told { (r : Run) (input : List ℕ) (m : MatchData) (number lines : ℕ) → IsRun r
+        → asked r ≡ Some (OfMatch (Join number lines)) → r.source_old.left ≡ Some input
+        → IsMatchText m input → r.status ≡ 0 → (text : List ℕ)
+        × TellsOfBoth (arena_shown m) (opening_world m.layout) m number lines text
+        × Gains r.sink_old.bytes text r.sink_new.bytes }
+{}
+
+/// A lossy net loses nothing: whatever its lines, the logs that are kept are those of mirrors each
+/// of which has every issued command once, accepted or turned away, and where it turned none away
+/// all of whose copies are at the time-ordered execution of what was issued.
+pub fn nets_lose_nothing()
+    ensures { (r : Run) (input : List ℕ) (x : LossyData) → IsRun r → asked r ≡ Some Lossy
+        → r.source_old.left ≡ Some input → IsLossyText x input
+        → (r.status ≡ 0) ⊎ (r.status ≡ 4) → KeepsNet x r.kept }
 {}
 
 /// An audit's status, where it is 0 or 6, says whether the record that was read is legal.

@@ -11,7 +11,6 @@ mod plain;
 mod race;
 mod status;
 mod stop;
-mod subcommand;
 mod watched;
 
 pub use arguments::words_behind;
@@ -21,5 +20,4 @@ pub use plain::run_plain;
 pub use race::{asks_race, run};
 pub use status::Status;
 pub use stop::Stop;
-pub use subcommand::{MatchTask, Subcommand};
 pub use watched::run_watched;

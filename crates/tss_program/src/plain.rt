@@ -2,7 +2,7 @@
 
 ghost use Rattle.std.specs.Prelude.{◌≡◌, map, false};
 ghost use Rattle.std.specs.String.{string_bytes};
-ghost use Rattle.tss_program.specs.Subcommands.{subcommand_of, most_asked, races};
+ghost use Rattle.tss_words.specs.Subcommands.{subcommand_of, most_asked, races};
 ghost use Rattle.tss_program.specs.Run.{seen, taken, IsPut, IsStopped, IsEnded, IsRun};
 
 use crate::asked::answer_words;
@@ -66,7 +66,7 @@ pub(crate) fn ended<K: Sink>(alloc: Global, sink: &mut K, answer: Result<Due, St
 
 /// Runs the program on the words behind its name, which are other than the one word `race`. It
 /// reads the source where they ask for a subcommand that reads, and puts what is due to the sink:
-/// the whole of it at status 0, 2, 5 or 6, a proper front of it at status 4, and nothing at status
+/// the whole of it at status 0, 2, 5, 6 or 7, a proper front of it at status 4, and nothing at status
 /// 1 or 3. The watchers are told where the words are `score`, and else they are dropped as they
 /// are.
 pub fn run_plain<S: Source, K: Sink>(

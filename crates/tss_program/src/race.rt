@@ -2,9 +2,9 @@
 
 ghost use Rattle.std.specs.Prelude.{◌≡◌, [], map, Some};
 ghost use Rattle.std.specs.String.{string_bytes};
-ghost use Rattle.tss_program.specs.Subcommands.{subcommand_of, most_asked, most_read, races};
-ghost use Rattle.tss_program.specs.declared.subcommand.MatchTask.TheVariants.{Race};
-ghost use Rattle.tss_program.specs.declared.subcommand.Subcommand.TheVariants.{OfMatch};
+ghost use Rattle.tss_words.specs.Subcommands.{subcommand_of, most_asked, most_read, races};
+ghost use Rattle.tss_words.specs.declared.subcommand.MatchTask.TheVariants.{Race};
+ghost use Rattle.tss_words.specs.declared.subcommand.Subcommand.TheVariants.{OfMatch};
 ghost use Rattle.tss_program.specs.Due.{IsRaced};
 ghost use Rattle.tss_program.specs.Run.{seen, taken, Answers, Gives, ReadsAtMost, IsRun};
 
@@ -14,7 +14,6 @@ use crate::due::Due;
 use crate::plain::{ended, run_plain};
 use crate::status::Status;
 use crate::stop::Stop;
-use crate::subcommand::{MatchTask, Subcommand};
 use arena_rules::Arena;
 use copy_workers::Gate;
 use match_file::{Cause, Match, Refused};
@@ -23,6 +22,7 @@ use std::sync::Wait;
 use std::thread::Threads;
 use tss_io::{Sink, Source};
 use tss_race::{Raced, race_match};
+use tss_words::{MatchTask, Subcommand};
 use watch_board::Watcher;
 
 // The line of a match text that states the pace.
@@ -33,7 +33,7 @@ pub fn asks_race(words: &[String]) -> bool
     ensures { result ≡ races (subcommand_of (map string_bytes words.now)) }
 {
     match Subcommand::of(words) {
-        Some(Subcommand::OfMatch(task)) => task == MatchTask::Race,
+        Some(Subcommand::OfMatch(MatchTask::Race)) => true,
         _ => false,
     }
 }

@@ -17,4 +17,6 @@ pub enum Status {
     Refusal = 5,
     /// The record isn't legal, and the line that says so was written.
     NotLegal = 6,
+    /// No tick was left for a mirror that joins late, and the line that says so was written.
+    TooLate = 7,
 }

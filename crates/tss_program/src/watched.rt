@@ -4,19 +4,19 @@ ghost use Rattle.std.specs.Prelude.{◌≡◌, ◌≢◌, List, [], ◌∷◌, N
 ghost use Rattle.std.specs.String.{string_bytes};
 ghost use Rattle.watch_board.specs.Behaviour.{Behaviour};
 ghost use Rattle.watch_board.specs.Watchers.{repair_count, late_count, first_repair};
-ghost use Rattle.tss_program.specs.Subcommands.{subcommand_of, most_asked};
+ghost use Rattle.tss_words.specs.Subcommands.{subcommand_of, most_asked};
 ghost use Rattle.tss_program.specs.Run.{Seen, seen, taken, Answers, IsRun};
 
 use crate::done::Done;
 use crate::plain::ended;
 use crate::race::run;
 use crate::stop::Stop;
-use crate::subcommand::Subcommand;
 use copy_workers::Gate;
 use std::alloc::Global;
 use std::sync::Wait;
 use std::thread::Threads;
 use tss_io::{NoMemory, Sink, Source};
+use tss_words::Subcommand;
 use watch_board::{FirstRepair, LateCount, RepairCount, Watcher};
 
 // Why a run has no answer for which memory ran out before it began: words that ask for nothing are

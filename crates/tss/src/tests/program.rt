@@ -2,10 +2,14 @@
 
 use crate::tests::lines::{assert_lines, joined, push_events};
 use crate::tests::tables::audits::{AUDITED, AUDITS};
+use crate::tests::tables::games::PAINTS;
+use crate::tests::tables::joins::JOINS;
 use crate::tests::tables::lifts::LIFTS;
+use crate::tests::tables::nets::NETS;
 use crate::tests::tables::orders::{ORDERED, ORDERS};
 use crate::tests::tables::plays::{LONG_DRAIN, PLAYED, PLAYS};
 use crate::tests::tables::refusals::{FAULTY_RECORDS, REFUSALS, REFUSED, TORN};
+use crate::tests::tables::rewinds::REWINDS;
 use crate::tests::tables::words::{USED_WRONG, WORDS};
 use copy_workers::OpenGate;
 use std::alloc::Global;
@@ -168,6 +172,34 @@ fn matches_are_lifted(rt: HostRuntime) {
 #[test]
 fn matches_are_played(rt: HostRuntime) {
     for row in &PLAYS {
+        assert_row(&rt, rt.alloc(), row);
+    }
+}
+
+#[test]
+fn matches_are_painted(rt: HostRuntime) {
+    for row in &PAINTS {
+        assert_row(&rt, rt.alloc(), row);
+    }
+}
+
+#[test]
+fn mirrors_join_late(rt: HostRuntime) {
+    for row in &JOINS {
+        assert_row(&rt, rt.alloc(), row);
+    }
+}
+
+#[test]
+fn matches_are_looked_at(rt: HostRuntime) {
+    for row in &REWINDS {
+        assert_row(&rt, rt.alloc(), row);
+    }
+}
+
+#[test]
+fn nets_lose_and_repeat(rt: HostRuntime) {
+    for row in &NETS {
         assert_row(&rt, rt.alloc(), row);
     }
 }

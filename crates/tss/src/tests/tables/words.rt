@@ -10,7 +10,7 @@ pub const USED_WRONG: Row = Row {
     front: OPENING,
     rest: "",
     status: 2,
-    written: "usage: tss order|play|race|audit|score|lift|soak N\n",
+    written: "usage: tss order|play|race|audit|score|lift|soak N|paint order|paint play|lossy|join M K|rewind E C T ...\n",
     logs: 0,
     kept: "",
 };
@@ -31,7 +31,7 @@ pub const SCORED: Row = Row {
 };
 
 // Wrong words, for which no byte is read, and scores with what the watchers say.
-pub const WORDS: [Row; 16] = [
+pub const WORDS: [Row; 35] = [
     USED_WRONG,
     Row {
         name: "play extra",
@@ -84,8 +84,106 @@ pub const WORDS: [Row; 16] = [
         ..USED_WRONG
     },
     Row {
-        name: "paint order",
-        words: &["paint", "order"],
+        name: "paint",
+        words: &["paint"],
+        ..USED_WRONG
+    },
+    Row {
+        name: "paint race",
+        words: &["paint", "race"],
+        ..USED_WRONG
+    },
+    Row {
+        name: "paint order more",
+        words: &["paint", "order", "more"],
+        ..USED_WRONG
+    },
+    Row {
+        name: "Paint order",
+        words: &["Paint", "order"],
+        ..USED_WRONG
+    },
+    Row {
+        name: "lossy 0",
+        words: &["lossy", "0"],
+        ..USED_WRONG
+    },
+    Row {
+        name: "join",
+        words: &["join"],
+        ..USED_WRONG
+    },
+    Row {
+        name: "join 0",
+        words: &["join", "0"],
+        ..USED_WRONG
+    },
+    Row {
+        name: "join 8 0",
+        words: &["join", "8", "0"],
+        ..USED_WRONG
+    },
+    Row {
+        name: "join 0 262145",
+        words: &["join", "0", "262145"],
+        ..USED_WRONG
+    },
+    Row {
+        name: "join 00 0",
+        words: &["join", "00", "0"],
+        ..USED_WRONG
+    },
+    Row {
+        name: "join 0 0 0",
+        words: &["join", "0", "0", "0"],
+        ..USED_WRONG
+    },
+    Row {
+        name: "rewind",
+        words: &["rewind"],
+        ..USED_WRONG
+    },
+    Row {
+        name: "rewind 1 1",
+        words: &["rewind", "1", "1"],
+        ..USED_WRONG
+    },
+    Row {
+        name: "rewind 0 1 0",
+        words: &["rewind", "0", "1", "0"],
+        ..USED_WRONG
+    },
+    Row {
+        name: "rewind 8193 1 0",
+        words: &["rewind", "8193", "1", "0"],
+        ..USED_WRONG
+    },
+    Row {
+        name: "rewind 1 65 0",
+        words: &["rewind", "1", "65", "0"],
+        ..USED_WRONG
+    },
+    Row {
+        name: "rewind 1 0 0",
+        words: &["rewind", "1", "0", "0"],
+        ..USED_WRONG
+    },
+    Row {
+        name: "rewind 1 1 8193",
+        words: &["rewind", "1", "1", "8193"],
+        ..USED_WRONG
+    },
+    Row {
+        name: "rewind 1 1 0 01",
+        words: &["rewind", "1", "1", "0", "01"],
+        ..USED_WRONG
+    },
+    Row {
+        name: "rewind with seventeen ticks",
+        words: &[
+            "rewind", "1", "1", "0", "0", "0", "0", "0", "0", "0", "0", "0", "0", "0", "0", "0",
+            "0", "0", "0", "0",
+        ],
         ..USED_WRONG
     },
     Row {

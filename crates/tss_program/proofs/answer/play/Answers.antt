@@ -15,6 +15,6 @@ returns g c =
     complete-due _ _ _ _
     (c.of.ensures
     ∙ play-parts _ c.args.opening.now m _ _ _ _ _ _ _ _ opened made drained c.new-text.ensures.items c.in_ok-play.ensures.text c.in_ok-drain.ensures.text
-    (rw (← c.m.view_is) c.in_ok-show.ensures) c.in_ok-done_line.ensures.ok)
+    (rw (← c.m.view_is) c.in_ok-show.ensures.ok) c.in_ok-done_line.ensures.ok)
     (c.in_ok-kept.ensures
     ∙ ap (logs_from 0) (drained ∙ ap (λ (ss : List (MirrorState _)). map (λ s. drain s) ss) (made ∙ ap (λ (ss : List (MirrorState _)). after_script m.commands ss m.script) opened)))

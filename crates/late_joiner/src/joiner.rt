@@ -1,0 +1,270 @@
+//! A mirror that joins a match late.
+
+ghost use Rattle.std.specs.Prelude.{◌≡◌, ◌↔◌, ◌⊎◌, ◌+◌, ◌<◌, ◌≤◌, true, false, IfOk, IfErr, length, slice_index_or};
+ghost use Rattle.std.specs.List.{AllByRecursion, list_any};
+ghost use Rattle.game_trait.specs.Keys.{same_name};
+ghost use Rattle.std.specs.Prelude.{Err};
+ghost use Rattle.game_trait.specs.Ordered.{time_ordered};
+ghost use Rattle.sync_model.specs.Change.{said};
+ghost use Rattle.sync_model.specs.Drafts.{run_of};
+ghost use Rattle.sync_model.specs.History.{repairs as repairs_of};
+ghost use Rattle.sync_model.specs.Schedule.{copies_of_first, ticks_of_first};
+ghost use Rattle.sync_model.specs.Turns.{is_drained, drain_bound};
+ghost use Rattle.late_joiner.specs.declared.joined.JoinFault.TheVariants.{TooLate};
+ghost use Rattle.late_joiner.specs.Snapshot.{IsSnapshot};
+ghost use Rattle.late_joiner.specs.Joiner.{opened, full_length, accepted_at, all_accepted, joined, told_from, joiner_next, world_of_run, IsShort};
+
+use crate::handed::Snapshot;
+use crate::joined::{JoinFault, Joined};
+use crate::opening::open;
+use crate::shifted::Shifted;
+use game_trait::limits::{MOST_PLANS, MOST_ROOM};
+use game_trait::{Arrived, Command, CommandList, Event, Game, Reply, Stepped, Tick, Ticked};
+use mirror_core::Mirror;
+use stagger_clock::Stagger;
+use std::alloc::Global;
+use std::marker::Model;
+use tss_io::NoMemory;
+
+/// A mirror that joins a match late, opened from another mirror's snapshot (this project's own).
+/// It has a mirror of its own over the remaining ticks. Contracts see that mirror's state, whose
+/// times and clocks are counted from the snapshot's clock, the start, beside what had passed by
+/// then. Only `new` takes memory.
+#[derive(Drop)]
+pub struct Joiner<G: Game> {
+    pub(crate) opening: G,
+    pub(crate) start: Tick,
+    pub(crate) passed: CommandList,
+    pub(crate) inner: Mirror<Shifted<G>>,
+}
+
+impl<G: Game> Model for Joiner<G> {
+    ghost use Rattle.late_joiner.specs.Joiner.{JoinerState, IsJoined, IsInRoom};
+
+    ghost Value = { JoinerState G };
+
+    ghost view = { λ j. record {
+      opening = j.opening;
+      start = j.start;
+      passed = j.passed.items;
+      inner = j.inner;
+    } };
+
+    ghost invariant = { λ j.
+        let state : JoinerState G = record {
+          opening = j.opening;
+          start = j.start;
+          passed = j.passed.items;
+          inner = j.inner;
+        } in
+        IsJoined G.rules state × IsInRoom state };
+}
+
+// The two commands have the same mirror and number.
+#[tactic(auto, unfolding(game_trait::specs::Keys::same_name))]
+fn are_named_alike(x: &Command, y: &Command) -> bool
+    ensures { result ≡ same_name x.now y.now }
+{
+    x.from == y.from && x.number == y.number
+}
+
+// The command is named as one of these.
+fn is_named_among(commands: &[Command], x: &Command) -> bool
+    ensures { result ≡ list_any (same_name x.now) commands.now }
+{
+    for y in commands {
+        if are_named_alike(x, y) {
+            return true;
+        }
+    }
+    false
+}
+
+// An answer of the inner mirror, with its bound counted from the match's start.
+fn told(start: Tick, arrived: Arrived) -> Joined
+    requires { IsShort start arrived }
+    ensures { result ≡ told_from start arrived }
+{
+    match arrived {
+        Arrived::Taken { repaired } => Joined::Taken { repaired },
+        Arrived::Repeat => Joined::Repeat,
+        Arrived::Late { bound } => Joined::Late {
+            bound: start + bound,
+        },
+    }
+}
+
+impl<G: Game> Joiner<G> {
+    /// A mirror that joins the match from a snapshot, with the match's 1 to 8 plans, of as many
+    /// ticks and copies each, and with room for so many arrivals, the snapshot's rest among them,
+    /// and so many changes of the plan, of which it takes one; each at most 1,048,576. It moves to
+    /// the snapshot's plan and accepts all of the rest. Where no tick is left it is TooLate, with
+    /// the snapshot's clock and the match's length. It takes all the memory that the joiner ever
+    /// needs. Want of memory makes nothing.
+    pub fn new(
+        alloc: Global,
+        snap: Snapshot<G>,
+        plans: &[Stagger],
+        room: u32,
+        restaggers: u32,
+    ) -> Result<Joiner<G>, JoinFault>
+        requires some_plan { 0 < length plans.now }
+        requires few_plans { length plans.now ≤ MOST_PLANS }
+        requires equal_ticks { AllByRecursion (λ plan. plan.length ≡ ticks_of_first plans.now)
+            plans.now }
+        requires equal_copies { AllByRecursion
+            (λ plan. length plan.delays ≡ copies_of_first plans.now)
+            plans.now }
+        requires snapshot { IsSnapshot G.rules (ticks_of_first plans.now) (length plans.now) snap }
+        requires rest { length snap.rest ≤ room }
+        requires room { room ≤ MOST_ROOM }
+        requires restaggers { (0 < restaggers) × (restaggers ≤ MOST_ROOM) }
+        ensures too_late { (result ≡ Err (TooLate snap.clock (ticks_of_first plans.now)))
+            ↔ (snap.clock ≡ ticks_of_first plans.now) }
+        ensures fault { IfErr result (λ e. (e ≡ JoinFault.NoMemory)
+            ⊎ (e ≡ TooLate snap.clock (ticks_of_first plans.now))) }
+        ensures opened { IfOk result (λ j. j ≡ opened snap plans.now room restaggers) }
+        ensures rest { IfOk result (λ j. accepted_at j ≡ snap.rest) }
+    {
+        let ticks = plans[0].length();
+        if snap.clock == ticks {
+            return Err(JoinFault::TooLate {
+                clock: snap.clock,
+                length: ticks,
+            });
+        }
+        let joiner = open(alloc, snap, plans, room, restaggers)?;
+        Ok(joiner)
+    }
+
+    /// A command that is due within the match arrives. Where one with the same mirror and number
+    /// had passed or was accepted, the answer is Repeat; where it is older than the snapshot's
+    /// clock, Before, with both; and nothing changes. Where it is older than the last copy's clock
+    /// it is turned away, answered Late with that clock. Else it is accepted, as a mirror accepts
+    /// it, and the answer is Taken, with how many copies were repaired. Taken and Late each use up
+    /// room for one arrival. Clocks are counted from the match's start.
+    pub fn arrive(&mut self, x: &Command) -> Joined
+        requires within_match { x.now.time < full_length self.old }
+        requires room { 0 < self.old.inner.spare }
+        ensures state { self.new ≡ joiner_next self.old (Event.Arrive x.now) }
+        ensures answer { result ≡ joined self.old x.now }
+    {
+        if self.passed.has(x.from, x.number) {
+            return Joined::Repeat;
+        }
+        if x.time < self.start {
+            return self.old_one(x);
+        }
+        self.inner.always();
+        let time = x.time - self.start;
+        let arrived = self.inner.arrive(&Command { time, ..*x });
+        told(self.start, arrived)
+    }
+
+    // The answer to a command that is older than the start and hadn't passed.
+    fn old_one(&self, x: &Command) -> Joined
+        requires unpassed { list_any (same_name x.now) self.now.passed ≡ false }
+        requires old { x.now.time < self.now.start }
+        ensures answer { result ≡ joined self.now x.now }
+        ensures state { self.now ≡ joiner_next self.now (Event.Arrive x.now) }
+    {
+        if is_named_among(self.inner.accepted(), x) {
+            return Joined::Repeat;
+        }
+        Joined::Before {
+            time: x.time,
+            clock: self.start,
+        }
+    }
+
+    /// The clock goes on by one tick, as a mirror's does over the remaining ticks.
+    pub fn tick(&mut self) -> Ticked
+        ensures state { self.new ≡ joiner_next self.old Event.Tick }
+        ensures answer { said self.old.inner Event.Tick ≡ Reply.Tick result }
+    {
+        self.inner.tick()
+    }
+
+    /// The copy, which is there, runs one tick where it may, as a mirror's does.
+    pub fn step(&mut self, copy: u8) -> Stepped
+        requires { copy < length self.old.inner.runs }
+        ensures state { self.new ≡ joiner_next self.old (Event.Step copy) }
+        ensures answer { said self.old.inner (Event.Step copy) ≡ Reply.Step result }
+    {
+        self.inner.step(copy)
+    }
+
+    /// Another plan, which is there, is in force from here on. It uses up room for one change of
+    /// the plan.
+    pub fn restagger(&mut self, plan: u8)
+        requires there { plan < length self.old.inner.plans }
+        requires room { 0 < self.old.inner.plan_spare }
+        ensures state { self.new ≡ joiner_next self.old (Event.Restagger plan) }
+        ensures answer { said self.old.inner (Event.Restagger plan) ≡ Reply.Restaggered }
+    {
+        self.inner.restagger(plan);
+    }
+
+    /// How many more arrivals there is room for.
+    pub fn spare(&self) -> u32
+        ensures { result ≡ self.now.inner.spare }
+    {
+        self.inner.spare()
+    }
+
+    /// How many turns are enough to drain the joiner. A turn is a tick, and then a step of each copy
+    /// from copy 0 on.
+    pub fn turns_to_drain(&self) -> u32
+        ensures { result ≡ drain_bound self.now.inner }
+    {
+        self.inner.turns_to_drain()
+    }
+
+    /// Whether every copy has run the whole match.
+    pub fn drained(&self) -> bool
+        ensures { result ≡ is_drained self.now.inner }
+    {
+        self.inner.drained()
+    }
+
+    /// How many commands were accepted, the snapshot's rest among them.
+    pub fn accepted(&self) -> u32
+        ensures { result ≡ length (accepted_at self.now) }
+    {
+        self.inner.accepted().len() as u32
+    }
+
+    /// How many arrivals were turned away.
+    pub fn turned(&self) -> u32
+        ensures { result ≡ length self.now.inner.turned }
+    {
+        self.inner.turned().len() as u32
+    }
+
+    /// How many copies were repaired, in all.
+    pub fn repairs(&self) -> u64
+        ensures { result ≡ repairs_of self.now.inner }
+    {
+        self.inner.repairs()
+    }
+
+    /// How many copies there are, 1 to 8.
+    pub fn copies(&self) -> u8
+        ensures { result ≡ length self.now.inner.runs }
+    {
+        self.inner.copies()
+    }
+
+    /// The copy's live world. The copy is there. Where every copy has run the whole match, it is
+    /// the time-ordered execution of what had passed and what was accepted, over the whole match.
+    pub fn world(&self, copy: u8) -> &G
+        requires { copy < length self.now.inner.runs }
+        ensures live { result.now ≡ world_of_run G.rules self.now (run_of self.now.inner copy) }
+        ensures at_end { is_drained self.now.inner ≡ true
+            → result.now
+            ≡ time_ordered G.rules self.now.opening (all_accepted self.now) (full_length self.now) }
+    {
+        self.inner.always();
+        self.inner.world(copy).world()
+    }
+}

@@ -1,0 +1,289 @@
+//! The lines behind the match of a lossy text.
+
+ghost use Rattle.std.specs.Prelude.{◌≡◌, ◌≤◌, ◌<◌, ◌+◌, ◌-◌, ◌^◌, [], ◌∷◌, ◌++◌, length, IfOk, OnOk};
+ghost use Rattle.tss_io.specs.Forms.{number_in};
+ghost use Rattle.tss_io.specs.Kinds.{step};
+ghost use Rattle.tss_io.specs.Lines.{lines_of, words_of};
+ghost use Rattle.tss_io.specs.Machines.{take_words, take_by};
+ghost use Rattle.tss_io.specs.Reading.{Answers, GivesLine, Placed};
+ghost use Rattle.tss_io.specs.Runs.{line_step, run_to, stopped};
+ghost use Rattle.match_file.specs.Data.{MatchData, IsMatch};
+ghost use Rattle.lossy_text.specs.Data.{IsLossy};
+ghost use Rattle.lossy_text.specs.Kinds.{is_net_due, is_in_net, is_done, is_event_due, is_end_due, with_line, net_kind, issue_kind, send_kind, carry_kind, ack_kind, hear_kind, turn_kind, net_table, is_last, no_tail};
+
+use crate::net_line::NetLine;
+use game_trait::MirrorId;
+use game_trait::limits::{GREATEST_NET_NUMBER, MOST_NET_LINES};
+use match_file::Match;
+use std::alloc::Global;
+use tss_io::words::{front, last, next_line, number};
+use tss_io::{Cause, LineFault, NoMemory, Seq, check, is_above};
+
+/// How far a lossy text was read behind its match.
+#[derive(Clone, Copy, Debug, PartialEq, Eq)]
+pub enum Stage {
+    /// Up to the match.
+    NetDue,
+    /// Up to a line of the net.
+    InNet,
+    /// Up to its end.
+    Done,
+}
+
+/// What the lines behind the match say, as far as they were read.
+#[derive(Drop)]
+pub struct Tail {
+    /// How far that is.
+    pub stage: Stage,
+    /// How many lines of the net follow.
+    pub left: u32,
+    /// Those that were read.
+    pub lines: Seq<NetLine>,
+}
+
+fn is_net_due(stage: Stage) -> bool
+    ensures { result ≡ is_net_due stage }
+{
+    match stage {
+        Stage::NetDue => true,
+        Stage::InNet => false,
+        Stage::Done => false,
+    }
+}
+
+fn is_in_net(stage: Stage) -> bool
+    ensures { result ≡ is_in_net stage }
+{
+    match stage {
+        Stage::NetDue => false,
+        Stage::InNet => true,
+        Stage::Done => false,
+    }
+}
+
+fn is_done(stage: Stage) -> bool
+    ensures { result ≡ is_done stage }
+{
+    match stage {
+        Stage::NetDue => false,
+        Stage::InNet => false,
+        Stage::Done => true,
+    }
+}
+
+// The mirror that the word names.
+fn mirror_of(game: &Match, word: &[u8]) -> Result<MirrorId, Cause>
+    ensures { Answers (λ x. x) result (number_in 0 (game.now.mirrors - 1) word.now) }
+{
+    Ok(number(0, u32::from(game.mirrors.saturating_sub(1)), word)? as u8)
+}
+
+impl Tail {
+    fn new(alloc: Global) -> Tail
+        ensures { result ≡ no_tail }
+    {
+        Tail {
+            stage: Stage::NetDue,
+            left: 0,
+            lines: Seq::new(alloc),
+        }
+    }
+
+    // Whether a line of the net is due.
+    fn is_event_due(&self) -> bool
+        ensures { result ≡ is_event_due self.now }
+    {
+        is_in_net(self.stage) && self.left > 0
+    }
+
+    // Whether the end is due.
+    fn is_end_due(&self) -> bool
+        ensures { result ≡ is_end_due self.now }
+    {
+        is_in_net(self.stage) && self.left == 0
+    }
+
+    // Appends a line of the net.
+    fn push(&mut self, line: NetLine) -> Result<(), NoMemory>
+        ensures { OnOk result (self.new ≡ with_line self.old line) }
+    {
+        self.lines.push(line)?;
+        self.left = self.left.saturating_sub(1);
+        Ok(())
+    }
+
+    fn take_net(&mut self, words: &[u8]) -> Result<(), LineFault>
+        ensures { GivesLine (λ _. self.new) result (step net_kind self.old (words_of words.now)) }
+    {
+        check(is_net_due(self.stage), Cause::Shape)?;
+        let count = last(words)?;
+        check(!is_above(MOST_NET_LINES as u32, count), Cause::Many)?;
+        let count = number(0, MOST_NET_LINES as u32, count)?;
+        self.stage = Stage::InNet;
+        self.left = count;
+        Ok(())
+    }
+
+    fn take_issue(&mut self, game: &Match, words: &[u8]) -> Result<(), LineFault>
+        ensures { GivesLine (λ _. self.new) result
+            (step (issue_kind game.now) self.old (words_of words.now)) }
+    {
+        check(self.is_event_due(), Cause::Shape)?;
+        let (from, words) = front(words)?;
+        let name = last(words)?;
+        let from = mirror_of(game, from)?;
+        let number = number(0, GREATEST_NET_NUMBER, name)?;
+        check(game.commands.has(from, number), Cause::Name)?;
+        self.push(NetLine::Issue { from, number })?;
+        Ok(())
+    }
+
+    fn take_send(&mut self, game: &Match, words: &[u8]) -> Result<(), LineFault>
+        ensures { GivesLine (λ _. self.new) result
+            (step (send_kind game.now) self.old (words_of words.now)) }
+    {
+        check(self.is_event_due(), Cause::Shape)?;
+        let (from, words) = front(words)?;
+        let (to, words) = front(words)?;
+        let packet = last(words)?;
+        let from = mirror_of(game, from)?;
+        let to = mirror_of(game, to)?;
+        let packet = number(0, GREATEST_NET_NUMBER, packet)?;
+        check(from != to, Cause::Number)?;
+        self.push(NetLine::Send { from, to, packet })?;
+        Ok(())
+    }
+
+    fn take_carry(&mut self, game: &Match, words: &[u8]) -> Result<(), LineFault>
+        ensures { GivesLine (λ _. self.new) result
+            (step (carry_kind game.now) self.old (words_of words.now)) }
+    {
+        check(self.is_event_due(), Cause::Shape)?;
+        let (from, words) = front(words)?;
+        let (to, words) = front(words)?;
+        let packet = last(words)?;
+        let from = mirror_of(game, from)?;
+        let to = mirror_of(game, to)?;
+        let packet = number(0, GREATEST_NET_NUMBER, packet)?;
+        check(from != to, Cause::Number)?;
+        self.push(NetLine::Carry { from, to, packet })?;
+        Ok(())
+    }
+
+    fn take_ack(&mut self, game: &Match, words: &[u8]) -> Result<(), LineFault>
+        ensures { GivesLine (λ _. self.new) result
+            (step (ack_kind game.now) self.old (words_of words.now)) }
+    {
+        check(self.is_event_due(), Cause::Shape)?;
+        let (from, words) = front(words)?;
+        let to = last(words)?;
+        let from = mirror_of(game, from)?;
+        let to = mirror_of(game, to)?;
+        check(from != to, Cause::Number)?;
+        self.push(NetLine::Ack { from, to })?;
+        Ok(())
+    }
+
+    fn take_hear(&mut self, game: &Match, words: &[u8]) -> Result<(), LineFault>
+        ensures { GivesLine (λ _. self.new) result
+            (step (hear_kind game.now) self.old (words_of words.now)) }
+    {
+        check(self.is_event_due(), Cause::Shape)?;
+        let (from, words) = front(words)?;
+        let (to, words) = front(words)?;
+        let count = last(words)?;
+        let from = mirror_of(game, from)?;
+        let to = mirror_of(game, to)?;
+        let count = number(0, GREATEST_NET_NUMBER, count)?;
+        check(from != to, Cause::Number)?;
+        self.push(NetLine::Hear { from, to, count })?;
+        Ok(())
+    }
+
+    fn take_turn(&mut self, game: &Match, words: &[u8]) -> Result<(), LineFault>
+        ensures { GivesLine (λ _. self.new) result
+            (step (turn_kind game.now) self.old (words_of words.now)) }
+    {
+        check(self.is_event_due(), Cause::Shape)?;
+        let mirror = mirror_of(game, last(words)?)?;
+        self.push(NetLine::Turn { mirror })?;
+        Ok(())
+    }
+
+    // A line of the kind that its first word names.
+    #[tactic(auto, unfolding(tss_io::specs::Machines::take_words))]
+    fn take_words(&mut self, game: &Match, word: &[u8], words: &[u8]) -> Result<(), LineFault>
+        ensures { GivesLine (λ _. self.new) result
+            (take_words (net_table game.now).entries self.old word.now (words_of words.now)) }
+    {
+        if word == b"issue".as_slice() {
+            self.take_issue(game, words)
+        } else if word == b"send".as_slice() {
+            self.take_send(game, words)
+        } else if word == b"carry".as_slice() {
+            self.take_carry(game, words)
+        } else if word == b"ack".as_slice() {
+            self.take_ack(game, words)
+        } else if word == b"hear".as_slice() {
+            self.take_hear(game, words)
+        } else if word == b"turn".as_slice() {
+            self.take_turn(game, words)
+        } else if word == b"net".as_slice() {
+            self.take_net(words)
+        } else {
+            Err(LineFault::Refused(Cause::Shape))
+        }
+    }
+
+    // A line behind the match.
+    #[tactic(auto, unfolding(tss_io::specs::Machines::take_by, tss_io::specs::Machines::take_whole))]
+    fn take(&mut self, game: &Match, line: &[u8]) -> Result<(), LineFault>
+        ensures { GivesLine (λ _. self.new) result
+            (take_by (net_table game.now) self.old line.now) }
+    {
+        if line == b"done".as_slice() {
+            check(self.is_end_due(), Cause::Shape)?;
+            self.stage = Stage::Done;
+            return Ok(());
+        }
+        let (word, words) = front(line)?;
+        self.take_words(game, word, words)
+    }
+
+    // The next line, and the text behind it.
+    #[tactic(auto, unfolding(tss_io::specs::Runs::line_step))]
+    fn take_line<'a>(&mut self, game: &Match, text: &'a [u8]) -> Result<&'a [u8], LineFault>
+        ensures read { GivesLine (λ rest. (self.new, lines_of rest.now)) result
+            (line_step (take_by (net_table game.now)) self.old (lines_of text.now)) }
+        ensures shorter { IfOk result (λ rest. length rest.now < length text.now) }
+    {
+        let (line, rest) = next_line(text)?;
+        self.take(game, line)?;
+        Ok(rest)
+    }
+}
+
+/// The lines behind the match, up to the last, and the text behind it. The number of the line that
+/// is read is kept in `line`, which has the first one's.
+pub fn read_tail<'a>(
+    alloc: Global,
+    game: &Match,
+    line: &mut u32,
+    text: &'a [u8],
+) -> Result<(Tail, &'a [u8]), LineFault>
+    requires game { IsMatch game.now }
+    requires counted { line.old + length text.now < 2 ^ 32 }
+    ensures read { Placed (λ x. stopped x.0 line.new (lines_of x.1.now)) line.new result
+        (run_to (take_by (net_table game.now)) is_last line.old no_tail (lines_of text.now)) }
+    // Of the match, these are lines that a text can give.
+    ensures sound { IfOk result
+        (λ x. IsLossy (record { game = game.now; lines = x.0.lines })) }
+{
+    let mut tail = Tail::new(alloc);
+    let mut rest = text;
+    while !is_done(tail.stage) {
+        rest = tail.take_line(game, rest)?;
+        *line += 1;
+    }
+    Ok((tail, rest))
+}

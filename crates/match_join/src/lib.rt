@@ -1,0 +1,13 @@
+//! What `join` tells: a mirror of a match, and one that joins late from its snapshot, along the
+//! match's script. Stands on `late_joiner`, `match_hall`, `report_text`, `match_file`,
+//! `mirror_core`, `arena_rules` and `game_trait`.
+#![tactic(auto)]
+
+mod answer;
+mod ends;
+mod lines;
+mod mirror;
+mod start;
+mod text;
+
+pub use answer::{JoinAnswer, join};

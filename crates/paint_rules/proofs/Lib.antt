@@ -1,0 +1,7 @@
+mod Counts
+mod Steps
+mod Openings
+mod Lines
+mod Computing
+mod Homes
+mod Marks

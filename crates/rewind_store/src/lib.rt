@@ -1,0 +1,10 @@
+//! The world of a match at any tick, from worlds kept at regular ticks and a bounded cache of those
+//! that were looked at. Stands on `match_file` and `game_trait`; the cache is `lru`'s.
+#![tactic(auto)]
+
+mod cache;
+pub mod laws;
+mod store;
+mod ticks;
+
+pub use store::{Looked, MOST_CACHED, Rewind};

@@ -1,0 +1,9 @@
+//! The words behind the program's name: what they ask for, and how much is read for it.
+#![tactic(auto)]
+
+mod asking;
+mod subcommand;
+mod ticks;
+
+pub use subcommand::{MatchTask, Subcommand};
+pub use ticks::{MOST_LOOKS, Ticks};
