@@ -35,14 +35,14 @@ pub const PAINTS: [Row; 8] = [
     },
     Row {
         name: "a shot paints through a player and up to a wall",
-        front: "tss match 1\nlength 2\ngrid 6 2\nmirrors 1\ndelays 0\npace 0\nwall 3 0\n",
+        front: "tss match 1\nlength 2\ngrid 6 2\nmirrors 2\ndelays 0\npace 0\nwall 3 0\n",
         rest: "player ann 0 0 e\nplayer bob 1 0 n\ncmd 0 0 0 0 shoot\ncmd 1 1 0 1 shoot\nend\n",
         written: "order 2\npainter ann 0 0 e 3\npainter bob 1 0 n 0\nrow aaa#..\nrow ......\ndone\n",
         ..PAINTED
     },
     Row {
         name: "a cell changes its owner, and a blocked player paints nothing",
-        front: "tss match 1\nlength 4\ngrid 6 1\nmirrors 1\ndelays 0\npace 0\n",
+        front: "tss match 1\nlength 4\ngrid 6 1\nmirrors 2\ndelays 0\npace 0\n",
         rest: "player ann 0 0 e\nplayer bob 3 0 w\ncmd 0 0 0 0 shoot\ncmd 1 1 0 1 go\n\
             cmd 2 0 1 0 go\ncmd 3 0 2 0 go\nend\n",
         written: "order 4\npainter ann 1 0 e 3\npainter bob 2 0 w 1\nrow aaba..\ndone\n",
