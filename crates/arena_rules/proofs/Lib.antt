@@ -12,8 +12,8 @@ mod Lying
 mod Ready
 mod Numbers
 mod Restings
-mod Worlds
+pub mod Worlds
 mod Lines
-mod Same
+pub mod Same
 mod Computing
 pub mod Telling

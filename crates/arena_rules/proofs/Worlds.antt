@@ -12,9 +12,15 @@ use Rattle.arena_rules.specs.Ground.{Grid, is_open}
 use Rattle.arena_rules.specs.Setup.{Layout, Cell, same_cell, spot_cell, pickup_cell, IsLayout}
 use Rattle.arena_rules.specs.Player.{opening_player, alive, turned_to, place, place_in, same_place, is_held}
 use Rattle.arena_rules.specs.Pickup.{opening_pickup, ready_kind, given, waited}
-use Rattle.arena_rules.specs.Command.{ahead, open_ahead, with_player, by_player, by_live, live_in, live_of, turned, gone, gone_to, arrived, fired, shot_by}
+use Rattle.game_trait.specs.declared.command.Act.{Act}
+use Rattle.game_trait.specs.declared.command.Act.TheVariants.{Go, Left, Right, Shoot, Dash}
+use Rattle.game_trait.specs.declared.command.Command.{Command}
+use Rattle.game_trait.specs.declared.command.Item.{Item}
+use Rattle.game_trait.specs.declared.command.Item.TheVariants.{Cmd, Beat}
+use Rattle.game_trait.specs.Run.{world_of}
+use Rattle.arena_rules.specs.Command.{ahead, open_ahead, with_player, by_player, by_live, live_in, live_of, turned, turned_left, turned_right, gone, gone_to, arrived, fired, shot_by, acted, applied}
 use Rattle.arena_rules.specs.Beat.{flights, returns, shots_flown, dead_returned, pickups_waited, time_risen, beaten}
-use Rattle.arena_rules.specs.World.{World, opening_world, IsBody, IsPlayer, IsShot, AreShots, IsPickup, IsWorld}
+use Rattle.arena_rules.specs.World.{World, opening_world, arena_rules, IsBody, IsPlayer, IsShot, AreShots, IsPickup, IsWorld}
 use Rattle.arena_rules.specs.declared.face.Face.{Face}
 use Rattle.arena_rules.specs.declared.pickup.Kind.{Kind}
 use Rattle.arena_rules.specs.declared.pickup.Pickup.{Pickup}
@@ -177,6 +183,18 @@ pub IsWorld-gone : (world : World) (number : ℕ) → IsWorld world → IsWorld 
 unfolding gone
 IsWorld-gone world number sound = by_player-kept world number _ sound (λ player body there live. gone_to-kept world number player body (open_ahead world.grid body.spot) sound there live (λ spot found. open_spot-open world.grid body.spot.face (ahead body.spot.face (spot_cell body.spot)) spot found))
 
+-- a command
+IsWorld-acted : (world : World) (number : ℕ) (act : Act) → IsWorld world → IsWorld (acted world number act)
+IsWorld-acted world number Go sound = IsWorld-gone world number sound
+IsWorld-acted world number Left sound = IsWorld-turned world number turned_left sound
+IsWorld-acted world number Right sound = IsWorld-turned world number turned_right sound
+IsWorld-acted world number Shoot sound = IsWorld-shot_by world number sound
+IsWorld-acted world number Dash sound = IsWorld-gone (gone world number) number (IsWorld-gone world number sound)
+
+pub IsWorld-applied : (world : World) (x : Command) → IsWorld world → IsWorld (applied world x)
+unfolding applied
+IsWorld-applied world x sound = IsWorld-acted world x.player x.act sound
+
 -- a beat
 shots_flown-kept : (world : World) → IsWorld world → IsWorld (shots_flown world)
 shots_flown-kept world sound =
@@ -213,6 +231,13 @@ IsWorld-beaten world sound =
     let flown = shots_flown-kept world sound in
     let returned = dead_returned-kept (shots_flown world) flown in
     time_risen-kept _ (pickups_waited-kept _ returned)
+
+-- a run
+pub IsWorld-world_of : (run : List Item) (world : World) → IsWorld world → IsWorld (world_of arena_rules world run)
+unfolding world_of
+IsWorld-world_of [] world sound = sound
+IsWorld-world_of (Cmd x ∷ run) world sound = IsWorld-world_of run (applied world x) (IsWorld-applied world x sound)
+IsWorld-world_of (Beat ∷ run) world sound = IsWorld-world_of run (beaten world) (IsWorld-beaten world sound)
 
 -- the four parts of a beat, one by one
 pub beaten_by_parts : (world : World) (players returned_players : List Player) (shots : List Shot) (pickups : List Pickup) (time : ℕ)
