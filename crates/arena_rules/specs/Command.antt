@@ -16,6 +16,7 @@ use Rattle.arena_rules.specs.declared.player.State.{State}
 use Rattle.arena_rules.specs.declared.player.State.TheVariants.{Live, Dead}
 use Rattle.arena_rules.specs.declared.spot.Spot.{Spot}
 use Rattle.game_trait.specs.declared.limits.TheConstants.{MOST_SHOTS}
+use Rattle.arena_rules.specs.declared.limits.TheConstants.{REACH}
 
 -- the facing after a quarter turn to the left
 abbrev pub turned_left : Face → Face
@@ -106,7 +107,7 @@ fired world number player body =
     if (body.ammo == 0) || nat_le MOST_SHOTS (length world.shots) then world else record world {
       players =
           slice_set world.players number (alive player (record body { ammo = body.ammo - 1 }));
-      shots = world.shots ++ record { owner = number; spot = body.spot; left = 8 } ∷ [];
+      shots = world.shots ++ record { owner = number; spot = body.spot; left = REACH } ∷ [];
     }
 
 -- the same where that player is there and live

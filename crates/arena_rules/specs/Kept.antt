@@ -12,6 +12,7 @@ use Rattle.arena_rules.specs.declared.player.Player.{Player}
 use Rattle.arena_rules.specs.declared.player.State.{State}
 use Rattle.arena_rules.specs.declared.player.State.TheVariants.{Live, Dead}
 use Rattle.arena_rules.specs.declared.resting.Resting.{Resting}
+use Rattle.arena_rules.specs.declared.limits.TheConstants.{BEATS_TAKEN}
 
 -- the number of a cell
 abbrev pub cell_number : ℕ → ℕ → ℕ
@@ -37,7 +38,7 @@ seen_at beats resting = record { place = resting.place; wait = resting.until - b
 -- a pickup after someone came to this cell
 abbrev pub emptied_at : ℕ → Cell → Resting → Resting
 emptied_at beats cell resting =
-    if lies_ready cell (seen_at beats resting) then record resting { until = beats + 20 }
+    if lies_ready cell (seen_at beats resting) then record resting { until = beats + BEATS_TAKEN }
     else resting
 
 -- a pickup with the beats counted from now on
@@ -54,5 +55,5 @@ ready_kind_at beats pickups cell =
 pub record AreResting (pickups : List Resting) (numbers : List ℕ) (beats : ℕ) : Type 0 where
   pub count : length pickups ≤ MOST_PICKUPS
   pub front : take (length pickups) numbers ≡ map (λ p. cell_number p.place.x p.place.y) pickups
-  pub waits : All (λ p. p.until - beats ≤ 20) pickups
+  pub waits : All (λ p. p.until - beats ≤ BEATS_TAKEN) pickups
   pub room : beats ≤ 4294967275

@@ -8,6 +8,7 @@ use Rattle.arena_rules.specs.declared.pickup.Pickup.{Pickup}
 use Rattle.arena_rules.specs.declared.pickup.PickupSpot.{PickupSpot}
 use Rattle.arena_rules.specs.declared.player.Body.{Body}
 use Rattle.arena_rules.specs.declared.player.Player.{Player}
+use Rattle.arena_rules.specs.declared.limits.TheConstants.{MOST_HEALTH, MOST_AMMO, AMMO_OF_A_PICKUP, BEATS_TAKEN}
 
 -- a pickup as the match begins: ready
 abbrev pub opening_pickup : PickupSpot → Pickup
@@ -21,9 +22,9 @@ lies_ready cell pickup = same_cell cell (pickup_cell pickup.place) && (pickup.wa
 abbrev pub ready_kind : List Pickup → Cell → Option Kind
 ready_kind pickups cell = option_map (λ p. p.place.kind) (find (lies_ready cell) pickups)
 
--- the pickups after what lies ready in this cell is taken: its wait becomes 20
+-- the pickups after what lies ready in this cell is taken: it waits again
 abbrev pub emptied : Cell → Pickup → Pickup
-emptied cell pickup = if lies_ready cell pickup then record pickup { wait = 20 } else pickup
+emptied cell pickup = if lies_ready cell pickup then record pickup { wait = BEATS_TAKEN } else pickup
 
 -- each of them so
 abbrev pub taken : List Pickup → Cell → List Pickup
@@ -32,8 +33,8 @@ taken pickups cell = map (emptied cell) pickups
 -- a player of this body who takes a pickup of this kind, if there is one
 abbrev pub given : Player → Body → Option Kind → Player
 given player body None = alive player body
-given player body (Some Ammo) = alive player (record body { ammo = min 9 (body.ammo + 4) })
-given player body (Some Heal) = alive player (record body { health = min 3 (body.health + 1) })
+given player body (Some Ammo) = alive player (record body { ammo = min MOST_AMMO (body.ammo + AMMO_OF_A_PICKUP) })
+given player body (Some Heal) = alive player (record body { health = min MOST_HEALTH (body.health + 1) })
 given player body (Some Gold) = alive (with_gain player) body
 
 -- a pickup doesn't wait

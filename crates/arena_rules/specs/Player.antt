@@ -1,5 +1,5 @@
 -- The players of the arena: each has a home and a score, and is live or dead.
-use Rattle.std.specs.Prelude.{ℕ, zero, suc, ◌-◌, ℤ, pos, neg_ℤ, ◌+ℤ◌, ◌-ℤ◌, int_lt, Bool, true, false, ◌==◌, if◌then◌else◌, List, [], ◌∷◌, Option, Some, None, position}
+use Rattle.std.specs.Prelude.{ℕ, zero, suc, ◌-◌, ℤ, pos, ◌+ℤ◌, ◌-ℤ◌, int_lt, Bool, true, false, ◌==◌, if◌then◌else◌, List, [], ◌∷◌, Option, Some, None, position}
 use Rattle.std.specs.List.{list_any}
 use Rattle.arena_rules.specs.Setup.{Cell, same_cell, spot_cell}
 use Rattle.arena_rules.specs.declared.face.Face.{Face}
@@ -8,6 +8,7 @@ use Rattle.arena_rules.specs.declared.player.Body.{Body}
 use Rattle.arena_rules.specs.declared.player.Player.{Player}
 use Rattle.arena_rules.specs.declared.player.State.{State}
 use Rattle.arena_rules.specs.declared.player.State.TheVariants.{Live, Dead}
+use Rattle.arena_rules.specs.declared.limits.TheConstants.{MOST_HEALTH, AMMO_AT_HOME, BEATS_DEAD, GREATEST_SCORE, LEAST_SCORE}
 
 -- a live player with this body
 abbrev pub alive : Player → Body → Player
@@ -17,9 +18,9 @@ alive player body = record player { state = Live body }
 abbrev pub turned_to : Body → Face → Body
 turned_to body face = record body { spot = record body.spot { face = face } }
 
--- who comes home stands there with the home's facing, health 3 and ammunition 5
+-- who comes home stands there with the home's facing, full health and some ammunition
 abbrev pub body_at_home : Spot → Body
-body_at_home home = record { spot = home; health = 3; ammo = 5 }
+body_at_home home = record { spot = home; health = MOST_HEALTH; ammo = AMMO_AT_HOME }
 
 -- a player as the match begins: live at home, with score 0
 abbrev pub opening_player : Spot → Player
@@ -62,10 +63,10 @@ is_live player = is_live_state player.state
 
 -- a score after a gain and after a loss: at its bounds it stands still
 abbrev pub gained : ℤ → ℤ
-gained score = if int_lt score (pos 1000000) then score +ℤ pos 1 else score
+gained score = if int_lt score GREATEST_SCORE then score +ℤ pos 1 else score
 
 abbrev pub lost : ℤ → ℤ
-lost score = if int_lt (neg_ℤ (pos 1000000)) score then score -ℤ pos 1 else score
+lost score = if int_lt LEAST_SCORE score then score -ℤ pos 1 else score
 
 abbrev pub with_gain : Player → Player
 with_gain player = record player { score = gained player.score }
@@ -74,10 +75,10 @@ abbrev pub with_loss : Player → Player
 with_loss player = record player { score = lost player.score }
 
 -- a player whom a shot hits: the health falls by one, and where it is then 0 the player is dead
--- with wait 10
+-- and waits
 abbrev pub struck_state : State → State
 struck_state (Live body) = let health = body.health - 1 in
-    if health == 0 then Dead 10 else Live (record body { health = health })
+    if health == 0 then Dead BEATS_DEAD else Live (record body { health = health })
 struck_state (Dead wait) = Dead wait
 
 abbrev pub struck : Player → Player

@@ -1,5 +1,5 @@
 -- The worlds of the arena, and its rules.
-use Rattle.std.specs.Prelude.{◌≡◌, ℕ, ◌≤◌, ◌<◌, ◌^◌, pos, neg_ℤ, ◌≤ℤ◌, true, List, [], map, length, All}
+use Rattle.std.specs.Prelude.{◌≡◌, ℕ, ◌≤◌, ◌<◌, ◌^◌, ◌≤ℤ◌, true, List, [], map, length, All}
 use Rattle.std.specs.List.{IsDistinct}
 use Rattle.game_trait.specs.Game.{Rules}
 use Rattle.arena_rules.specs.Ground.{Grid, IsGrid, is_open}
@@ -16,6 +16,7 @@ use Rattle.arena_rules.specs.declared.player.State.TheVariants.{Live, Dead}
 use Rattle.arena_rules.specs.declared.shot.Shot.{Shot}
 pub use Rattle.arena_rules.specs.Scene.{World}
 use Rattle.game_trait.specs.declared.limits.TheConstants.{MOST_PLAYERS, MOST_SHOTS, MOST_PICKUPS}
+use Rattle.arena_rules.specs.declared.limits.TheConstants.{MOST_HEALTH, MOST_AMMO, REACH, BEATS_DEAD, BEATS_TAKEN, GREATEST_SCORE, LEAST_SCORE}
 
 -- the world as the match begins: every player is live at home, no shot flies, every pickup lies
 -- ready, and the time is 0
@@ -35,18 +36,18 @@ arena_rules = record { apply = applied; beat = beaten }
 -- a live player stands in the grid and on no wall, and has numbers in their ranges
 pub record IsBody (grid : Grid) (body : Body) : Type 0 where
   pub free : is_open grid body.spot.x body.spot.y ≡ true
-  pub health : (1 ≤ body.health) × (body.health ≤ 3)
-  pub ammo : body.ammo ≤ 9
+  pub health : (1 ≤ body.health) × (body.health ≤ MOST_HEALTH)
+  pub ammo : body.ammo ≤ MOST_AMMO
 
--- a player is live and such, or waits for at most 10 beats
+-- a player is live and such, or waits for so many beats at most
 abbrev pub IsState : Grid → State → Type 0
 IsState grid (Live body) = IsBody grid body
-IsState grid (Dead wait) = wait ≤ 10
+IsState grid (Dead wait) = wait ≤ BEATS_DEAD
 
 -- a player of a world: the home too is in the grid and on no wall
 pub record IsPlayer (grid : Grid) (player : Player) : Type 0 where
   pub home : is_open grid player.home.x player.home.y ≡ true
-  pub score : (neg_ℤ (pos 1000000) ≤ℤ player.score) × (player.score ≤ℤ pos 1000000)
+  pub score : (LEAST_SCORE ≤ℤ player.score) × (player.score ≤ℤ GREATEST_SCORE)
   pub state : IsState grid player.state
 
 -- the players of a world: no two live ones share a cell
@@ -56,21 +57,22 @@ pub record ArePlayers (grid : Grid) (players : List Player) : Type 0 where
   pub apart : IsDistinct same_place (map place players)
 
 -- a shot of a world of so many players: its owner is there, it is in the grid and on no wall, and
--- has 1 to 8 cells left
+-- has 1 cell left or more
 pub record IsShot (grid : Grid) (players : ℕ) (shot : Shot) : Type 0 where
   pub owner : shot.owner < players
   pub free : is_open grid shot.spot.x shot.spot.y ≡ true
-  pub left : (1 ≤ shot.left) × (shot.left ≤ 8)
+  pub left : (1 ≤ shot.left) × (shot.left ≤ REACH)
 
 -- the shots of a world
 pub record AreShots (grid : Grid) (players : ℕ) (shots : List Shot) : Type 0 where
   pub count : length shots ≤ MOST_SHOTS
   pub each : All (IsShot grid players) shots
 
--- a pickup of a world: it lies in the grid and on no wall, and waits for at most 20 beats
+-- a pickup of a world: it lies in the grid and on no wall, and waits for so many beats
+-- at most
 pub record IsPickup (grid : Grid) (pickup : Pickup) : Type 0 where
   pub free : is_open grid pickup.place.x pickup.place.y ≡ true
-  pub wait : pickup.wait ≤ 20
+  pub wait : pickup.wait ≤ BEATS_TAKEN
 
 -- the pickups of a world: no two share a cell
 pub record ArePickups (grid : Grid) (pickups : List Pickup) : Type 0 where

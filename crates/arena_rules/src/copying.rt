@@ -17,3 +17,12 @@ pub fn copy_into<T: Copy + Default, const N: usize>(place: &mut ArrayVec<T, N>, 
     place.clear();
     place.try_extend_from_slice(items).unwrap();
 }
+
+/// A list with the same items.
+pub fn copied<T: Copy + Default, const N: usize>(list: &ArrayVec<T, N>) -> ArrayVec<T, N>
+    ensures { result.items ≡ list.now.items }
+{
+    let mut copy = ArrayVec::new();
+    copy_into(&mut copy, list);
+    copy
+}

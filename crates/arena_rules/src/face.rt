@@ -19,7 +19,8 @@ pub enum Face {
 }
 
 impl Face {
-    pub(crate) fn turned_left(self) -> Face
+    /// The facing after a quarter turn to the left.
+    pub fn turned_left(self) -> Face
         ensures { result ≡ turned_left self }
     {
         match self {
@@ -30,7 +31,8 @@ impl Face {
         }
     }
 
-    pub(crate) fn turned_right(self) -> Face
+    /// The facing after a quarter turn to the right.
+    pub fn turned_right(self) -> Face
         ensures { result ≡ turned_right self }
     {
         match self {

@@ -1,6 +1,6 @@
 //! The ground: a grid with walls.
 
-ghost use Rattle.std.specs.Prelude.{◌≡◌, ℕ, ◌≤◌, ◌<◌, ◌↔◌, ◌⊎◌, ◌&&◌, not, pos, int_lt};
+ghost use Rattle.std.specs.Prelude.{◌≡◌, ℕ, ◌≤◌, ◌<◌, ◌↔◌, ◌⊎◌, ◌&&◌, not, pos, int_lt, IfSome};
 ghost use Rattle.game_trait.specs.declared.limits.TheConstants.{NARROWEST_GRID, WIDEST_GRID, TALLEST_GRID};
 ghost use Rattle.arena_rules.specs.Ground.{open_grid, with_wall, is_walled, IsWalled, is_open, is_free, IsGrid};
 ghost use Rattle.arena_rules.specs.Command.{open_spot, open_ahead};
@@ -83,10 +83,11 @@ impl Ground {
         x < self.width && y < self.height && !self.is_walled(x, y)
     }
 
-    // The spot one cell ahead with the same facing, where that is a cell of the grid and not
-    // walled.
-    pub(crate) fn open_ahead(&self, spot: Spot) -> Option<Spot>
-        ensures { result ≡ open_ahead self.now spot }
+    /// The spot one cell ahead with the same facing, where that is a cell of the grid and not
+    /// walled.
+    pub fn open_ahead(&self, spot: Spot) -> Option<Spot>
+        ensures ahead { result ≡ open_ahead self.now spot }
+        ensures within { IfSome result (λ next. (next.x < 64) × (next.y < 64)) }
     {
         let (x, y) = spot.ahead();
         self.open_spot(spot.face, x, y)
@@ -108,7 +109,8 @@ impl Ground {
     // walled.
     #[tactic(auto, unfolding(crate::specs::Ground::is_open))]
     fn open_spot(&self, face: Face, x: i32, y: i32) -> Option<Spot>
-        ensures { result ≡ open_spot self.now face (x, y) }
+        ensures spot { result ≡ open_spot self.now face (x, y) }
+        ensures within { IfSome result (λ spot. (spot.x < 64) × (spot.y < 64)) }
     {
         if !self.has(x, y) {
             return None;

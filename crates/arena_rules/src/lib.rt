@@ -7,6 +7,7 @@ mod block;
 mod copying;
 mod face;
 mod ground;
+pub mod limits;
 mod number;
 mod pickup;
 mod pickups;
@@ -23,6 +24,7 @@ mod spot;
 pub mod worked;
 
 pub use arena::Arena;
+pub use copying::{copied, copy_into};
 pub use face::Face;
 pub use ground::Ground;
 pub use pickup::{Kind, PickupSpot};

@@ -2,6 +2,7 @@
 
 ghost use Rattle.std.specs.Prelude.{◌≡◌, ◌-◌, ◌<◌, ◌≤◌, ◌++◌, [], ◌∷◌, None, false, map, length, All};
 ghost use Rattle.game_trait.specs.declared.limits.TheConstants.{MOST_PICKUPS};
+ghost use Rattle.arena_rules.specs.declared.limits.TheConstants.{BEATS_TAKEN};
 ghost use Rattle.arena_rules.specs.Setup.{spot_cell};
 ghost use Rattle.arena_rules.specs.Pickup.{opening_pickup, ready_kind, taken, waited};
 ghost use Rattle.arena_rules.specs.Kept.{seen_at, emptied_at, counted_anew, ready_kind_at};
@@ -21,7 +22,7 @@ const MOST_BEATS: u32 = 4_294_967_275;
 // The pickups as they are seen after so many beats.
 fn seen_each(pickups: &[Resting], beats: u32) -> ArrayVec<Pickup, MOST_PICKUPS>
     requires count { length pickups.now ≤ MOST_PICKUPS }
-    requires waits { All (λ p. p.until - beats ≤ 20) pickups.now }
+    requires waits { All (λ p. p.until - beats ≤ BEATS_TAKEN) pickups.now }
     ensures { result.items ≡ map (seen_at beats) pickups.now }
 {
     let mut seen = ArrayVec::new();

@@ -9,6 +9,9 @@ ghost use Rattle.arena_rules.specs.Command.{live_of};
 ghost use Rattle.arena_rules.specs.Kept.{place_number};
 
 use crate::face::Face;
+use crate::limits::{
+    AMMO_AT_HOME, AMMO_OF_A_PICKUP, BEATS_DEAD, GREATEST_SCORE, LEAST_SCORE, MOST_AMMO, MOST_HEALTH,
+};
 use crate::number::NOWHERE;
 use crate::pickup::Kind;
 use crate::spot::Spot;
@@ -32,8 +35,8 @@ impl Body {
     {
         Body {
             spot: home,
-            health: 3,
-            ammo: 5,
+            health: MOST_HEALTH,
+            ammo: AMMO_AT_HOME,
         }
     }
 
@@ -172,11 +175,11 @@ impl Player {
         match kind {
             None => self.with_body(body),
             Some(Kind::Ammo) => self.with_body(Body {
-                ammo: body.ammo.saturating_add(4).min(9),
+                ammo: body.ammo.saturating_add(AMMO_OF_A_PICKUP).min(MOST_AMMO),
                 ..body
             }),
             Some(Kind::Heal) => self.with_body(Body {
-                health: body.health.saturating_add(1).min(3),
+                health: body.health.saturating_add(1).min(MOST_HEALTH),
                 ..body
             }),
             Some(Kind::Gold) => self.with_gain().with_body(body),
@@ -192,7 +195,7 @@ impl Player {
         };
         let health = body.health.saturating_sub(1);
         let state = if health == 0 {
-            State::Dead { wait: 10 }
+            State::Dead { wait: BEATS_DEAD }
         } else {
             State::Live(Body { health, ..body })
         };
@@ -203,7 +206,7 @@ impl Player {
     pub fn with_gain(self) -> Player
         ensures { result ≡ with_gain self }
     {
-        let score = if self.score < 1_000_000 {
+        let score = if self.score < GREATEST_SCORE {
             self.score + 1
         } else {
             self.score
@@ -215,7 +218,7 @@ impl Player {
     pub fn with_loss(self) -> Player
         ensures { result ≡ with_loss self }
     {
-        let score = if -1_000_000 < self.score {
+        let score = if LEAST_SCORE < self.score {
             self.score - 1
         } else {
             self.score

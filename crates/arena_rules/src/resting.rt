@@ -1,10 +1,12 @@
 //! A pickup as it is kept.
 
 ghost use Rattle.std.specs.Prelude.{◌≡◌, ◌-◌, ◌≤◌};
+ghost use Rattle.arena_rules.specs.declared.limits.TheConstants.{BEATS_TAKEN};
 ghost use Rattle.arena_rules.specs.Setup.{spot_cell};
 ghost use Rattle.arena_rules.specs.Pickup.{lies_ready};
 ghost use Rattle.arena_rules.specs.Kept.{seen_at, emptied_at, counted_anew};
 
+use crate::limits::BEATS_TAKEN;
 use crate::pickup::{Pickup, PickupSpot};
 use crate::spot::Spot;
 
@@ -26,7 +28,7 @@ impl Resting {
 
     /// How it is seen after so many beats.
     pub fn seen(self, beats: u32) -> Pickup
-        requires { self.until - beats ≤ 20 }
+        requires { self.until - beats ≤ BEATS_TAKEN }
         ensures { result ≡ seen_at beats self }
     {
         Pickup {
@@ -49,7 +51,7 @@ impl Resting {
     {
         if self.lies_ready(spot, beats) {
             Resting {
-                until: beats + 20,
+                until: beats + u32::from(BEATS_TAKEN),
                 ..self
             }
         } else {

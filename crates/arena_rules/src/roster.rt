@@ -77,8 +77,8 @@ impl Roster {
         self.name_at(player as usize)
     }
 
-    // The name of a player as it is printed: a question mark stands for one that isn't there.
-    pub(crate) fn printed_name(&self, player: u8) -> &[u8]
+    /// The name of a player as it is printed: a question mark stands for one that isn't there.
+    pub fn printed_name(&self, player: u8) -> &[u8]
         ensures { result.now ≡ name_of self.now player }
     {
         self.name(player).unwrap_or(b"?".as_slice())

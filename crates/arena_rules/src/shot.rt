@@ -2,10 +2,12 @@
 
 ghost use Rattle.std.specs.Prelude.{◌++◌, OnOk, OnErr, ◌≡◌, ◌≤◌, ◌<◌, All, length};
 ghost use Rattle.game_trait.specs.declared.limits.TheConstants.{MOST_SHOTS};
+ghost use Rattle.arena_rules.specs.declared.limits.TheConstants.{REACH};
 ghost use Rattle.arena_rules.specs.Block.{shot_line};
 ghost use Rattle.arena_rules.specs.Beat.{hit, scored, flying, flown, flights, Flight, Flights};
 
 use crate::ground::Ground;
+use crate::limits::REACH;
 use crate::players::Players;
 use crate::roster::Roster;
 use crate::spot::Spot;
@@ -26,12 +28,12 @@ pub struct Shot {
 impl Shot {
     /// A shot as it is fired.
     pub fn fired(owner: u8, spot: Spot) -> Shot
-        ensures { result ≡ record { owner = owner; spot = spot; left = 8 } }
+        ensures { result ≡ record { owner = owner; spot = spot; left = REACH } }
     {
         Shot {
             owner,
             spot,
-            left: 8,
+            left: REACH,
         }
     }
 

@@ -2,7 +2,6 @@
 
 ghost use Rattle.std.specs.Prelude.{◌≡◌, ◌++◌, ◌<◌, ◌≤◌, length, take, OnOk, OnErr};
 ghost use Rattle.tss_io.specs.Lines.{as_line, lines_text};
-ghost use Rattle.arena_rules.specs.Block.{name_of};
 ghost use Rattle.paint_rules.specs.Owners.{owned};
 ghost use Rattle.paint_rules.specs.Block.{painter_line, painter_lines, owner_byte, cell_byte, row_word, row_line, row_lines};
 
@@ -10,13 +9,6 @@ use crate::cells::Cells;
 use arena_rules::{Ground, Roster, Spot};
 use arrayvec::ArrayVec;
 use tss_io::{NoMemory, Word, push_line};
-
-// The name of a player as it is printed: a question mark stands for one that isn't there.
-fn printed_name(roster: &Roster, player: u8) -> &[u8]
-    ensures { result.now ≡ name_of roster.now player }
-{
-    roster.name(player).unwrap_or(b"?".as_slice())
-}
 
 // Appends the line of a player of this name who owns so many cells. On `NoMemory` `out` is
 // unchanged.
@@ -50,7 +42,7 @@ pub fn push_painters(
 {
     for (number, player) in players.iter().enumerate() {
         let number = number as u8;
-        let name = printed_name(roster, number);
+        let name = roster.printed_name(number);
         push_painter(name, cells.owned(number), *player, out)?;
     }
     Ok(())

@@ -6,8 +6,7 @@ ghost use Rattle.paint_rules.specs.Owners.{owner_of, painted, owned};
 ghost use Rattle.paint_rules.specs.Beat.{wiped};
 
 use crate::cells::{Cells, NOBODY};
-use crate::copying::{copied, copy_into};
-use arena_rules::{Ground, PickupSpot};
+use arena_rules::{Ground, PickupSpot, copied, copy_into};
 use arrayvec::ArrayVec;
 use game_trait::limits::MOST_PICKUPS;
 use std::marker::Model;

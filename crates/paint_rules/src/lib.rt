@@ -5,8 +5,6 @@
 mod block;
 mod board;
 mod cells;
-mod copying;
-mod facing;
 mod paint;
 mod painting;
 mod players;

@@ -13,11 +13,9 @@ ghost use Rattle.paint_rules.specs.Block.{block_of};
 use crate::block::{push_painters, push_rows};
 use crate::board::Board;
 use crate::cells::Cells;
-use crate::copying::{copied, copy_into};
-use crate::facing::{open_ahead, turned_left, turned_right};
 use crate::painting::{paint_ahead, settle};
 use crate::players::{is_held, put};
-use arena_rules::{Ground, Roster, Setup, Shown, Spot};
+use arena_rules::{Ground, Roster, Setup, Shown, Spot, copied, copy_into};
 use arrayvec::ArrayVec;
 use game_trait::limits::MOST_PLAYERS;
 use game_trait::{Act, Command, Game, Tick};
@@ -122,7 +120,7 @@ impl Paint {
         let Some(spot) = self.spot(number) else {
             return;
         };
-        let Some(next) = open_ahead(&self.ground, spot) else {
+        let Some(next) = self.ground.open_ahead(spot) else {
             return;
         };
         if !is_held(&self.players, next) {
@@ -136,7 +134,7 @@ impl Paint {
         ensures turned { self.new ≡ turned self.old number turned_left }
     {
         if let Some(spot) = self.spot(number) {
-            let face = turned_left(spot.face);
+            let face = spot.face.turned_left();
             put(&mut self.players, number, Spot { face, ..spot });
         }
     }
@@ -146,7 +144,7 @@ impl Paint {
         ensures turned { self.new ≡ turned self.old number turned_right }
     {
         if let Some(spot) = self.spot(number) {
-            let face = turned_right(spot.face);
+            let face = spot.face.turned_right();
             put(&mut self.players, number, Spot { face, ..spot });
         }
     }

@@ -6,7 +6,6 @@ ghost use Rattle.paint_rules.specs.Command.{painted_ahead};
 
 use crate::board::Board;
 use crate::cells::Cells;
-use crate::facing::open_ahead;
 use arena_rules::{Ground, Spot};
 
 // How many cells ahead a shot paints.
@@ -33,7 +32,7 @@ pub fn paint_ahead(board: &mut Board, ground: &Ground, number: u8, spot: Spot)
 {
     let mut at = spot;
     for _ in 0..REACH {
-        let Some(next) = open_ahead(ground, at) else {
+        let Some(next) = ground.open_ahead(at) else {
             return;
         };
         board.paint(next.x, next.y, number);
