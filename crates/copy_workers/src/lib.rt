@@ -11,6 +11,7 @@ mod feeder_job;
 mod gate;
 mod hearing;
 mod issues;
+pub mod laws;
 mod post;
 mod rest;
 mod sends;

@@ -2,6 +2,8 @@
 //! `pending_list`.
 #![tactic(auto)]
 
+pub mod laws;
+
 ghost use Rattle.std.specs.Prelude.{◌≡◌, ◌↔◌, ◌+◌, ◌-◌, ◌<◌, ◌≤◌, Option, Some, None, IfSome, true};
 ghost use Rattle.std.specs.Prelude.{length, drop, slice_get};
 ghost use Rattle.game_trait.specs.Ordered.{tick_of};

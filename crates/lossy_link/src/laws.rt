@@ -1,10 +1,21 @@
 //! What a net promises. Each law is the contract of a function without parameters that does
 //! nothing.
 
-ghost use Rattle.std.specs.Prelude.{ℕ, take};
+ghost use Rattle.std.specs.Prelude.{◌≡◌, ◌<◌, ◌≤◌, ◌+◌, ◌++◌, ℕ, List, [], Some, true, length, slice_get, take};
+ghost use Rattle.std.specs.List.{AllByRecursion};
+ghost use Rattle.game_trait.specs.declared.command.Command.{Command};
+ghost use Rattle.game_trait.specs.Count.{times};
+ghost use Rattle.game_trait.specs.Keys.{is_named, NamesDiffer};
+ghost use Rattle.game_trait.specs.Run.{world_of};
+ghost use Rattle.game_trait.specs.Ordered.{time_ordered};
+ghost use Rattle.sync_model.specs.State.{MirrorState};
+ghost use Rattle.match_file.specs.Data.{MatchData};
+ghost use Rattle.match_hall.specs.Headline.{IsPlayed};
 ghost use Rattle.lossy_text.specs.Data.{LossyData, IsLossy};
-ghost use Rattle.lossy_link.specs.Net.{opening_net, after_net, made_net, AreLinked};
-ghost use Rattle.lossy_link.specs.Finish.{ended_net, IsEndedNet};
+ghost use Rattle.lossy_link.specs.Link.{has_flown};
+ghost use Rattle.lossy_link.specs.Links.{NetLinks, link_at};
+ghost use Rattle.lossy_link.specs.Net.{NetState, net_mirror, opening_net, after_net, made_net, AreLinked};
+ghost use Rattle.lossy_link.specs.Finish.{ended_net, is_turned, IsEndedNet};
 
 use game_trait::Game;
 
@@ -24,4 +35,44 @@ pub fn a_net_loses_nothing<G: Game>()
     ensures { (x : LossyData) (opening : G) → IsLossy x
         → IsEndedNet G.rules x opening
         (ended_net x.game.commands (made_net opening x)) }
+{}
+
+/// What links come to: on each between mirrors of the match what was received is the front of what
+/// was sent, no more is known to have been received, and only what was sent or received flies.
+pub fn a_link_receives_a_front()
+    ensures received { (m : MatchData) (n : NetLinks) (from to : ℕ) → AreLinked m n
+        → from < m.mirrors → to < m.mirrors → let l = link_at n.rows from to in
+        ((rest : List Command) × (l.sent ≡ l.received ++ rest)) × (l.acked ≤ length l.received) }
+    ensures packets { (m : MatchData) (n : NetLinks) (from to k : ℕ) → AreLinked m n
+        → from < m.mirrors → to < m.mirrors → let l = link_at n.rows from to in
+        has_flown l.packets k ≡ true → k < length l.sent }
+    ensures counts { (m : MatchData) (n : NetLinks) (from to k : ℕ) → AreLinked m n
+        → from < m.mirrors → to < m.mirrors → let l = link_at n.rows from to in
+        has_flown l.counts k ≡ true → k ≤ length l.received }
+{}
+
+/// What the end of a net comes to: on each link all that was sent was received, no command was
+/// issued twice, and there is a mirror for each number. Each was played, has each issued command
+/// once and no other, accepted or turned away, and where it turned none away all its copies are at
+/// the time-ordered execution of what was issued.
+pub fn an_ended_net_has_received_all<G: Game>()
+    ensures links { (x : LossyData) (opening : G) (n : NetState G) (from to : ℕ)
+        → IsEndedNet G.rules x opening n → from < x.game.mirrors → to < x.game.mirrors
+        → (link_at n.links.rows from to).received ≡ (link_at n.links.rows from to).sent }
+    ensures count { (x : LossyData) (opening : G) (n : NetState G) → IsEndedNet G.rules x opening n
+        → (length n.mirrors ≡ x.game.mirrors) × NamesDiffer n.links.issued }
+    ensures once { (x : LossyData) (opening : G) (n : NetState G) (mirror : ℕ) (s : MirrorState G)
+        (from number : ℕ)
+        → IsEndedNet G.rules x opening n → slice_get n.mirrors mirror ≡ Some s
+        → times (is_named from number) s.accepted + times (is_turned from number) s.turned
+        ≡ times (is_named from number) n.links.issued }
+    ensures worlds { (x : LossyData) (opening : G) (n : NetState G) (mirror : ℕ)
+        (s : MirrorState G)
+        → IsEndedNet G.rules x opening n → slice_get n.mirrors mirror ≡ Some s → s.turned ≡ []
+        → AllByRecursion (λ run. world_of G.rules opening run
+        ≡ time_ordered G.rules opening n.links.issued x.game.length) s.runs }
+    ensures played { (x : LossyData) (opening : G) (n : NetState G) (mirror : ℕ)
+        (s : MirrorState G)
+        → IsEndedNet G.rules x opening n → slice_get n.mirrors mirror ≡ Some s
+        → IsPlayed G.rules x.game (net_mirror opening x.game) s s.history }
 {}

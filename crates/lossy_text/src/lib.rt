@@ -1,6 +1,7 @@
 //! Texts of a match that is played over a lossy net: what the net does, line by line.
 #![tactic(auto)]
 
+pub mod laws;
 mod net_line;
 mod reading;
 mod tail;

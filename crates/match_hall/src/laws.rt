@@ -1,7 +1,7 @@
 //! What the words of a hall's promises come to. Each is the contract of a function without
 //! parameters that does nothing.
 
-ghost use Rattle.std.specs.Prelude.{◌≡◌, ◌↔◌, ◌<◌, ◌++◌, ◌∷◌, ℕ, false, List, take, filter, slice_get, option_map};
+ghost use Rattle.std.specs.Prelude.{◌≡◌, ◌↔◌, ◌<◌, ◌+◌, ◌++◌, ◌∷◌, ℕ, false, List, [], Some, length, take, filter, slice_get, option_map};
 ghost use Rattle.game_trait.specs.declared.command.Command.{Command};
 ghost use Rattle.game_trait.specs.declared.event.Event.{Event};
 ghost use Rattle.game_trait.specs.declared.event.Event.TheVariants.{Arrive};
@@ -9,13 +9,19 @@ ghost use Rattle.game_trait.specs.declared.event.Reply.TheVariants.{Arrive as To
 ghost use Rattle.game_trait.specs.declared.event.Arrived.TheVariants.{Late};
 ghost use Rattle.sync_model.specs.State.{MirrorState, last_clock};
 ghost use Rattle.sync_model.specs.Change.{said, after, is_repeat};
+ghost use Rattle.sync_model.specs.Legal.{IsLegal};
 ghost use Rattle.sync_model.specs.Staggered.{IsStaggered};
+ghost use Rattle.sync_model.specs.Turns.{IsDrained};
+ghost use Rattle.game_trait.specs.Run.{world_of};
+ghost use Rattle.game_trait.specs.Ordered.{time_ordered};
+ghost use Rattle.run_recorder.specs.declared.log.MirrorLog.{MirrorLog};
 ghost use Rattle.match_file.specs.Data.{MatchData, IsMatch};
 ghost use Rattle.match_file.specs.declared.script_line.ScriptLine.{ScriptLine};
-ghost use Rattle.match_hall.specs.Script.{names, after_lines, after_script, played, logs_from};
+ghost use Rattle.match_hall.specs.Script.{names, after_lines, after_script, opening_mirror, played, logs_from};
 ghost use Rattle.match_hall.specs.Report.{Showing, script_text};
 ghost use Rattle.match_hall.specs.Headline.{IsPlayed, AllPlayed};
 ghost use Rattle.match_hall.specs.Few.{IsFew};
+ghost use Rattle.match_hall.specs.Stops.{IsStoppedScript, IsStoppedDrain, IsStoppedDraining};
 ghost use Rattle.std.specs.List.{AllByRecursion};
 
 use game_trait::Game;
@@ -53,6 +59,49 @@ pub fn staggered_after_each_front<G: Game>()
         → IsPlayed G.rules m start end log → log ≡ front ++ rest → IsStaggered (after start front) }
     ensures end { (m : MatchData) (start end : MirrorState G) (log : List Event)
         → IsPlayed G.rules m start end log → IsStaggered end }
+{}
+
+/// What playing comes to at a mirror: its log is its history, legal, and leads to it; it is drained,
+/// and the world of each of its copies is the time-ordered execution of what it accepted.
+pub fn a_played_mirror_is_at_its_log<G: Game>()
+    ensures log { (m : MatchData) (start end : MirrorState G) (log : List Event)
+        → IsPlayed G.rules m start end log → (log ≡ end.history) × (after start log ≡ end) }
+    ensures legal { (m : MatchData) (start end : MirrorState G) (log : List Event)
+        → IsPlayed G.rules m start end log → IsLegal m.commands start log }
+    ensures drained { (m : MatchData) (start end : MirrorState G) (log : List Event)
+        → IsPlayed G.rules m start end log → IsDrained end }
+    ensures worlds { (m : MatchData) (start end : MirrorState G) (log : List Event)
+        → IsPlayed G.rules m start end log
+        → AllByRecursion (λ run. world_of G.rules start.opening run
+        ≡ time_ordered G.rules start.opening end.accepted m.length) end.runs }
+{}
+
+/// Where mirrors were played, of which the first has a number, there is a log of each, which names
+/// it, and each was played from where a mirror of its number opens.
+pub fn each_mirror_was_played<G: Game>()
+    ensures count { (m : MatchData) (opening : G) (number : ℕ) (ends : List (MirrorState G))
+        (logs : List MirrorLog)
+        → AllPlayed G.rules opening m number ends logs → length logs ≡ length ends }
+    ensures each { (m : MatchData) (opening : G) (number place : ℕ) (ends : List (MirrorState G))
+        (logs : List MirrorLog) (end : MirrorState G) (log : MirrorLog)
+        → AllPlayed G.rules opening m number ends logs → slice_get ends place ≡ Some end
+        → slice_get logs place ≡ Some log → (log.mirror ≡ number + place)
+        × IsPlayed G.rules m (opening_mirror opening m (number + place)) end log.events }
+{}
+
+/// A script stops at one of its lines: that one and those in front of it were made, and the text of
+/// those in front was appended. Where there is no line, no turn or no mirror nothing stops.
+pub fn a_script_stops_at_a_line<G: Game>()
+    ensures script { (show : Showing G) (m : MatchData) (old new : List (MirrorState G))
+        (before now : List ℕ) → IsStoppedScript show m old new before now
+        → (front : List ScriptLine) × (line : ScriptLine) × (rest : List ScriptLine)
+        × (m.script ≡ front ++ line ∷ rest)
+        × (new ≡ after_script m.commands old (front ++ line ∷ []))
+        × (now ≡ before ++ script_text show m.commands old front) }
+    ensures drain { (number : ℕ) (old new : MirrorState G) (before now : List ℕ)
+        → IsStoppedDrain number 0 old new before now → ⊥ }
+    ensures draining { (new : List (MirrorState G)) (before now : List ℕ)
+        → IsStoppedDraining [] new before now → ⊥ }
 {}
 
 /// Each arrival in the log of a mirror that was played was answered Late exactly where the command

@@ -5,6 +5,7 @@
 
 mod answer;
 mod ends;
+pub mod laws;
 mod lines;
 mod mirror;
 mod start;

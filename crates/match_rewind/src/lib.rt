@@ -3,5 +3,6 @@
 #![tactic(auto)]
 
 mod answer;
+pub mod laws;
 
 pub use answer::rewind;

@@ -11,6 +11,7 @@
 mod calls;
 mod crossing;
 mod held_mirror;
+pub mod laws;
 mod lock;
 
 pub use calls::{LockCall, LockReply};

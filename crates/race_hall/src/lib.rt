@@ -15,5 +15,8 @@ mod links;
 mod racing;
 mod threads;
 
-pub use laws::{nothing_is_late, race_ends, workers_may_do_nothing};
-pub use racing::{MOST_BUDGET, race, race_with};
+pub use laws::{
+    nothing_is_late, race_ends, raced_mirrors_have_every_command, what_is_left_is_taken,
+    workers_may_do_nothing,
+};
+pub use racing::{MOST_BUDGET, budget_of, race, race_with};

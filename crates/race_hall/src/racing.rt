@@ -1,9 +1,10 @@
 //! The race: a match's mirrors, each with a feeder and a worker for each copy in threads of their
 //! own, and its finish.
 
-ghost use Rattle.std.specs.Prelude.{◌≡◌, ◌+◌, ◌≤◌, ℕ, List, [], map, length, vec_len, vec_capacity};
+ghost use Rattle.std.specs.Prelude.{◌≡◌, ◌+◌, ◌*◌, ◌≤◌, ℕ, List, [], map, length, vec_len, vec_capacity};
 ghost use Rattle.std.specs.Prelude.{IfOk};
 ghost use Rattle.std.specs.List.{AllByRecursion, AllZip};
+ghost use Rattle.sync_model.specs.Schedule.{longest_delay};
 ghost use Rattle.copy_workers.specs.declared.feeder_job.FeederJob.{FeederJob};
 ghost use Rattle.race_hall.specs.Race.{Course};
 ghost use Rattle.race_hall.specs.Finish.{EndsAtFold};
@@ -198,8 +199,18 @@ pub fn race_with<R: Threads + Wait + Sync, G: Game + Send, P: Gate + Sync>(
     Ok(end_race(locks, copies, ends, spaces))
 }
 
+/// How many turns each job of a match's race may make, where it is to do its whole work: 64 for each
+/// tick of a mirror's clock, which ends at the match's length and its longest delay, and 64 more.
+pub fn budget_of(m: &Match) -> u64
+    ensures turns { result ≡ 64 * (m.now.length + longest_delay m.now.delays + 1) }
+    ensures most { result ≤ MOST_BUDGET }
+{
+    let delay = m.delays.as_slice()[m.delays.len() - 1];
+    64 * (u64::from(m.length) + u64::from(delay) + 1)
+}
+
 /// Races a match from this world, as `race_with` does, with all jobs in threads, and with turns
-/// enough for each to do its whole work: 64 for each tick of a mirror's clock.
+/// enough for each to do its whole work, as `budget_of` says.
 pub fn race<R: Threads + Wait + Sync, G: Game + Send, P: Gate + Sync>(
     rt: &R,
     alloc: Global,
@@ -209,7 +220,5 @@ pub fn race<R: Threads + Wait + Sync, G: Game + Send, P: Gate + Sync>(
 ) -> Result<Vec<Mirror<G>>, NoMemory>
     ensures { IfOk result (λ mirrors. AreRaced G.rules m.now opening.now mirrors.items) }
 {
-    let delay = m.delays.as_slice()[m.delays.len() - 1];
-    let budget = 64 * (u64::from(m.length) + u64::from(delay) + 1);
-    race_with(rt, alloc, m, opening, gate, budget, 0)
+    race_with(rt, alloc, m, opening, gate, budget_of(m), 0)
 }

@@ -30,7 +30,7 @@ use Rattle.run_recorder.proofs.ExactKinds.{small_match}
 use Rattle.run_recorder.proofs.TailLaws.{IsTail, no_tail_is, tail_text, record_exact}
 use Rattle.run_recorder.proofs.WrittenLaws.{tail_written}
 
-record_tail : ExactTail record_machine no_tail IsTail (λ m t. tail_text t)
+pub record_tail : ExactTail record_machine no_tail IsTail (λ m t. tail_text t)
 unfolding record_mirrors_text
 record_tail = record {
   exact = λ m is. table_text (record_table m) is_record_last (record_exact m (small_match m is));

@@ -3,6 +3,7 @@
 #![tactic(auto)]
 
 mod block;
+pub mod laws;
 mod log;
 mod printing;
 mod race_record;

@@ -1,10 +1,12 @@
 //! The laws of the match of a number. Each is the contract of a function without parameters that
 //! does nothing.
 
-ghost use Rattle.std.specs.Prelude.{◌≡◌, ◌∷◌, ◌++◌, [], Some, ℕ, ◌<◌, true, List, length, slice_get};
+ghost use Rattle.std.specs.Prelude.{◌≡◌, ◌∷◌, ◌++◌, [], Some, ℕ, ◌<◌, true, false, List, length, slice_get};
+ghost use Rattle.std.specs.List.{AllByRecursion};
 ghost use Rattle.sync_model.specs.State.{MirrorState, opening_state};
 ghost use Rattle.sync_model.specs.Change.{after};
-ghost use Rattle.sync_model.specs.Turns.{drain};
+ghost use Rattle.sync_model.specs.Turns.{IsDrained, drain};
+ghost use Rattle.game_trait.specs.Run.{world_of};
 ghost use Rattle.match_hall.specs.Script.{played};
 ghost use Rattle.match_maker.specs.Generator.{match_of_number};
 ghost use Rattle.game_trait.specs.Ordered.{time_ordered};
@@ -12,7 +14,7 @@ ghost use Rattle.soak.specs.Soak.{all_commands, events_until, IsSoaked};
 ghost use Rattle.soak.specs.Agree.{AreAllAt};
 ghost use Rattle.report_text.specs.Ends.{done_line};
 ghost use Rattle.report_text.specs.Soak.{soak_line, same_line};
-ghost use Rattle.soak.specs.Answer.{IsSoakText, soak_text, whole_lines};
+ghost use Rattle.soak.specs.Answer.{IsSoakText, TellsOf, agreement_text, soak_text, whole_lines};
 
 use arena_rules::Arena;
 use game_trait::Game;
@@ -67,3 +69,24 @@ pub fn the_text_says_that_all_were_accepted()
 {
     each_mirror_takes_every_command::<Arena>();
 }
+
+/// A mirror at the end of the match of a number has accepted 4,096 commands and turned none away, is
+/// drained, and the world of each of its copies is the time-ordered execution of all commands.
+pub fn a_soaked_mirror_has_every_command<G: Game>()
+    ensures { (opening : G) (seed : ℕ) (end : MirrorState G) → IsSoaked G.rules opening seed end
+        → (end.opening ≡ opening) × (length end.accepted ≡ 4096) × (end.turned ≡ [])
+        × IsDrained end
+        × AllByRecursion (λ run. world_of G.rules opening run
+        ≡ time_ordered G.rules opening (all_commands seed) 512) end.runs }
+{}
+
+/// A text that says `same yes` of mirrors is told of those whose copies all have the world, and one
+/// that says `same no` of those of which some copy hasn't.
+pub fn the_text_says_if_copies_agree<G: Game>()
+    ensures yes { (world : G) (number : ℕ) (mirrors : List (MirrorState G)) (text : List ℕ)
+        → TellsOf G.rules world number mirrors text → text ≡ agreement_text number mirrors true
+        → AreAllAt G.rules world mirrors }
+    ensures no { (world : G) (number : ℕ) (mirrors : List (MirrorState G)) (text : List ℕ)
+        → TellsOf G.rules world number mirrors text → text ≡ agreement_text number mirrors false
+        → AreAllAt G.rules world mirrors → ⊥ }
+{}

@@ -4,6 +4,7 @@
 //! here.
 
 ghost use Rattle.std.specs.Prelude.{◌≡◌, ◌↔◌, ℕ, List, [], ◌∷◌, ◌++◌, replicate};
+ghost use Rattle.std.specs.List.{AllByRecursion};
 ghost use Rattle.game_trait.specs.declared.command.Command.{Command};
 ghost use Rattle.game_trait.specs.declared.event.Event.{Event};
 ghost use Rattle.game_trait.specs.declared.event.Event.TheVariants.{Tick, Arrive, Step, Restagger};
@@ -12,9 +13,10 @@ ghost use Rattle.sync_model.specs.State.{MirrorState};
 ghost use Rattle.sync_model.specs.Change.{Fits};
 ghost use Rattle.sync_model.specs.Staggered.{IsStaggered};
 ghost use Rattle.sync_model.specs.WellFormed.{ArePlans, IsWellFormed};
-ghost use Rattle.sync_model.specs.Turns.{IsDrained};
+ghost use Rattle.sync_model.specs.Turns.{IsDrained, SameArrivals, EndsInOrder, drain};
 ghost use Rattle.sync_model.specs.Legal.{IsLegal};
 ghost use Rattle.game_trait.specs.Game.{Rules};
+ghost use Rattle.game_trait.specs.Ordered.{ordered};
 ghost use Rattle.sync_model.specs.Drafts.{ReadyTick, IsDueTick, FitsReady};
 ghost use Rattle.sync_model.specs.Worked.{go_at, one_copy, one_late};
 ghost use Rattle.sync_model.specs.Pinned.{AllHold, AllHoldBut, parts_of_staggered, small_match, unchained, lacking, doubled, strange, hasty, last_too_late, last_unsorted, too_early, past_match, past_clock, past_end, past_delay, third_copy, same_names, never_due, wrong_bound, all_done, last_one_short, first_one_short, third_plan, parts_of_schedule, schedule, nine_delays, parts_of_plans, parts_of_well_formed, parts_of_legal, arrives_twice, step_of_a_third, parts_of_due_tick, parts_of_ready, counting, counted_after, ready};
@@ -133,6 +135,22 @@ pub fn drained_parts<G: Game>()
     ensures last { (o : G) → IsDrained (last_one_short o) → ⊥ }
     ensures first { (o : G) → IsDrained (first_one_short o) → ⊥ }
     ensures past { (o : G) → IsDrained (past_match o) → ⊥ }
+{}
+
+/// Between two states nothing arrived, part by part: nothing was accepted or turned away, the plan is
+/// the same, and so is the room.
+pub fn same_arrivals_parts<G: Game>()
+    ensures parts { (s t : MirrorState G) → SameArrivals s t
+        ↔ ((t.accepted ≡ s.accepted) × (t.turned ≡ s.turned) × (t.plan ≡ s.plan)
+        × (t.spare ≡ s.spare) × (t.plan_spare ≡ s.plan_spare)) }
+{}
+
+/// What draining comes to, part by part: every copy has run the whole match, nothing arrived, and
+/// each run is the ordered part of what was accepted.
+pub fn ends_in_order_parts<G: Game>()
+    ensures parts { (s : MirrorState G) → EndsInOrder s
+        ↔ (IsDrained (drain s) × SameArrivals s (drain s)
+        × AllByRecursion (λ run. run ≡ ordered s.accepted 0 s.length) (drain s).runs) }
 {}
 
 /// An event that fits: the last tick, copy and plan do, and what comes after them doesn't.

@@ -74,7 +74,7 @@ to_end take is_last n s (line l rest) all last h = sym h ∙ rw last refl
 
 -- ---- the first fault, by the checks
 
-stop_checks : {S : Type 0} (take : S → List ℕ → Result S Cause) (checks : S → List ℕ → List (Bool × Cause)) (is_last : S → Bool) (s : S) (lines : Lines)
+pub stop_checks : {S : Type 0} (take : S → List ℕ → Result S Cause) (checks : S → List ℕ → List (Bool × Cause)) (is_last : S → Bool) (s : S) (lines : Lines)
     → ((l : List ℕ) → fault_of (take s l) ≡ first_failing (checks s l)) → stop_at take is_last s lines ≡ first_failing (line_checks checks is_last s lines)
 stop_checks take checks is_last s (torn []) same = elim (is_last s) as (λ b. cond b None (Some End) ≡ cond b None (Some End)) [ true ↦ refl | false ↦ refl ]
 stop_checks take checks is_last s (torn (b ∷ bytes)) same =

@@ -54,7 +54,7 @@ by-due P r n run one three four at f = by-end P r run.ends
     (λ due has is steady kept gains. f due has (sym is ∙ at) kept gains)
 
 -- an input that is told is the one that was read
-told-same : (left : Option (List ℕ)) (input other : List ℕ) → left ≡ Some input → IsInput left other → input ≡ other
+pub told-same : (left : Option (List ℕ)) (input other : List ℕ) → left ≡ Some input → IsInput left other → input ≡ other
 told-same left input other told is = subst (λ (l : Option (List ℕ)). IsInput l other) told is
 
 -- what is due for an input that is told
@@ -130,7 +130,7 @@ run-write_steady r run = by-end ((r.status ≡ 4) ⊎ (r.sink_new.faults ≡ r.s
 
 -- ---- one end
 
-gained-told : (bytes text : List ℕ) (old new : Option (List ℕ)) → old ≡ Some bytes → Gains old text new → new ≡ Some (bytes ++ text)
+pub gained-told : (bytes text : List ℕ) (old new : Option (List ℕ)) → old ≡ Some bytes → Gains old text new → new ≡ Some (bytes ++ text)
 gained-told bytes text old new is gains = by new (subst (λ (o : Option (List ℕ)). Gains o text new) is gains)
   where
     by : (new : Option (List ℕ)) → Gains (Some bytes) text new → new ≡ Some (bytes ++ text)

@@ -1,15 +1,21 @@
 //! What the words of a run's promise come to, so that none can be read more weakly. Each is the
 //! contract of a function without parameters that does nothing.
 
-ghost use Rattle.std.specs.Prelude.{◌≡◌, ◌<◌, ◌≤◌, ◌⊎◌, ◌↔◌, ℕ, true, false, List, [], None, Some, ◌++◌};
+ghost use Rattle.std.specs.Prelude.{◌≡◌, ◌<◌, ◌≤◌, ◌⊎◌, ◌↔◌, ℕ, true, false, Option, List, [], None, Some, ◌++◌, length, take};
 ghost use Rattle.tss_io.specs.Streams.{Rose, Gains};
 ghost use Rattle.tss_io.specs.declared.cause.Cause.TheVariants.{Number};
 ghost use Rattle.game_trait.specs.Ordered.{time_ordered};
 ghost use Rattle.sync_model.specs.State.{MirrorState};
-ghost use Rattle.arena_rules.specs.World.{World, opening_world};
+ghost use Rattle.arena_rules.specs.World.{World, arena_rules, opening_world};
 ghost use Rattle.match_file.specs.Data.{MatchData, IsMatch, lifted};
 ghost use Rattle.match_file.specs.Text.{match_text};
-ghost use Rattle.match_hall.specs.Script.{scripted, played};
+ghost use Rattle.match_hall.specs.Script.{scripted, played, logs_from};
+ghost use Rattle.match_hall.specs.Headline.{AllPlayed};
+ghost use Rattle.race_hall.specs.Raced.{AreRaced};
+ghost use Rattle.run_recorder.specs.declared.log.MirrorLog.{MirrorLog};
+ghost use Rattle.run_recorder.specs.Data.{IsRecord};
+ghost use Rattle.run_recorder.specs.Text.{record_text};
+ghost use Rattle.run_auditor.specs.Audit.{IsLegalRecord};
 ghost use Rattle.report_text.specs.Worlds.{Showing};
 ghost use Rattle.match_hall.specs.Report.{play_text};
 ghost use Rattle.run_recorder.specs.declared.race_record.RaceRecord.{RaceRecord};
@@ -17,7 +23,7 @@ ghost use Rattle.tss_race.specs.Record.{IsRecordOfRace};
 ghost use Rattle.watch_board.specs.Behaviour.{Behaviour};
 ghost use Rattle.tss_words.specs.declared.subcommand.Subcommand.{Subcommand};
 ghost use Rattle.tss_words.specs.declared.subcommand.Subcommand.TheVariants.{OfMatch, Audit, Lossy, Soak};
-ghost use Rattle.tss_words.specs.declared.subcommand.MatchTask.TheVariants.{Join};
+ghost use Rattle.tss_words.specs.declared.subcommand.MatchTask.TheVariants.{Join, Play, Race};
 ghost use Rattle.lossy_text.specs.Data.{LossyData};
 ghost use Rattle.match_join.specs.Join.{IsTooLate, TellsOfBoth};
 ghost use Rattle.tss_program.specs.declared.due.Due.{Due};
@@ -69,9 +75,38 @@ pub fn one_end_without_a_fault()
 pub fn races_need_a_pace()
     ensures refused { (m : MatchData) (due : Due) → m.pace ≡ 0 → IsRaced m due
         → due ≡ refusal_due (record { line = 6; cause = Number }) }
+    ensures due { (watchers : List Behaviour) (words : List (List ℕ)) (m : MatchData) (due : Due)
+        → subcommand_of words ≡ Some (OfMatch Race) → IsMatch m → m.pace ≡ 0
+        → IsDue watchers words (match_text m) due
+        → due ≡ refusal_due (record { line = 6; cause = Number }) }
     ensures raced { (m : MatchData) (due : Due) → 0 < m.pace → IsRaced m due
         → (due.status ≡ Complete) × ((mirrors : List (MirrorState World))
         × IsRecordOfRace (arena_shown m) (opening_world m.layout) m mirrors due.text due.kept) }
+{}
+
+/// A run that is complete ended as is due for some input, which is the one that the source tells:
+/// with the status, with the whole text behind what the sink had taken, and with the logs.
+pub fn a_complete_run_wrote_what_is_due()
+    ensures told { (r : Run) (h : IsComplete r) (input : List ℕ) → r.source_old.left ≡ Some input
+        → h.input ≡ input }
+    ensures due { (r : Run) (h : IsComplete r) → IsDue r.watchers r.words h.input h.due
+        × (r.status ≡ code h.due.status) × (r.kept ≡ h.due.kept) }
+    ensures text { (r : Run) (h : IsComplete r) (bytes : List ℕ) → r.sink_old.bytes ≡ Some bytes
+        → r.sink_new.bytes ≡ Some (bytes ++ h.due.text) }
+{}
+
+/// A run that ends as a text allows that is due wrote nothing and kept nothing, with status 1 or 3,
+/// or wrote the whole text with the due status, or a proper front of it with status 4; then it kept
+/// the due logs.
+pub fn a_run_wrote_all_or_a_front_or_nothing()
+    ensures { (r : Run) (due : Due) (bytes : List ℕ) → EndsWith due r
+        → r.sink_old.bytes ≡ Some bytes
+        → (((r.status ≡ 1) ⊎ (r.status ≡ 3)) × (r.sink_new.bytes ≡ Some bytes) × (r.kept ≡ []))
+        ⊎ ((r.status ≡ code due.status) × (r.sink_new.bytes ≡ Some (bytes ++ due.text))
+        × (r.kept ≡ due.kept))
+        ⊎ ((r.status ≡ 4) × (r.kept ≡ due.kept)
+        × ((n : ℕ) × (n < length due.text)
+        × (r.sink_new.bytes ≡ Some (bytes ++ take n due.text)))) }
 {}
 
 /// Which statuses there are, and the cause of each.
@@ -120,6 +155,27 @@ pub fn runs_keep_what_is_played()
         → ((s : Subcommand) → asked r ≡ Some s → keeps_logs s ≡ true → ⊥) → r.kept ≡ [] }
 {}
 
+/// Logs that are kept are those of what was played or raced for the run's words and the input that
+/// the source tells: of a played match each log is that of its mirror, as playing promises, and of
+/// one that is raced those of the mirrors of a race.
+pub fn kept_logs_are_of_the_match()
+    ensures asked { (r : Run) (h : KeepsSome r) → (asked r ≡ Some h.subcommand)
+        × KeepsAMatch h.subcommand r.source_old.left r.kept }
+    ensures told { (s : Subcommand) (left : Option (List ℕ)) (kept : List MirrorLog)
+        (h : KeepsAMatch s left kept) (input : List ℕ) → left ≡ Some input
+        → (h.input ≡ input) × PlaysMatch s input h.m × KeepsLogsOf s h.m kept }
+    ensures played { (input : List ℕ) (m : MatchData) (kept : List MirrorLog)
+        → PlaysMatch (OfMatch Play) input m → KeepsLogsOf (OfMatch Play) m kept
+        → IsMatch m × (input ≡ match_text m)
+        × AllPlayed arena_rules (opening_world m.layout) m 0 (played (opening_world m.layout) m)
+        kept }
+    ensures raced { (input : List ℕ) (m : MatchData) (kept : List MirrorLog)
+        → PlaysMatch (OfMatch Race) input m → KeepsLogsOf (OfMatch Race) m kept
+        → IsMatch m × (input ≡ match_text m) × (0 < m.pace)
+        × ((mirrors : List (MirrorState World))
+        × AreRaced arena_rules m (opening_world m.layout) mirrors × (kept ≡ logs_from 0 mirrors)) }
+{}
+
 /// A soak that ends with status 0 made, played and told the whole match of its number.
 pub fn soaks_are_whole()
     ensures { (r : Run) (number : ℕ) → IsRun r → asked r ≡ Some (Soak number) → r.status ≡ 0
@@ -155,6 +211,15 @@ pub fn audits_say_if_legal()
     ensures told { (r : Run) (input : List ℕ) (record_read : RaceRecord) → IsRun r
         → asked r ≡ Some Audit → r.source_old.left ≡ Some input → IsRecordText record_read input
         → (r.status ≡ 0) ⊎ (r.status ≡ 6) → (r.status ≡ 0) ↔ IsLegalOne record_read }
+{}
+
+/// An audit that says whether a record is legal says so of the record whose text the source tells:
+/// status 0 comes exactly where each log is legal and each stated world is the block of its copy.
+pub fn an_audit_says_so_of_the_record()
+    ensures says { (left : Option (List ℕ)) (status : ℕ) (h : AuditsARecord left status)
+        → (status ≡ 0) ↔ IsLegalRecord (arena_shown h.r.game) (opening_world h.r.game.layout) h.r }
+    ensures told { (left : Option (List ℕ)) (status : ℕ) (h : AuditsARecord left status)
+        (input : List ℕ) → left ≡ Some input → IsRecord h.r × (input ≡ record_text h.r) }
 {}
 
 /// A match has one text, and a text is that of one match.

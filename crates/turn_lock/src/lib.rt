@@ -30,6 +30,7 @@ mod gather;
 mod held;
 mod history;
 mod law;
+pub mod laws;
 mod lock;
 mod named;
 mod place;

@@ -1,11 +1,12 @@
 //! What telling watchers comes to. Each law is the contract of a function without parameters that
 //! does nothing.
 
-ghost use Rattle.std.specs.Prelude.{◌≡◌, ◌++◌, ℕ, List};
+ghost use Rattle.std.specs.Prelude.{◌≡◌, ◌++◌, ◌∷◌, ℕ, true, false, List};
+ghost use Rattle.std.specs.List.{AllByRecursion};
 ghost use Rattle.game_trait.specs.declared.event.Note.{Note};
-ghost use Rattle.watch_board.specs.Behaviour.{Behaviour};
-ghost use Rattle.watch_board.specs.Board.{board, last_lines};
-ghost use Rattle.watch_board.specs.Told.{AreTold};
+ghost use Rattle.watch_board.specs.Behaviour.{Behaviour, leaves};
+ghost use Rattle.watch_board.specs.Board.{IsCutShort, board, last_lines, leaving_lines, still_there};
+ghost use Rattle.watch_board.specs.Told.{AreTold, after_notes, left_lines};
 
 /// Notes that watchers are told, and then others, are all of them, told one after another.
 pub fn notes_add_up()
@@ -21,4 +22,18 @@ pub fn told_and_closed_is_the_board()
     ensures { (notes : List Note) (old now : List Behaviour) (before between after : List ℕ)
         → AreTold notes old now before between → after ≡ between ++ last_lines now
         → after ≡ before ++ board old notes }
+{}
+
+/// Telling a note is cut short at a watcher that leaves: those in front of it have taken the note,
+/// those behind haven't, and it is gone without its line. Where none leaves nothing is cut short.
+pub fn a_note_is_cut_short_where_one_leaves()
+    ensures there { (note : Note) (old new : List Behaviour) (before after : List ℕ)
+        → IsCutShort note old new before after
+        → (front : List Behaviour) × (behind : List Behaviour) × (gone : Behaviour)
+        × (old ≡ front ++ gone ∷ behind) × (leaves note gone ≡ true)
+        × (new ≡ still_there note front ++ behind)
+        × (after ≡ before ++ leaving_lines note front) }
+    ensures nobody { (note : Note) (old new : List Behaviour) (before after : List ℕ)
+        → IsCutShort note old new before after
+        → AllByRecursion (λ w. leaves note w ≡ false) old → ⊥ }
 {}

@@ -1,0 +1,32 @@
+//! What the close of a lock comes to, so that it can't be read more weakly. Each is the contract of
+//! a function without parameters that does nothing.
+
+ghost use Rattle.std.specs.Prelude.{◌≡◌, ◌++◌, ◌∷◌, ℕ, List, [], map, slice_get, Some};
+ghost use Rattle.std.specs.List.{AllByRecursion, Contains};
+ghost use Rattle.turn_lock.specs.declared.history.Entry.{Entry};
+ghost use Rattle.turn_lock.specs.declared.view.Member.{Member};
+ghost use Rattle.turn_lock.specs.Histories.{value, IsSound, own};
+ghost use Rattle.turn_lock.specs.Closing.{IsHistoryOf};
+
+use crate::held::Held;
+
+/// The one history of a lock that is closed: the object is what it leads to from the opening, and
+/// each reply is the object's at that point. Each call in it is one of these seats', each seat has
+/// seen a front of it and all its own calls, and where none of them has seen a call there is none.
+pub fn a_history_is_of_its_seats<H: Held>()
+    ensures object { (opening object : H) (seats : List (Member H.Call H.Reply))
+        (h : IsHistoryOf H.rules opening seats object)
+        → (object ≡ value H.rules opening h.log) × IsSound H.rules opening h.log }
+    ensures theirs { (opening object : H) (seats : List (Member H.Call H.Reply))
+        (h : IsHistoryOf H.rules opening seats object)
+        (front rest : List (Entry H.Call H.Reply)) (e : Entry H.Call H.Reply) → h.log ≡ front ++ e ∷ rest
+        → Contains (map (λ m. m.number) seats) e.seat }
+    ensures seen { (opening object : H) (seats : List (Member H.Call H.Reply))
+        (h : IsHistoryOf H.rules opening seats object) (place : ℕ) (m : Member H.Call H.Reply)
+        → slice_get seats place ≡ Some m
+        → ((rest : List (Entry H.Call H.Reply)) × (h.log ≡ m.seen ++ rest))
+        × (own m.number h.log ≡ own m.number m.seen) }
+    ensures unseen { (opening object : H) (seats : List (Member H.Call H.Reply))
+        (h : IsHistoryOf H.rules opening seats object)
+        → AllByRecursion (λ m. m.seen ≡ []) seats → (h.log ≡ []) × (object ≡ opening) }
+{}
