@@ -1,7 +1,7 @@
 //! The copies of a mirror over one list of runs.
 
-ghost use Rattle.std.specs.Prelude.{◌≡◌, ℕ, ◌+◌, ◌-◌, ◌<◌, ◌≤◌, false, true, Some, IfOk, [], ◌∷◌};
-ghost use Rattle.std.specs.Prelude.{◌++◌, length, max, slice_get, slice_index_or, replicate};
+ghost use Rattle.std.specs.Prelude.{◌≡◌, ℕ, ◌+◌, ◌-◌, ◌<◌, ◌≤◌, false, true, Some, IfOk, IfSome, [], ◌∷◌};
+ghost use Rattle.std.specs.Prelude.{◌++◌, length, max, option_copied, slice_get, slice_index_or, replicate};
 ghost use Rattle.std.specs.List.{list_any};
 ghost use Rattle.game_trait.specs.declared.limits.TheConstants.{LONGEST_MATCH, MOST_COPIES};
 ghost use Rattle.game_trait.specs.declared.limits.TheConstants.{MOST_ROOM};
@@ -13,10 +13,10 @@ ghost use Rattle.sync_model.specs.Change.{with_tick, proposed_by_arrival, propos
 ghost use Rattle.sync_model.specs.State.{copy_clock, last_clock};
 ghost use Rattle.sync_model.specs.Repairs.{is_late_at, IsLastLate};
 
-use crate::clocks::count_above;
+use crate::clocks::{count_above, kept, kept_with};
 use crate::due::due_into;
-use crate::repairs::{append_ahead, bring_up};
-use crate::ticks::{execute_at, put_at, replay_at};
+use crate::repairs::{append_ahead, bring_up, settled_by};
+use crate::ticks::{execute_or_put, replay_or_put};
 use crate::worlds::{apply_to_each, make_worlds};
 use arrayvec::ArrayVec;
 use divergence_check::diverges;
@@ -41,14 +41,15 @@ pub struct CopyStack<G: Game> {
     list: Buckets,
     run: Segments,
     worlds: Vec<G>,
-    clocks: Vec<Tick>,
     // how many copies, from copy 0 on, have worlds that are still to be made
     stale: u8,
+    // a copy ahead of whose run all stands in time order
+    settled: u8,
 }
 
 impl<G: Game> Model for CopyStack<G> {
-    ghost use Rattle.executed_list.specs.Segments.{runs_at};
-    ghost use Rattle.trailing_copy.specs.Stack.{CopyState, IsStack};
+    ghost use Rattle.executed_list.specs.Segments.{clocks_at, runs_at};
+    ghost use Rattle.trailing_copy.specs.Stack.{CopyState, IsStack, IsSettled};
 
     ghost Value = { CopyState G };
 
@@ -62,7 +63,8 @@ impl<G: Game> Model for CopyStack<G> {
     } };
 
     ghost invariant = { λ s. IsStack G.rules s.opening s.list.ticks s.list.all s.list.spare s.run
-        s.worlds.items s.clocks.items s.stale };
+        s.worlds.items (clocks_at s.run.items s.run.ends) s.stale
+        × IsSettled s.list.all s.run (clocks_at s.run.items s.run.ends) s.settled };
 }
 
 impl<G: Game> CopyStack<G> {
@@ -88,25 +90,23 @@ impl<G: Game> CopyStack<G> {
         }) }
     {
         let mut worlds = Vec::with_capacity(alloc, copies as usize)?;
-        let mut clocks = Vec::with_capacity(alloc, copies as usize)?;
         for made in 0..copies {
             let _ = made;
             worlds.push_reserved(opening.twin());
-            clocks.push_reserved(0);
         }
         Ok(CopyStack {
             opening: opening.twin(),
             list: Buckets::new(alloc, length, room)?,
             run: Segments::new(alloc, copies, length + room)?,
             worlds,
-            clocks,
             stale: 0,
+            settled: 0,
         })
     }
 
     // A tick of copy 0, or of a copy whose new run the copy ahead doesn't begin with. The runs of the
     // copies ahead are made anew, and their worlds left to be made.
-    fn tick_apart(&mut self, copy: u8)
+    fn step_apart(&mut self, copy: u8, given: Option<&G>)
         requires copy { copy < length self.old.runs }
         requires below { copy_clock self.old.runs copy < self.old.ticks }
         requires behind { 0 < copy
@@ -114,6 +114,9 @@ impl<G: Game> CopyStack<G> {
         requires apart { 0 < copy
             → begins_with (slice_index_or self.old.runs (copy - 1) [])
             (with_tick self.old.accepted (slice_index_or self.old.runs copy [])) ≡ false }
+        requires given { IfSome (option_copied given) (λ world. world
+            ≡ world_of G.rules self.old.opening
+            (with_tick self.old.accepted (slice_index_or self.old.runs copy []))) }
         ensures runs { self.new
             ≡ record self.old {
               runs =
@@ -123,94 +126,38 @@ impl<G: Game> CopyStack<G> {
         ensures repaired { copy
             ≡ repaired self.old.accepted (proposed_by_step self.old.accepted self.old.runs copy) }
     {
-        let c = copy as usize;
-        let t = self.clocks[c];
         let _ = self.run.len();
+        let t = self.run.beats(copy);
+        let clocks = kept_with(self.run.clocks(), copy, t + 1);
         self.run.cut(copy);
         let from = self.run.len();
-        replay_at(
+        replay_or_put(
             &mut self.worlds,
             self.stale,
             copy,
             &self.list,
             t,
             &mut self.run,
+            given,
         );
         bring_up(&mut self.run, copy, from);
-        self.clocks[c] = t + 1;
-        append_ahead(&mut self.run, &self.list, &self.clocks, copy);
+        append_ahead(&mut self.run, &self.list, &clocks, copy);
         let stale = self.stale.max(copy);
+        let settled = settled_by(copy, self.settled);
         self.stale = stale;
-    }
-
-    // The same of a tick that another executed, and whose world it hands over.
-    fn commit_apart(&mut self, copy: u8, world: &G)
-        requires copy { copy < length self.old.runs }
-        requires below { copy_clock self.old.runs copy < self.old.ticks }
-        requires behind { 0 < copy
-            → copy_clock self.old.runs copy < copy_clock self.old.runs (copy - 1) }
-        requires apart { 0 < copy
-            → begins_with (slice_index_or self.old.runs (copy - 1) [])
-            (with_tick self.old.accepted (slice_index_or self.old.runs copy [])) ≡ false }
-        requires world { world.now
-            ≡ world_of G.rules self.old.opening
-            (with_tick self.old.accepted (slice_index_or self.old.runs copy [])) }
-        ensures runs { self.new
-            ≡ record self.old {
-              runs =
-                  settle self.old.accepted (proposed_by_step self.old.accepted self.old.runs copy);
-              stale = max self.old.stale copy;
-            } }
-        ensures repaired { copy
-            ≡ repaired self.old.accepted (proposed_by_step self.old.accepted self.old.runs copy) }
-    {
-        let c = copy as usize;
-        let t = self.clocks[c];
-        let _ = self.run.len();
-        self.run.cut(copy);
-        let from = self.run.len();
-        append_tick(&self.list, t, &mut self.run);
-        put_at(&mut self.worlds, self.stale, copy, world);
-        bring_up(&mut self.run, copy, from);
-        self.clocks[c] = t + 1;
-        append_ahead(&mut self.run, &self.list, &self.clocks, copy);
-        let stale = self.stale.max(copy);
-        self.stale = stale;
+        self.settled = settled;
     }
 
     // A tick of a copy whose new run the copy ahead begins with.
-    fn tick_front(&mut self, copy: u8)
+    fn step_front(&mut self, copy: u8, given: Option<&G>)
         requires copy { (0 < copy) × (copy < length self.old.runs) }
         requires below { copy_clock self.old.runs copy < self.old.ticks }
         requires behind { copy_clock self.old.runs copy < copy_clock self.old.runs (copy - 1) }
         requires front { begins_with (slice_index_or self.old.runs (copy - 1) [])
             (with_tick self.old.accepted (slice_index_or self.old.runs copy [])) ≡ true }
-        ensures runs { self.new
-            ≡ record self.old {
-              runs =
-                  settle self.old.accepted (proposed_by_step self.old.accepted self.old.runs copy);
-            } }
-        ensures repaired { 0
-            ≡ repaired self.old.accepted (proposed_by_step self.old.accepted self.old.runs copy) }
-    {
-        let c = copy as usize;
-        let t = self.clocks[c];
-        let _ = self.run.len();
-        let by = execute_at(&mut self.worlds, self.stale, copy, &self.list, t);
-        self.run.pass(copy, by);
-        self.clocks[c] = t + 1;
-    }
-
-    // The same of a tick that another executed, and whose world it hands over.
-    fn commit_front(&mut self, copy: u8, world: &G)
-        requires copy { (0 < copy) × (copy < length self.old.runs) }
-        requires below { copy_clock self.old.runs copy < self.old.ticks }
-        requires behind { copy_clock self.old.runs copy < copy_clock self.old.runs (copy - 1) }
-        requires front { begins_with (slice_index_or self.old.runs (copy - 1) [])
-            (with_tick self.old.accepted (slice_index_or self.old.runs copy [])) ≡ true }
-        requires world { world.now
+        requires given { IfSome (option_copied given) (λ world. world
             ≡ world_of G.rules self.old.opening
-            (with_tick self.old.accepted (slice_index_or self.old.runs copy [])) }
+            (with_tick self.old.accepted (slice_index_or self.old.runs copy []))) }
         ensures runs { self.new
             ≡ record self.old {
               runs =
@@ -219,13 +166,10 @@ impl<G: Game> CopyStack<G> {
         ensures repaired { 0
             ≡ repaired self.old.accepted (proposed_by_step self.old.accepted self.old.runs copy) }
     {
-        let c = copy as usize;
-        let t = self.clocks[c];
         let _ = self.run.len();
-        let by = tick_len(&self.list, t);
-        put_at(&mut self.worlds, self.stale, copy, world);
+        let t = self.run.beats(copy);
+        let by = execute_or_put(&mut self.worlds, self.stale, copy, &self.list, t, given);
         self.run.pass(copy, by);
-        self.clocks[c] = t + 1;
     }
 
     // Whether the run ahead begins with the copy's run and its due tick.
@@ -236,10 +180,41 @@ impl<G: Game> CopyStack<G> {
             ≡ begins_with (slice_index_or self.now.runs (copy - 1) [])
             (with_tick self.now.accepted (slice_index_or self.now.runs copy [])) }
     {
-        let t = self.clocks[copy as usize];
         let _ = self.run.len();
+        let t = self.run.beats(copy);
         let place = self.run.end(copy);
         diverges(&self.run, place, &self.list, t).is_none()
+    }
+
+    // The due tick of a copy, as `run_tick` says it, or where the copy's world after it is given, as
+    // `commit_tick` does.
+    fn step<'a>(&'a mut self, copy: u8, given: Option<&'a G>) -> u8
+        requires there { copy < length self.old.runs }
+        requires below { copy_clock self.old.runs copy < self.old.ticks }
+        requires behind { 0 < copy
+            → copy_clock self.old.runs copy < copy_clock self.old.runs (copy - 1) }
+        requires given { IfSome (option_copied given) (λ world. world
+            ≡ world_of G.rules self.old.opening
+            (with_tick self.old.accepted (slice_index_or self.old.runs copy []))) }
+        ensures state { self.new
+            ≡ record self.old {
+              runs =
+                  settle self.old.accepted (proposed_by_step self.old.accepted self.old.runs copy);
+              stale = max self.old.stale result;
+            } }
+        ensures repaired { result
+            ≡ repaired self.old.accepted (proposed_by_step self.old.accepted self.old.runs copy) }
+    {
+        if copy == 0 {
+            self.step_apart(copy, given);
+            return 0;
+        }
+        if self.is_front(copy) {
+            self.step_front(copy, given);
+            return 0;
+        }
+        self.step_apart(copy, given);
+        copy
     }
 
     /// Runs the due tick of a copy, which is there, below the match's end and behind the copy
@@ -261,16 +236,7 @@ impl<G: Game> CopyStack<G> {
         ensures repaired { result
             ≡ repaired self.old.accepted (proposed_by_step self.old.accepted self.old.runs copy) }
     {
-        if copy == 0 {
-            self.tick_apart(copy);
-            return 0;
-        }
-        if self.is_front(copy) {
-            self.tick_front(copy);
-            return 0;
-        }
-        self.tick_apart(copy);
-        copy
+        self.step(copy, None)
     }
 
     /// Does what `run_tick` does, with the copy's world after its due tick given: the tick isn't
@@ -293,16 +259,7 @@ impl<G: Game> CopyStack<G> {
         ensures repaired { result
             ≡ repaired self.old.accepted (proposed_by_step self.old.accepted self.old.runs copy) }
     {
-        if copy == 0 {
-            self.commit_apart(copy, world);
-            return 0;
-        }
-        if self.is_front(copy) {
-            self.commit_front(copy, world);
-            return 0;
-        }
-        self.commit_apart(copy, world);
-        copy
+        self.step(copy, Some(world))
     }
 
     // The arrival of a command that is late at the copies up to `last`, of which those from `first`
@@ -325,14 +282,21 @@ impl<G: Game> CopyStack<G> {
     {
         let _ = self.run.len();
         self.list.insert(x);
+        let stale = self.stale.max(first);
+        apply_to_each(&mut self.worlds, stale, last, x);
+        self.stale = stale;
+        let settled = self.settled;
+        self.settled = last;
+        if last <= settled {
+            self.run.insert(last, &Item::Cmd(*x));
+            return;
+        }
+        let clocks = kept(self.run.clocks());
         self.run.cut(last);
         let from = self.run.len();
         self.run.push(&Item::Cmd(*x));
         bring_up(&mut self.run, last, from);
-        append_ahead(&mut self.run, &self.list, &self.clocks, first);
-        let stale = self.stale.max(first);
-        apply_to_each(&mut self.worlds, stale, last, x);
-        self.stale = stale;
+        append_ahead(&mut self.run, &self.list, &clocks, first);
     }
 
     // The arrival of a command that is late at no copy.
@@ -373,13 +337,13 @@ impl<G: Game> CopyStack<G> {
             ≡ repaired (self.old.accepted ++ x.now ∷ []) (proposed_by_arrival x.now self.old.runs) }
     {
         let _ = self.run.len();
-        let late = count_above(&self.clocks, x.time);
+        let late = count_above(self.run.clocks(), x.time);
         if late == 0 {
             self.arrive_early(x);
             return 0;
         }
         let last = late - 1;
-        let repaired = count_above(&self.clocks, self.clocks[last as usize]);
+        let repaired = count_above(self.run.clocks(), self.run.beats(last));
         self.arrive_late(x, repaired, last);
         repaired
     }
@@ -440,7 +404,7 @@ impl<G: Game> CopyStack<G> {
         ensures { result ≡ copy_clock self.now.runs copy }
     {
         let _ = self.run.len();
-        self.clocks[copy as usize]
+        self.run.beats(copy)
     }
 
     /// The copy's live world, which is the world of its run. The copy is there, and its world isn't
