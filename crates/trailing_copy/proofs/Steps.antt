@@ -19,7 +19,7 @@ use Rattle.sync_model.proofs.Rebuilt.{rebuilt_level}
 use Rattle.sync_model.proofs.Trailing.{trailing-step, beats-step}
 use Rattle.executed_list.specs.Segments.{OneList, Falls, end_of, runs_at}
 use Rattle.executed_list.proofs.Lists.{get-any, falls-set, falls-push}
-use Rattle.trailing_copy.specs.Stack.{CopyState, IsStack, put_unless_stale, world_after}
+use Rattle.trailing_copy.specs.Stack.{LazyCopies, IsStack, put_unless_stale, world_after}
 use Rattle.std.specs.Prelude.{max, Option, Some, None, IfSome}
 use Rattle.std.proofs.lemmas.List.{length-set, get_or-set_same, get_or-set_other}
 use Rattle.sync_model.proofs.Lists.{all-put}
@@ -249,7 +249,7 @@ module _ {W : Type 0} {rules : Rules W} {opening : W} {ticks : ℕ} {all : List 
 pub same-state :
     {W : Type 0} (opening : W) (ticks : ℕ) (accepted : List Command) (spare stale : ℕ)
     (a b : List (List Item)) → a ≡ b
-    → Path (CopyState W)
+    → Path (LazyCopies W)
     (record { opening = opening; ticks = ticks; accepted = accepted; runs = a; spare = spare; stale = stale })
     (record { opening = opening; ticks = ticks; accepted = accepted; runs = b; spare = spare; stale = stale })
 same-state opening ticks accepted spare stale a b e =

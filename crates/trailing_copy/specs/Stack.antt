@@ -6,21 +6,38 @@ use Rattle.game_trait.specs.declared.limits.TheConstants.{LONGEST_MATCH, MOST_CO
 use Rattle.game_trait.specs.declared.command.Command.{Command}
 use Rattle.game_trait.specs.declared.command.Item.{Item}
 use Rattle.game_trait.specs.Game.{Rules}
+use Rattle.game_trait.specs.Keys.{NamesDiffer}
 use Rattle.game_trait.specs.Run.{beats, world_of}
 use Rattle.game_trait.specs.Ordered.{ordered}
 use Rattle.sync_model.specs.Staggered.{IsTrailing}
 use Rattle.executed_list.specs.Segments.{OneList, runs_at, end_of}
 
 -- the opening world, the match's length in ticks, the accepted commands in order of acceptance, the
--- runs of the copies from copy 0 on, for how many more commands there is room, and how many copies,
--- from copy 0 on, have worlds that are still to be made from the copy behind them
+-- runs of the copies from copy 0 on, and for how many more commands there is room
 pub record CopyState (W : Type 0) : Type 0 where
   pub opening : W
   pub ticks : ℕ
   pub accepted : List Command
   pub runs : List (List Item)
   pub spare : ℕ
+
+-- the same, and how many copies, from copy 0 on, have worlds that are still to be made from the copy
+-- behind them
+pub record LazyCopies (W : Type 0) : Type 0 where
+  pub opening : W
+  pub ticks : ℕ
+  pub accepted : List Command
+  pub runs : List (List Item)
+  pub spare : ℕ
   pub stale : ℕ
+
+-- what is true of a mirror's copies at every moment: their runs are staggered, no copy's clock is
+-- past the match's end, and the accepted commands have different names and are due within the match
+pub record AreStaggered (ticks : ℕ) (accepted : List Command) (runs : List (List Item)) : Type 0 where
+  pub trailing : IsTrailing accepted runs
+  pub within_match : AllByRecursion (λ run. beats run ≤ ticks) runs
+  pub names : NamesDiffer accepted
+  pub due : AllByRecursion (λ x. x.time < ticks) accepted
 
 -- from copy n on, each world is the world of its run
 abbrev pub AreWorlds : {W : Type 0} → Rules W → W → OneList → ℕ → List W → Type 0
