@@ -3,7 +3,7 @@ use Rattle.game_trait.specs.declared.event.Event.{Event}
 use Rattle.game_trait.specs.declared.event.Event.TheVariants.{Step}
 use Rattle.sync_model.specs.Turns.{steps_from}
 use Rattle.sync_model.proofs.Turning.{steps-more}
-use Rattle.match_hall.proofs.events.turn_events.Goals as goal
+use Rattle.mirror_core.proofs.turns.turn_events.Goals as goal
 
 pub loop-copy-preserved : goal.loop-copy-preserved
 loop-copy-preserved c =

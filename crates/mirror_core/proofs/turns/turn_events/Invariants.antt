@@ -1,6 +1,6 @@
 use Rattle.std.proofs.Common.{◌≡◌, ◌+◌, ◌-◌, ◌++◌, length}
 use Rattle.sync_model.specs.Turns.{steps_from, turn_events}
-use Rattle.match_hall.proofs.events.turn_events.Given as goal
+use Rattle.mirror_core.proofs.turns.turn_events.Given as goal
 
 abbrev pub invariant-loop-copy : goal.invariant-loop-copy
 invariant-loop-copy l = record {
