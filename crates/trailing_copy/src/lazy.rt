@@ -12,19 +12,20 @@ ghost use Rattle.sync_model.specs.Settle.{begins_with, settle, repaired};
 ghost use Rattle.sync_model.specs.Change.{with_tick, proposed_by_arrival, proposed_by_step};
 ghost use Rattle.sync_model.specs.State.{copy_clock, last_clock};
 ghost use Rattle.sync_model.specs.Repairs.{is_late_at, IsLastLate};
+ghost use Rattle.pending_list.specs.Buckets.{start_of};
 ghost use Rattle.trailing_copy.specs.Stack.{AreStaggered};
 
 use crate::clocks::{count_above, kept, kept_with};
 use crate::due::due_into;
 use crate::repairs::{append_ahead, bring_up, settled_by};
-use crate::ticks::{execute_or_put, replay_or_put};
+use crate::ticks::execute_or_put;
 use crate::worlds::{apply_to_each, make_worlds};
 use arrayvec::ArrayVec;
 use divergence_check::diverges;
 use executed_list::Segments;
 use game_trait::{Command, Game, Item, Tick};
 use pending_list::Buckets;
-use repair_copy::{append_tick, tick_len};
+use repair_copy::append_tick;
 use std::alloc::Global;
 use std::marker::Model;
 use tss_io::NoMemory;
@@ -112,6 +113,16 @@ impl<G: Game> LazyStack<G> {
         let _ = self.list.all();
     }
 
+    // Where the commands of the copy's due tick begin in key order, which needs no search: its run has
+    // all commands that are older than its clock, and as many beats as it tells.
+    fn due_start(&self, copy: u8) -> u32
+        requires { copy < length self.now.runs }
+        ensures { result ≡ start_of self.now.accepted (copy_clock self.now.runs copy) }
+    {
+        let _ = self.run.len();
+        self.run.end(copy) - self.run.beats(copy)
+    }
+
     // A tick of copy 0, or of a copy whose new run the copy ahead doesn't begin with. The runs of the
     // copies ahead are made anew, and their worlds left to be made.
     fn step_apart(&mut self, copy: u8, given: Option<&G>)
@@ -136,16 +147,19 @@ impl<G: Game> LazyStack<G> {
     {
         let _ = self.run.len();
         let t = self.run.beats(copy);
+        let start = self.due_start(copy);
         let clocks = kept_with(self.run.clocks(), copy, t + 1);
         self.run.cut(copy);
         let from = self.run.len();
-        replay_or_put(
+        append_tick(&self.list, start, t, &mut self.run);
+        let _ = self.run.len();
+        execute_or_put(
             &mut self.worlds,
             self.stale,
             copy,
             &self.list,
+            start,
             t,
-            &mut self.run,
             given,
         );
         bring_up(&mut self.run, copy, from);
@@ -176,7 +190,16 @@ impl<G: Game> LazyStack<G> {
     {
         let _ = self.run.len();
         let t = self.run.beats(copy);
-        let by = execute_or_put(&mut self.worlds, self.stale, copy, &self.list, t, given);
+        let start = self.due_start(copy);
+        let by = execute_or_put(
+            &mut self.worlds,
+            self.stale,
+            copy,
+            &self.list,
+            start,
+            t,
+            given,
+        );
         self.run.pass(copy, by);
     }
 
@@ -190,8 +213,9 @@ impl<G: Game> LazyStack<G> {
     {
         let _ = self.run.len();
         let t = self.run.beats(copy);
+        let start = self.due_start(copy);
         let place = self.run.end(copy);
-        diverges(&self.run, place, &self.list, t).is_none()
+        diverges(&self.run, place, &self.list, start, t).is_none()
     }
 
     // The due tick of a copy, as `run_tick` says it, or where the copy's world after it is given, as

@@ -1,5 +1,6 @@
 use Rattle.std.proofs.Common.{arith, ◌-◌, option_copied}
 use Rattle.trailing_copy.proofs.OwnClocks.{clock-own, kept-own}
+use Rattle.trailing_copy.proofs.Places.{start-at}
 use Rattle.trailing_copy.proofs.Settled.{settled-front}
 use Rattle.trailing_copy.proofs.Steps.{same-state, after-world, own-world}
 use Rattle.trailing_copy.proofs.Remade.{run-many, end-inside}
@@ -30,6 +31,13 @@ execute_or_put-by-requires-clause-few g c =
     let len = c.len.ensures.len in
     let small = c.len.type_inv in
     omega arith)
+
+pub execute_or_put-by-requires-clause-start : goal.execute_or_put-by-requires-clause-start
+execute_or_put-by-requires-clause-start g c =
+    let there = (rw (← c.self.view_is) at c.requires.copy).1 in
+    start-at c.self.invariant.0 c.len.ensures.falls c.len.ensures.first c.args.copy c.beats-t.result _ there
+    (clock-own _ _ c.args.copy c.beats-t.result there c.beats-t.ensures)
+    (rw (← c.self.view_is) at c.due_start-start.ensures)
 
 pub invariant_of-self : goal.invariant_of-self
 invariant_of-self g c =
