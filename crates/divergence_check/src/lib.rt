@@ -8,6 +8,7 @@ ghost use Rattle.std.specs.Prelude.{◌≡◌, ◌↔◌, ◌+◌, ◌-◌, ◌<
 ghost use Rattle.std.specs.Prelude.{length, drop, slice_get};
 ghost use Rattle.game_trait.specs.Ordered.{tick_of};
 ghost use Rattle.game_trait.specs.Run.{IsPrefix};
+ghost use Rattle.pending_list.specs.Buckets.{start_of};
 ghost use Rattle.divergence_check.specs.Divergence.{DiffersFirstAt};
 
 use executed_list::Segments;
@@ -28,15 +29,15 @@ fn stands_at(run: &Segments, place: u32, item: &Item) -> bool
 /// The first place, from the given one on, at which the list has another item than the tick's
 /// commands in key order and their beat have, or none; `None` exactly where the whole tick stands
 /// there (this project's own form of the comparison of the paper of 2002). The given place is one
-/// of the list, or its end.
-pub fn diverges(run: &Segments, place: u32, list: &Buckets, t: Tick) -> Option<u32>
-    requires { place ≤ length run.now.items }
+/// of the list, or its end. The tick's commands begin at `start` in key order.
+pub fn diverges(run: &Segments, place: u32, list: &Buckets, start: u32, t: Tick) -> Option<u32>
+    requires place { place ≤ length run.now.items }
+    requires start { start ≡ start_of list.now.all t }
     ensures none { (result ≡ None) ↔ IsPrefix (tick_of list.now.all t) (drop place run.now.items) }
     ensures first { IfSome result (λ i. (place ≤ i)
         × DiffersFirstAt (drop place run.now.items) (tick_of list.now.all t) (i - place)) }
 {
     let _ = run.len();
-    let start = list.start(t);
     let mut next = start;
     let mut at = place;
     while let Some(x) = list.due(next, t) {

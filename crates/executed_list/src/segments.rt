@@ -1,12 +1,12 @@
 //! One list with an end for each copy.
 
-ghost use Rattle.std.specs.Prelude.{◌≡◌, ◌+◌, ◌-◌, ◌<◌, ◌≤◌, IfOk, [], ◌∷◌, ◌++◌, length, take};
+ghost use Rattle.std.specs.Prelude.{◌≡◌, ◌+◌, ◌-◌, ◌<◌, ◌≤◌, IfOk, [], ◌∷◌, ◌++◌, length, take, drop};
 ghost use Rattle.std.specs.Prelude.{replicate, slice_get, slice_set};
 ghost use Rattle.game_trait.specs.declared.limits.TheConstants.{MOST_COPIES};
 ghost use Rattle.game_trait.specs.Run.{beats};
-ghost use Rattle.executed_list.specs.Segments.{end_of, filled, Falls};
+ghost use Rattle.executed_list.specs.Segments.{clocks_at, end_of, filled, raised, Falls};
 
-use crate::ends::{beats_in, beats_of, fill};
+use crate::ends::{beats_in, beats_of, fill, raise};
 use game_trait::{Item, Tick};
 use std::alloc::Global;
 use std::marker::Model;
@@ -94,6 +94,28 @@ impl Segments {
         fill(&mut self.clocks, c, clock);
     }
 
+    /// Puts an item at the copy's end, where there is room: it becomes the last item of the copy's
+    /// run, and each item from there on moves on by one place. The copy's end and those of the copies
+    /// ahead go on by one. The copy is there.
+    pub fn insert(&mut self, copy: u8, x: &Item)
+        requires copy { copy < length self.old.ends }
+        requires room { 0 < self.old.spare }
+        ensures { let end = end_of self.old.ends copy in self.new ≡ record {
+          items = take end self.old.items ++ x.now ∷ drop end self.old.items;
+          ends = raised (copy + 1) 1 self.old.ends;
+          spare = self.old.spare - 1;
+        } }
+    {
+        let c = copy as usize;
+        match self.items.insert(self.ends[c] as usize, *x) {
+            Ok(()) => {}
+            Err(_) => unreachable!(),
+        }
+        raise(&mut self.ends, c + 1, 1);
+        raise(&mut self.clocks, c + 1, beats_in(x));
+        self.spare -= 1;
+    }
+
     // The ticks before an end that is at least the copy's and at most that of the copy ahead.
     fn clock_at(&self, copy: u8, end: u32) -> Tick
         requires copy { (0 < copy) × (copy < length self.now.ends) }
@@ -164,6 +186,13 @@ impl Segments {
         ensures { result ≡ beats (take (end_of self.now.ends copy) self.now.items) }
     {
         self.clocks[copy as usize]
+    }
+
+    /// How many ticks each copy has run, from copy 0 on.
+    pub fn clocks(&self) -> &[Tick]
+        ensures { result.now ≡ clocks_at self.now.items self.now.ends }
+    {
+        &self.clocks
     }
 
     /// The item at this place of the list. The place is there.

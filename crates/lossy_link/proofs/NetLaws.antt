@@ -22,7 +22,7 @@ use Rattle.match_file.specs.declared.script_line.ScriptLine.TheVariants as lines
 use Rattle.match_hall.specs.Script.{events_of, arrival_of, changed_at, told_at, after_line, after_script}
 use Rattle.match_hall.specs.Ready.{IsReady}
 use Rattle.match_hall.proofs.Along.{changed_at-set, told_at-get}
-use Rattle.match_hall.proofs.TurnFits.{turn-fits, turn-room}
+use Rattle.mirror_core.proofs.WholeTurns.{turn-fits, turn-room}
 use Rattle.lossy_text.specs.declared.net_line.NetLine.{NetLine}
 use Rattle.lossy_text.specs.declared.net_line.NetLine.TheVariants.{Issue, Send, Carry, Ack, Hear, Turn}
 use Rattle.lossy_link.specs.Link.{LinkState, new_link, next_of, brings, brought, after_put, after_send, after_carry, after_ack, after_hear}

@@ -2,24 +2,20 @@
 
 ghost use Rattle.std.specs.Prelude.{◌≡◌, ◌≤◌, ◌++◌, ◌∷◌, [], true, length, OnOk, OnErr};
 ghost use Rattle.game_trait.specs.CommandList.{command_named, has_command};
-ghost use Rattle.sync_model.specs.Change.{answers};
-ghost use Rattle.sync_model.specs.Turns.{turn, turn_events};
+ghost use Rattle.sync_model.specs.Turns.{turn};
 ghost use Rattle.match_file.specs.Data.{IsScriptLine};
 ghost use Rattle.match_hall.specs.Script.{events_of};
 ghost use Rattle.match_hall.specs.Report.{turn_text};
 
 use crate::show::push_repairs;
 use arrayvec::ArrayVec;
-use game_trait::{Command, Event, Game, MirrorId, Number, Reply};
+use game_trait::{Command, Event, Game, MirrorId, Number};
 use match_file::{Match, ScriptLine, find_command};
-use mirror_core::Mirror;
+use mirror_core::{Mirror, turn_events};
 use tss_io::NoMemory;
 
 /// The events of one script line: of a turn a tick and a step of each copy, and else one at most.
 pub type Events = ArrayVec<Event, 9>;
-
-/// What a mirror answered to the events of a turn: a tick, and a step of each copy.
-type Replies = ArrayVec<Reply, 9>;
 
 /// The match's command of this mirror and number, which is there.
 pub fn command_of(m: &Match, from: MirrorId, number: Number) -> Command
@@ -30,20 +26,6 @@ pub fn command_of(m: &Match, from: MirrorId, number: Number) -> Command
         Some(x) => x,
         None => unreachable!(),
     }
-}
-
-/// The events of a turn of so many copies.
-#[tactic(auto, unfolding(sync_model::specs::Turns::steps_from))]
-pub fn turn_events(copies: u8) -> Events
-    requires { copies ≤ 8 }
-    ensures { result.items ≡ turn_events copies }
-{
-    let mut events = ArrayVec::new();
-    events.push(Event::Tick);
-    for copy in 0..copies {
-        events.push(Event::Step(copy));
-    }
-    events
 }
 
 // One event alone.
@@ -74,16 +56,6 @@ pub fn events_of(m: &Match, copies: u8, line: &ScriptLine) -> Events
     }
 }
 
-// Makes a turn of a mirror, and hands back the answers.
-fn turn<G: Game>(mirror: &mut Mirror<G>) -> Replies
-    ensures state { mirror.new ≡ turn mirror.old }
-    ensures replies { result.items ≡ answers mirror.old (turn_events (length mirror.old.runs)) }
-{
-    mirror.always();
-    let events = turn_events(mirror.copies());
-    mirror.make_each(events.as_slice())
-}
-
 /// Makes a turn of the mirror of this number, and appends what it prints. On `NoMemory` the turn
 /// was made, and `out` is unchanged.
 pub fn push_turn<G: Game>(
@@ -95,6 +67,6 @@ pub fn push_turn<G: Game>(
     ensures ok { OnOk result (out.new.items ≡ out.old.items ++ turn_text number mirror.old) }
     ensures err { OnErr result (out.new.items ≡ out.old.items) }
 {
-    let replies = turn(mirror);
+    let replies = mirror.turn();
     push_repairs(out, number, replies.as_slice())
 }

@@ -11,12 +11,12 @@ ghost use Rattle.watch_board.specs.Told.{AreTold};
 ghost use Rattle.match_hall.specs.Notes.{notes_with, IsToldOn};
 ghost use Rattle.match_hall.specs.Waiting.{AreWaiting};
 
-use crate::events::{events_of, turn_events};
+use crate::events::events_of;
 use crate::script::mirror_of;
 use arrayvec::ArrayVec;
 use game_trait::{Arrived, Event, Game, MirrorId, Note, Reply, Stepped, Ticked};
 use match_file::{Match, ScriptLine};
-use mirror_core::Mirror;
+use mirror_core::{Mirror, turn_events};
 use tss_io::NoMemory;
 use watch_board::{Board, Watcher};
 
@@ -206,7 +206,7 @@ fn tell_turn<G: Game>(
     mirror.always();
     let turn = turn_events(mirror.copies());
     let events = turn.as_slice();
-    let replies: ArrayVec<Reply, 9> = mirror.make_each(events);
+    let replies = mirror.turn();
     tell_changes(number, events, &replies, board, out)
 }
 

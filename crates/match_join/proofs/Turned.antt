@@ -70,11 +70,6 @@ no-turn-stays {W} t n none = ap (λ (x : MirrorState (ShiftedWorld W)). record t
 
 -- ---- as many turns as are enough
 
-pub drained-all :
-    {W : Type 0} (s t u : MirrorState W) (turns : ℕ) → t ≡ s → turns ≡ drain_bound t → u ≡ drain_within turns t → u ≡ drain s
-drained-all {W} s t u turns is bound made =
-    made ∙ ap (λ (n : ℕ). drain_within n t) bound ∙ ap (λ (v : MirrorState W). drain v) is
-
 pub joiner-drained_all :
     {W : Type 0} (s t u : JoinerState W) (turns : ℕ) → t ≡ s → turns ≡ drain_bound t.inner → u ≡ drained_by turns t → u ≡ record s { inner = drain s.inner }
 joiner-drained_all {W} s t u turns is bound made =

@@ -5,7 +5,6 @@ ghost use Rattle.std.specs.List.{AllByRecursion};
 ghost use Rattle.sync_model.specs.Change.{Fits};
 ghost use Rattle.sync_model.specs.History.{HasRoomAlong};
 ghost use Rattle.sync_model.specs.State.{last_clock};
-ghost use Rattle.sync_model.specs.Turns.{drain_within};
 ghost use Rattle.match_file.specs.Data.{IsMatch, IsScriptLine};
 ghost use Rattle.match_hall.specs.Script.{names, events_of, after_line, after_lines};
 ghost use Rattle.match_join.specs.Join.{finished_mirror};
@@ -50,20 +49,6 @@ pub fn make_lines<G: Game>(
     }
 }
 
-/// Makes turns of the mirror of this number until it is drained, at most so many. Nothing is
-/// printed.
-pub fn drain_mirror<G: Game>(mirror: &mut Mirror<G>, m: &Match, number: MirrorId, turns: u32)
-    requires { number < m.now.mirrors }
-    ensures { mirror.new ≡ drain_within turns mirror.old }
-{
-    for _ in 0..turns {
-        if mirror.drained() {
-            return;
-        }
-        make_line(mirror, m, &ScriptLine::Turn { mirror: number });
-    }
-}
-
 /// Makes those of the script lines that name the mirror of this number at that mirror, which has
 /// made all its lines in front of them, and drains it. Nothing is printed.
 pub fn finish_mirror<G: Game>(
@@ -79,8 +64,7 @@ pub fn finish_mirror<G: Game>(
     ensures copies { length mirror.new.runs ≡ length m.now.delays }
 {
     make_lines(mirror, m, number, later);
-    let turns = mirror.turns_to_drain();
-    drain_mirror(mirror, m, number, turns);
+    mirror.drain();
 }
 
 /// The last copy's clock, in ticks.

@@ -8,3 +8,4 @@ mod Opened
 mod Calls
 mod Along
 mod Executed
+pub mod WholeTurns

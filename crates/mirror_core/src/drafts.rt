@@ -9,7 +9,7 @@ ghost use Rattle.sync_model.specs.Drafts.{ready_of};
 use arrayvec::ArrayVec;
 use game_trait::{Command, Game, Tick};
 use std::marker::Model;
-use trailing_copy::CopyStack;
+use trailing_copy::LazyStack;
 
 /// How many commands a draft has at most. A tick with more is made by a step.
 pub const MOST_DRAFTED: usize = 64;
@@ -41,7 +41,7 @@ impl<G> Model for Draft<G> {
 
 impl<G: Game> Draft<G> {
     // The tick of a copy of these at this clock, which is there and has so many commands at most.
-    fn of(copy: u8, epoch: u64, clock: Tick, stack: &CopyStack<G>) -> Draft<G>
+    fn of(copy: u8, epoch: u64, clock: Tick, stack: &LazyStack<G>) -> Draft<G>
         requires there { copy < length stack.now.runs }
         requires fresh { stack.now.stale ≤ copy }
         requires few { length (due_at stack.now.accepted clock) ≤ 64 }
@@ -65,7 +65,7 @@ impl<G: Game> Draft<G> {
     }
 
     // Makes it such a tick, in its place.
-    fn set(&mut self, copy: u8, epoch: u64, clock: Tick, stack: &CopyStack<G>)
+    fn set(&mut self, copy: u8, epoch: u64, clock: Tick, stack: &LazyStack<G>)
         requires there { copy < length stack.now.runs }
         requires fresh { stack.now.stale ≤ copy }
         requires few { length (due_at stack.now.accepted clock) ≤ 64 }
@@ -221,7 +221,7 @@ pub enum Drafted<G> {
 impl<G: Game> Drafted<G> {
     // Makes it the tick of a copy of these at this clock, which is there and has so many commands at
     // most. Where it was a draft before, the new one takes its place.
-    pub(crate) fn put(&mut self, copy: u8, epoch: u64, clock: Tick, stack: &CopyStack<G>)
+    pub(crate) fn put(&mut self, copy: u8, epoch: u64, clock: Tick, stack: &LazyStack<G>)
         requires there { copy < length stack.now.runs }
         requires fresh { stack.now.stale ≤ copy }
         requires few { length (due_at stack.now.accepted clock) ≤ 64 }

@@ -10,7 +10,7 @@ ghost use Rattle.mirror_core.specs.Epochs.{AreRenewed, AreSmall};
 use game_trait::{Game, Tick};
 use std::alloc::Global;
 use std::marker::Model;
-use trailing_copy::CopyStack;
+use trailing_copy::LazyStack;
 use tss_io::NoMemory;
 
 /// A number for each copy: how many events have renewed it. Contracts see the numbers, from copy 0
@@ -92,7 +92,7 @@ impl Epochs {
     }
 
     /// A command that is taken renews the copies that stand at its time or past it.
-    pub fn renew_due<G: Game>(&mut self, stack: &CopyStack<G>, time: Tick)
+    pub fn renew_due<G: Game>(&mut self, stack: &LazyStack<G>, time: Tick)
         requires as_many { length self.old ≡ length stack.now.runs }
         requires small { AreSmall self.old }
         ensures { AreRenewed (λ c. nat_le time (copy_clock stack.now.runs c)) self.old self.new }

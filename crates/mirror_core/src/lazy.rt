@@ -21,7 +21,7 @@ use std::alloc::Global;
 use std::collections::HashSet;
 use std::marker::Model;
 use sync_model::Turned;
-use trailing_copy::CopyStack;
+use trailing_copy::LazyStack;
 use tss_io::NoMemory;
 
 /// A mirror, between whose events the worlds of its first copies may still be to be made (this
@@ -30,7 +30,7 @@ use tss_io::NoMemory;
 #[derive(Drop)]
 pub struct LazyMirror<G: Game> {
     // the opening, the match's length, the accepted commands and the copies
-    pub stack: CopyStack<G>,
+    pub stack: LazyStack<G>,
     pub plans: Vec<Stagger>,
     // the number of the plan in force
     pub plan: u8,
@@ -128,7 +128,7 @@ impl<G: Game> LazyMirror<G> {
         let events = length + greatest(plans) as usize + steps + arrivals + restaggers as usize;
         let lists = Lists::new(alloc, plans, arrivals, events)?;
         Ok(LazyMirror {
-            stack: CopyStack::new(alloc, opening, copies, ticks, room)?,
+            stack: LazyStack::new(alloc, opening, copies, ticks, room)?,
             plans: lists.plans,
             plan: 0,
             clock: 0,

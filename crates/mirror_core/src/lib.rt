@@ -8,7 +8,9 @@ mod lazy;
 mod lists;
 mod mirror;
 mod plans;
+mod turns;
 
 pub use drafts::{Committed, Draft, Drafted, MOST_DRAFTED, Ready};
 pub use mirror::Mirror;
 pub use sync_model::Turned;
+pub use turns::turn_events;

@@ -7,13 +7,14 @@ ghost use Rattle.sync_model.specs.State.{opening_state, copy_clock as clock_of};
 ghost use Rattle.sync_model.specs.Change.{next, said, after, answers, Fits};
 ghost use Rattle.sync_model.specs.Consistent.{IsConsistent};
 ghost use Rattle.sync_model.specs.History.{HasRoom, HasRoomAlong, repairs as repairs_of};
-ghost use Rattle.sync_model.specs.Turns.{is_drained, drain_bound};
+ghost use Rattle.sync_model.specs.Turns.{turn, turn_events, is_drained, drain, drain_bound};
 ghost use Rattle.sync_model.specs.Drafts.{epoch as epoch_of, ready_of, FitsReady};
 ghost use Rattle.mirror_core.specs.Kept.{delays_of_each, ticks_of_first, copies_of_first};
 ghost use Rattle.mirror_core.specs.Drafts.{drafted as drafted_by, committed_to, committed, IfDraft};
 
 use crate::drafts::{Committed, Drafted, Ready};
 use crate::lazy::LazyMirror;
+use crate::turns::turn_events;
 use arrayvec::ArrayVec;
 use game_trait::limits::{MOST_PLANS, MOST_ROOM};
 use game_trait::{Arrived, Command, Event, Game, Item, Reply, Stepped, Tick, Ticked};
@@ -211,6 +212,30 @@ impl<G: Game> Mirror<G> {
         }
         self.inner.refresh();
         replies
+    }
+
+    /// Makes a turn: a tick, and then a step of each copy from copy 0 on. Hands back what was answered
+    /// to each, in order. The copies that were repaired are executed again once.
+    pub fn turn(&mut self) -> ArrayVec<Reply, 9>
+        ensures state { self.new ≡ turn self.old }
+        ensures replies { result.items ≡ answers self.old (turn_events (length self.old.runs)) }
+    {
+        self.always();
+        let events = turn_events(self.copies());
+        self.make_each(events.as_slice())
+    }
+
+    /// Makes turns until every copy has run the whole match.
+    pub fn drain(&mut self)
+        ensures { self.new ≡ drain self.old }
+    {
+        let turns = self.turns_to_drain();
+        for _ in 0..turns {
+            if self.drained() {
+                return;
+            }
+            let _answers = self.turn();
+        }
     }
 
     /// The opening world, a twin of the one that `new` was given.

@@ -3,7 +3,7 @@ use Rattle.std.proofs.Common.{◌≡◌, ℕ, ◌+◌, ◌<◌, ◌≤◌, List,
 use Rattle.std.proofs.lemmas.List.{drop_more, drop_all}
 use Rattle.game_trait.specs.declared.command.Command.{Command}
 use Rattle.sync_model.specs.State.{MirrorState}
-use Rattle.sync_model.specs.Turns.{drain_within, drain_bound}
+use Rattle.sync_model.specs.Turns.{drain}
 use Rattle.copy_workers.specs.Feeding.{joined}
 use Rattle.race_hall.specs.Finish.{delivered, finished, CanTake}
 use Rattle.race_hall.proofs.Deliveries.{deliver-none, deliver-append, can-first, can-later}
@@ -32,7 +32,7 @@ pub piece-ends : {W X : Type 0} (f : X → List Command) (s : MirrorState W) (xs
 unfolding joined
 piece-ends {W} {X} f s xs i end = deliver-none s ∙ ap (λ (l : List X). delivered s (joined (map f l))) (sym (drop_all i xs end))
 
-pub finish-state : {W : Type 0} (s t u v : MirrorState W) (L U : List Command) (turns : ℕ) → t ≡ delivered s L → u ≡ delivered t U → turns ≡ drain_bound u → v ≡ drain_within turns u → v ≡ finished s (L ++ U)
-finish-state {W} s t u v L U turns a b d e =
+pub finish-state : {W : Type 0} (s t u v : MirrorState W) (L U : List Command) → t ≡ delivered s L → u ≡ delivered t U → v ≡ drain u → v ≡ finished s (L ++ U)
+finish-state {W} s t u v L U a b e =
     let whole : u ≡ delivered s (L ++ U) = b ∙ ap (λ (w : MirrorState W). delivered w U) a ∙ sym (deliver-append s L U) in
-    e ∙ ap (λ (n : ℕ). drain_within n u) d ∙ ap (λ (w : MirrorState W). drain_within (drain_bound w) w) whole
+    e ∙ ap (λ (w : MirrorState W). drain w) whole

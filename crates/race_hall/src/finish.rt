@@ -5,8 +5,6 @@ ghost use Rattle.race_hall.specs.Parting.{sender_of_end};
 ghost use Rattle.std.specs.List.{AllByRecursion, AllZip};
 ghost use mathlib.Core.List.{IsPrefix};
 ghost use Rattle.game_trait.specs.declared.command.Command.{Command};
-ghost use Rattle.sync_model.specs.Change.{after};
-ghost use Rattle.sync_model.specs.Turns.{steps_from, turn, drain_within, drain_bound, drain};
 ghost use Rattle.link_ring.specs.declared.message.Message.{Message};
 ghost use Rattle.link_ring.specs.Ends.{waiting_of};
 ghost use Rattle.copy_workers.specs.Messages.{commands_in};
@@ -97,36 +95,6 @@ pub fn take_plan<G: Game>(mirror: &mut Mirror<G>, plan: &[Command], from: usize)
     }
 }
 
-// A step of each copy, from copy 0 on.
-fn make_steps<G: Game>(mirror: &mut Mirror<G>)
-    ensures { mirror.new ≡ after mirror.old (steps_from 0 (length mirror.old.runs)) }
-{
-    for copy in 0..mirror.copies() {
-        let _ran = mirror.step(copy);
-    }
-}
-
-// One turn: a tick, and then a step of each copy.
-fn make_turn<G: Game>(mirror: &mut Mirror<G>)
-    ensures { mirror.new ≡ turn mirror.old }
-{
-    let _moved = mirror.tick();
-    make_steps(mirror);
-}
-
-/// Makes turns until the mirror is drained, at most so many. A turn is a tick and then a step of
-/// each copy, from copy 0 on.
-pub fn drain_mirror<G: Game>(mirror: &mut Mirror<G>, turns: u32)
-    ensures { mirror.new ≡ drain_within turns mirror.old }
-{
-    for _ in 0..turns {
-        if mirror.drained() {
-            return;
-        }
-        make_turn(mirror);
-    }
-}
-
 /// Delivers what is left in a mirror's links, each to its end, from the first link on.
 pub fn take_links<G: Game>(mirror: &mut Mirror<G>, links: &mut [LinkReceive])
     requires { CanTake mirror.old (left_in links.old) }
@@ -169,8 +137,7 @@ pub fn finish_mirror<G: Game>(mirror: &mut Mirror<G>, links: &mut [LinkReceive],
 {
     take_links(mirror, links);
     take_unissued(mirror, senders);
-    let turns = mirror.turns_to_drain();
-    drain_mirror(mirror, turns);
+    mirror.drain();
 }
 
 // Finishes one mirror of a race: afterwards it has every command of the match once, and its copies'

@@ -39,12 +39,13 @@ fn append_from(list: &Buckets, start: u32, t: Tick, run: &mut Segments) -> u32
     next
 }
 
-/// Appends a whole tick, for whose items there is room, to the list. It isn't executed here.
-pub fn append_tick(list: &Buckets, t: Tick, run: &mut Segments)
-    requires { length (tick_of list.now.all t) ≤ run.old.spare }
+/// Appends a whole tick, for whose items there is room, to the list. It isn't executed here. Its
+/// commands begin at `start` in key order.
+pub fn append_tick(list: &Buckets, start: u32, t: Tick, run: &mut Segments)
+    requires start { start ≡ start_of list.now.all t }
+    requires room { length (tick_of list.now.all t) ≤ run.old.spare }
     ensures { run.new ≡ run_grown run.old (tick_of list.now.all t) }
 {
-    let start = list.start(t);
     append_from(list, start, t, run);
 }
 
@@ -66,11 +67,12 @@ pub fn append_ticks(list: &Buckets, place: u32, start: Tick, stop: Tick, run: &m
     place
 }
 
-/// How many items a whole tick has.
-pub fn tick_len(list: &Buckets, t: Tick) -> u32
+/// How many items a whole tick has, whose commands begin at `start` in key order.
+pub fn tick_len(list: &Buckets, start: u32, t: Tick) -> u32
+    requires start { start ≡ start_of list.now.all t }
     requires next { t + 1 < 2 ^ 32 }
     requires few { length (tick_of list.now.all t) < 2 ^ 32 }
     ensures { result ≡ length (tick_of list.now.all t) }
 {
-    list.start(t + 1) - list.start(t) + 1
+    list.start(t + 1) - start + 1
 }

@@ -19,8 +19,8 @@ use Rattle.sync_model.proofs.Rebuilt.{rebuilt_level}
 use Rattle.sync_model.proofs.Trailing.{trailing-step, beats-step}
 use Rattle.executed_list.specs.Segments.{OneList, Falls, end_of, runs_at}
 use Rattle.executed_list.proofs.Lists.{get-any, falls-set, falls-push}
-use Rattle.trailing_copy.specs.Stack.{CopyState, IsStack, put_unless_stale}
-use Rattle.std.specs.Prelude.{max}
+use Rattle.trailing_copy.specs.Stack.{LazyCopies, IsStack, put_unless_stale, world_after}
+use Rattle.std.specs.Prelude.{max, Option, Some, None, IfSome}
 use Rattle.std.proofs.lemmas.List.{length-set, get_or-set_same, get_or-set_other}
 use Rattle.sync_model.proofs.Lists.{all-put}
 use Rattle.trailing_copy.proofs.Remade.{Change, Put, put-one, run-many, clock-many, clock-at, run-at, world-at, clocks-fall}
@@ -188,6 +188,17 @@ module _ {W : Type 0} {rules : Rules W} {opening : W} {ticks : ℕ} {all : List 
       → w ≡ world_of rules opening (take (end_of s.ends c) s.items ++ tick_of all t)
   handed-world c t w there at own = own ∙ ap (world_of rules opening) (new-run c t there at)
 
+  -- or of the one that is given, or else of its own
+  pub after-world :
+      (c t : ℕ) (d : W) (given : Option W) → c < length s.ends → t ≡ get_or clocks c t
+      → IfSome given (λ world. world
+      ≡ world_of rules opening (with_tick all (get_or (runs_at s.items s.ends) c [])))
+      → stale ≤ c
+      → world_after rules given (get_or worlds c d) (tick_of all t)
+      ≡ world_of rules opening (take (end_of s.ends c) s.items ++ tick_of all t)
+  after-world c t d (Some w) there at own made = handed-world c t w there at own
+  after-world c t d None there at own made = ran-at c t d there made
+
   pub own-world :
       (c t : ℕ) (w : W) → c < length s.ends → t ≡ get_or clocks c t
       → w ≡ world_of rules opening (take (end_of s.ends c) s.items ++ tick_of all t)
@@ -238,7 +249,7 @@ module _ {W : Type 0} {rules : Rules W} {opening : W} {ticks : ℕ} {all : List 
 pub same-state :
     {W : Type 0} (opening : W) (ticks : ℕ) (accepted : List Command) (spare stale : ℕ)
     (a b : List (List Item)) → a ≡ b
-    → Path (CopyState W)
+    → Path (LazyCopies W)
     (record { opening = opening; ticks = ticks; accepted = accepted; runs = a; spare = spare; stale = stale })
     (record { opening = opening; ticks = ticks; accepted = accepted; runs = b; spare = spare; stale = stale })
 same-state opening ticks accepted spare stale a b e =

@@ -4,9 +4,11 @@
 
 mod clocks;
 mod due;
+mod lazy;
 mod repairs;
 mod stack;
 mod ticks;
 mod worlds;
 
+pub use lazy::LazyStack;
 pub use stack::CopyStack;

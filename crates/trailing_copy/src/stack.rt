@@ -1,68 +1,51 @@
-//! The copies of a mirror over one list of runs.
+//! The copies of a mirror, each with its run and its live world.
 
-ghost use Rattle.std.specs.Prelude.{◌≡◌, ℕ, ◌+◌, ◌-◌, ◌<◌, ◌≤◌, false, true, Some, IfOk, [], ◌∷◌};
-ghost use Rattle.std.specs.Prelude.{◌++◌, length, max, slice_get, slice_index_or, replicate};
+ghost use Rattle.std.specs.Prelude.{◌≡◌, ◌+◌, ◌-◌, ◌<◌, ◌≤◌, false, Some, IfOk, [], ◌∷◌, ◌++◌, length};
+ghost use Rattle.std.specs.Prelude.{slice_get, slice_index_or, replicate};
 ghost use Rattle.std.specs.List.{list_any};
 ghost use Rattle.game_trait.specs.declared.limits.TheConstants.{LONGEST_MATCH, MOST_COPIES};
 ghost use Rattle.game_trait.specs.declared.limits.TheConstants.{MOST_ROOM};
 ghost use Rattle.game_trait.specs.Run.{world_of};
 ghost use Rattle.game_trait.specs.Keys.{same_name};
 ghost use Rattle.game_trait.specs.Ordered.{due_at};
-ghost use Rattle.sync_model.specs.Settle.{begins_with, settle, repaired};
+ghost use Rattle.sync_model.specs.Settle.{settle, repaired};
 ghost use Rattle.sync_model.specs.Change.{with_tick, proposed_by_arrival, proposed_by_step};
 ghost use Rattle.sync_model.specs.State.{copy_clock, last_clock};
-ghost use Rattle.sync_model.specs.Repairs.{is_late_at, IsLastLate};
+ghost use Rattle.trailing_copy.specs.Stack.{AreStaggered};
 
-use crate::clocks::count_above;
-use crate::due::due_into;
-use crate::repairs::{append_ahead, bring_up};
-use crate::ticks::{execute_at, put_at, replay_at};
-use crate::worlds::{apply_to_each, make_worlds};
+use crate::lazy::LazyStack;
 use arrayvec::ArrayVec;
-use divergence_check::diverges;
-use executed_list::Segments;
 use game_trait::{Command, Game, Item, Tick};
-use pending_list::Buckets;
-use repair_copy::{append_tick, tick_len};
 use std::alloc::Global;
 use std::marker::Model;
 use tss_io::NoMemory;
 
-/// The copies of a mirror, each with its run and its live world: the trailing states of the paper
-/// of 2002, which execute a late command on arrival and are compared and repaired tick by tick
-/// (this project's own). All runs are kept as one list. The runs that an arrival or a step repairs
-/// are made anew at once, and their worlds by `refresh`, once for all that came before it. Contracts
-/// see the opening world, the match's length in ticks, the accepted commands in order of acceptance,
-/// the runs from copy 0 on, for how many more commands there is room, and how many copies, from copy
-/// 0 on, have worlds that are still to be made. Only `new` takes memory.
+/// The copies of a mirror, each with its run and its live world, which is always the world of its
+/// run: the trailing states of the paper of 2002, which execute a late command on arrival and are
+/// compared and repaired tick by tick (this project's own). Contracts see the opening world, the
+/// match's length in ticks, the accepted commands in order of acceptance, the runs from copy 0 on,
+/// and for how many more commands there is room. Only `new` takes memory.
 #[derive(Drop)]
 pub struct CopyStack<G: Game> {
-    opening: G,
-    list: Buckets,
-    run: Segments,
-    worlds: Vec<G>,
-    clocks: Vec<Tick>,
-    // how many copies, from copy 0 on, have worlds that are still to be made
-    stale: u8,
+    inner: LazyStack<G>,
 }
 
 impl<G: Game> Model for CopyStack<G> {
-    ghost use Rattle.executed_list.specs.Segments.{runs_at};
-    ghost use Rattle.trailing_copy.specs.Stack.{CopyState, IsStack};
+    ghost use Rattle.std.specs.Prelude.{◌≡◌};
+    ghost use Rattle.trailing_copy.specs.Stack.{CopyState};
 
     ghost Value = { CopyState G };
 
     ghost view = { λ s. record {
-      opening = s.opening;
-      ticks = s.list.ticks;
-      accepted = s.list.all;
-      runs = runs_at s.run.items s.run.ends;
-      spare = s.list.spare;
-      stale = s.stale;
+      opening = s.inner.opening;
+      ticks = s.inner.ticks;
+      accepted = s.inner.accepted;
+      runs = s.inner.runs;
+      spare = s.inner.spare;
     } };
 
-    ghost invariant = { λ s. IsStack G.rules s.opening s.list.ticks s.list.all s.list.spare s.run
-        s.worlds.items s.clocks.items s.stale };
+    // no world is still to be made
+    ghost invariant = { λ s. s.inner.stale ≡ 0 };
 }
 
 impl<G: Game> CopyStack<G> {
@@ -84,169 +67,45 @@ impl<G: Game> CopyStack<G> {
           accepted = [];
           runs = replicate copies [];
           spare = room;
-          stale = 0;
         }) }
     {
-        let mut worlds = Vec::with_capacity(alloc, copies as usize)?;
-        let mut clocks = Vec::with_capacity(alloc, copies as usize)?;
-        for made in 0..copies {
-            let _ = made;
-            worlds.push_reserved(opening.twin());
-            clocks.push_reserved(0);
-        }
         Ok(CopyStack {
-            opening: opening.twin(),
-            list: Buckets::new(alloc, length, room)?,
-            run: Segments::new(alloc, copies, length + room)?,
-            worlds,
-            clocks,
-            stale: 0,
+            inner: LazyStack::new(alloc, opening, copies, length, room)?,
         })
     }
 
-    // A tick of copy 0, or of a copy whose new run the copy ahead doesn't begin with. The runs of the
-    // copies ahead are made anew, and their worlds left to be made.
-    fn tick_apart(&mut self, copy: u8)
-        requires copy { copy < length self.old.runs }
-        requires below { copy_clock self.old.runs copy < self.old.ticks }
-        requires behind { 0 < copy
-            → copy_clock self.old.runs copy < copy_clock self.old.runs (copy - 1) }
-        requires apart { 0 < copy
-            → begins_with (slice_index_or self.old.runs (copy - 1) [])
-            (with_tick self.old.accepted (slice_index_or self.old.runs copy [])) ≡ false }
-        ensures runs { self.new
-            ≡ record self.old {
-              runs =
-                  settle self.old.accepted (proposed_by_step self.old.accepted self.old.runs copy);
-              stale = max self.old.stale copy;
-            } }
-        ensures repaired { copy
-            ≡ repaired self.old.accepted (proposed_by_step self.old.accepted self.old.runs copy) }
+    /// What always holds of the copies. It does nothing.
+    pub fn always(&self)
+        ensures { AreStaggered self.now.ticks self.now.accepted self.now.runs }
     {
-        let c = copy as usize;
-        let t = self.clocks[c];
-        let _ = self.run.len();
-        self.run.cut(copy);
-        let from = self.run.len();
-        replay_at(
-            &mut self.worlds,
-            self.stale,
-            copy,
-            &self.list,
-            t,
-            &mut self.run,
-        );
-        bring_up(&mut self.run, copy, from);
-        self.clocks[c] = t + 1;
-        append_ahead(&mut self.run, &self.list, &self.clocks, copy);
-        let stale = self.stale.max(copy);
-        self.stale = stale;
+        self.inner.always();
     }
 
-    // The same of a tick that another executed, and whose world it hands over.
-    fn commit_apart(&mut self, copy: u8, world: &G)
-        requires copy { copy < length self.old.runs }
-        requires below { copy_clock self.old.runs copy < self.old.ticks }
-        requires behind { 0 < copy
-            → copy_clock self.old.runs copy < copy_clock self.old.runs (copy - 1) }
-        requires apart { 0 < copy
-            → begins_with (slice_index_or self.old.runs (copy - 1) [])
-            (with_tick self.old.accepted (slice_index_or self.old.runs copy [])) ≡ false }
-        requires world { world.now
-            ≡ world_of G.rules self.old.opening
-            (with_tick self.old.accepted (slice_index_or self.old.runs copy [])) }
-        ensures runs { self.new
-            ≡ record self.old {
-              runs =
-                  settle self.old.accepted (proposed_by_step self.old.accepted self.old.runs copy);
-              stale = max self.old.stale copy;
-            } }
-        ensures repaired { copy
-            ≡ repaired self.old.accepted (proposed_by_step self.old.accepted self.old.runs copy) }
+    /// Accepts a command of a new name that is due within the match and not before the last copy's
+    /// clock, where there is room. Of the copies at which it is late, those with the last one's
+    /// clock execute it at once, as their next item, and those with a greater clock are repaired.
+    /// Answers how many were repaired.
+    pub fn accept(&mut self, x: &Command) -> u8
+        requires room { 0 < self.old.spare }
+        requires within { x.now.time < self.old.ticks }
+        requires new_name { list_any (same_name x.now) self.old.accepted ≡ false }
+        requires due { last_clock self.old.runs ≤ x.now.time }
+        ensures state { self.new ≡ record self.old {
+          accepted = self.old.accepted ++ x.now ∷ [];
+          runs = settle (self.old.accepted ++ x.now ∷ []) (proposed_by_arrival x.now self.old.runs);
+          spare = self.old.spare - 1;
+        } }
+        ensures repaired { result
+            ≡ repaired (self.old.accepted ++ x.now ∷ []) (proposed_by_arrival x.now self.old.runs) }
     {
-        let c = copy as usize;
-        let t = self.clocks[c];
-        let _ = self.run.len();
-        self.run.cut(copy);
-        let from = self.run.len();
-        append_tick(&self.list, t, &mut self.run);
-        put_at(&mut self.worlds, self.stale, copy, world);
-        bring_up(&mut self.run, copy, from);
-        self.clocks[c] = t + 1;
-        append_ahead(&mut self.run, &self.list, &self.clocks, copy);
-        let stale = self.stale.max(copy);
-        self.stale = stale;
-    }
-
-    // A tick of a copy whose new run the copy ahead begins with.
-    fn tick_front(&mut self, copy: u8)
-        requires copy { (0 < copy) × (copy < length self.old.runs) }
-        requires below { copy_clock self.old.runs copy < self.old.ticks }
-        requires behind { copy_clock self.old.runs copy < copy_clock self.old.runs (copy - 1) }
-        requires front { begins_with (slice_index_or self.old.runs (copy - 1) [])
-            (with_tick self.old.accepted (slice_index_or self.old.runs copy [])) ≡ true }
-        ensures runs { self.new
-            ≡ record self.old {
-              runs =
-                  settle self.old.accepted (proposed_by_step self.old.accepted self.old.runs copy);
-            } }
-        ensures repaired { 0
-            ≡ repaired self.old.accepted (proposed_by_step self.old.accepted self.old.runs copy) }
-    {
-        let c = copy as usize;
-        let t = self.clocks[c];
-        let _ = self.run.len();
-        let by = execute_at(&mut self.worlds, self.stale, copy, &self.list, t);
-        self.run.pass(copy, by);
-        self.clocks[c] = t + 1;
-    }
-
-    // The same of a tick that another executed, and whose world it hands over.
-    fn commit_front(&mut self, copy: u8, world: &G)
-        requires copy { (0 < copy) × (copy < length self.old.runs) }
-        requires below { copy_clock self.old.runs copy < self.old.ticks }
-        requires behind { copy_clock self.old.runs copy < copy_clock self.old.runs (copy - 1) }
-        requires front { begins_with (slice_index_or self.old.runs (copy - 1) [])
-            (with_tick self.old.accepted (slice_index_or self.old.runs copy [])) ≡ true }
-        requires world { world.now
-            ≡ world_of G.rules self.old.opening
-            (with_tick self.old.accepted (slice_index_or self.old.runs copy [])) }
-        ensures runs { self.new
-            ≡ record self.old {
-              runs =
-                  settle self.old.accepted (proposed_by_step self.old.accepted self.old.runs copy);
-            } }
-        ensures repaired { 0
-            ≡ repaired self.old.accepted (proposed_by_step self.old.accepted self.old.runs copy) }
-    {
-        let c = copy as usize;
-        let t = self.clocks[c];
-        let _ = self.run.len();
-        let by = tick_len(&self.list, t);
-        put_at(&mut self.worlds, self.stale, copy, world);
-        self.run.pass(copy, by);
-        self.clocks[c] = t + 1;
-    }
-
-    // Whether the run ahead begins with the copy's run and its due tick.
-    fn is_front(&self, copy: u8) -> bool
-        requires copy { (0 < copy) × (copy < length self.now.runs) }
-        requires behind { copy_clock self.now.runs copy < copy_clock self.now.runs (copy - 1) }
-        ensures { result
-            ≡ begins_with (slice_index_or self.now.runs (copy - 1) [])
-            (with_tick self.now.accepted (slice_index_or self.now.runs copy [])) }
-    {
-        let t = self.clocks[copy as usize];
-        let _ = self.run.len();
-        let place = self.run.end(copy);
-        diverges(&self.run, place, &self.list, t).is_none()
+        let repaired = self.inner.accept(x);
+        self.inner.refresh();
+        repaired
     }
 
     /// Runs the due tick of a copy, which is there, below the match's end and behind the copy
     /// ahead, and compares it with the run ahead: where that doesn't begin with the new run, the
-    /// copies ahead are repaired, their runs at once and their worlds by `refresh`. Answers how many
-    /// were repaired. The copy's world executes the tick, but where it is still to be made. Where no
-    /// copy is repaired, it costs the tick alone.
+    /// copies ahead are repaired. Answers how many were.
     pub fn run_tick(&mut self, copy: u8) -> u8
         requires there { copy < length self.old.runs }
         requires below { copy_clock self.old.runs copy < self.old.ticks }
@@ -256,26 +115,17 @@ impl<G: Game> CopyStack<G> {
             ≡ record self.old {
               runs =
                   settle self.old.accepted (proposed_by_step self.old.accepted self.old.runs copy);
-              stale = max self.old.stale result;
             } }
         ensures repaired { result
             ≡ repaired self.old.accepted (proposed_by_step self.old.accepted self.old.runs copy) }
     {
-        if copy == 0 {
-            self.tick_apart(copy);
-            return 0;
-        }
-        if self.is_front(copy) {
-            self.tick_front(copy);
-            return 0;
-        }
-        self.tick_apart(copy);
-        copy
+        let repaired = self.inner.run_tick(copy);
+        self.inner.refresh();
+        repaired
     }
 
     /// Does what `run_tick` does, with the copy's world after its due tick given: the tick isn't
-    /// executed again, and the copy's world is made equal to this one, but where it is still to be
-    /// made.
+    /// executed again.
     pub fn commit_tick(&mut self, copy: u8, world: &G) -> u8
         requires there { copy < length self.old.runs }
         requires below { copy_clock self.old.runs copy < self.old.ticks }
@@ -288,132 +138,34 @@ impl<G: Game> CopyStack<G> {
             ≡ record self.old {
               runs =
                   settle self.old.accepted (proposed_by_step self.old.accepted self.old.runs copy);
-              stale = max self.old.stale result;
             } }
         ensures repaired { result
             ≡ repaired self.old.accepted (proposed_by_step self.old.accepted self.old.runs copy) }
     {
-        if copy == 0 {
-            self.commit_apart(copy, world);
-            return 0;
-        }
-        if self.is_front(copy) {
-            self.commit_front(copy, world);
-            return 0;
-        }
-        self.commit_apart(copy, world);
-        copy
-    }
-
-    // The arrival of a command that is late at the copies up to `last`, of which those from `first`
-    // on have one clock. The worlds ahead of these are left to be made.
-    fn arrive_late(&mut self, x: &Command, first: u8, last: u8)
-        requires room { 0 < self.old.spare }
-        requires within { x.now.time < self.old.ticks }
-        requires new_name { list_any (same_name x.now) self.old.accepted ≡ false }
-        requires due { last_clock self.old.runs ≤ x.now.time }
-        requires late { IsLastLate x.now self.old.runs last }
-        requires order { first ≤ last }
-        requires level { (i : ℕ) → first ≤ i → i ≤ last
-            → copy_clock self.old.runs i ≡ copy_clock self.old.runs last }
-        ensures { self.new ≡ record self.old {
-          accepted = self.old.accepted ++ x.now ∷ [];
-          runs = settle (self.old.accepted ++ x.now ∷ []) (proposed_by_arrival x.now self.old.runs);
-          spare = self.old.spare - 1;
-          stale = max self.old.stale first;
-        } }
-    {
-        let _ = self.run.len();
-        self.list.insert(x);
-        self.run.cut(last);
-        let from = self.run.len();
-        self.run.push(&Item::Cmd(*x));
-        bring_up(&mut self.run, last, from);
-        append_ahead(&mut self.run, &self.list, &self.clocks, first);
-        let stale = self.stale.max(first);
-        apply_to_each(&mut self.worlds, stale, last, x);
-        self.stale = stale;
-    }
-
-    // The arrival of a command that is late at no copy.
-    fn arrive_early(&mut self, x: &Command)
-        requires room { 0 < self.old.spare }
-        requires within { x.now.time < self.old.ticks }
-        requires new_name { list_any (same_name x.now) self.old.accepted ≡ false }
-        requires due { last_clock self.old.runs ≤ x.now.time }
-        requires early { list_any (is_late_at x.now) self.old.runs ≡ false }
-        ensures { self.new ≡ record self.old {
-          accepted = self.old.accepted ++ x.now ∷ [];
-          runs = settle (self.old.accepted ++ x.now ∷ []) (proposed_by_arrival x.now self.old.runs);
-          spare = self.old.spare - 1;
-        } }
-    {
-        let _ = self.run.len();
-        self.list.insert(x);
-    }
-
-    /// Accepts a command of a new name that is due within the match and not before the last copy's
-    /// clock, where there is room. Of the copies at which it is late, those with the last one's
-    /// clock have it as their next item; their worlds execute it at once, but where they are still
-    /// to be made. Those with a greater clock are repaired: their runs at once, and their worlds by
-    /// `refresh`. Answers how many were repaired. Where none is late, it costs the command's place
-    /// alone.
-    pub fn accept(&mut self, x: &Command) -> u8
-        requires room { 0 < self.old.spare }
-        requires within { x.now.time < self.old.ticks }
-        requires new_name { list_any (same_name x.now) self.old.accepted ≡ false }
-        requires due { last_clock self.old.runs ≤ x.now.time }
-        ensures state { self.new ≡ record self.old {
-          accepted = self.old.accepted ++ x.now ∷ [];
-          runs = settle (self.old.accepted ++ x.now ∷ []) (proposed_by_arrival x.now self.old.runs);
-          spare = self.old.spare - 1;
-          stale = max self.old.stale result;
-        } }
-        ensures repaired { result
-            ≡ repaired (self.old.accepted ++ x.now ∷ []) (proposed_by_arrival x.now self.old.runs) }
-    {
-        let _ = self.run.len();
-        let late = count_above(&self.clocks, x.time);
-        if late == 0 {
-            self.arrive_early(x);
-            return 0;
-        }
-        let last = late - 1;
-        let repaired = count_above(&self.clocks, self.clocks[last as usize]);
-        self.arrive_late(x, repaired, last);
+        let repaired = self.inner.commit_tick(copy, world);
+        self.inner.refresh();
         repaired
-    }
-
-    /// Makes the worlds that are still to be made, each from that of the copy behind it and from
-    /// the items between their ends. However many arrivals left them so, each item is executed
-    /// once.
-    pub fn refresh(&mut self)
-        ensures { self.new ≡ record self.old { stale = 0 } }
-    {
-        let _ = self.run.len();
-        make_worlds(&mut self.worlds, &self.run, self.stale);
-        self.stale = 0;
     }
 
     /// The opening world, a twin of the one that `new` was given.
     pub fn opening(&self) -> &G
         ensures { result.now ≡ self.now.opening }
     {
-        &self.opening
+        self.inner.opening()
     }
 
     /// For how many more commands there is room.
     pub fn spare(&self) -> u32
         ensures { result ≡ self.now.spare }
     {
-        self.list.spare()
+        self.inner.spare()
     }
 
     /// The accepted commands, in order of acceptance.
     pub fn accepted(&self) -> &[Command]
         ensures { result.now ≡ self.now.accepted }
     {
-        self.list.all()
+        self.inner.accepted()
     }
 
     /// How many of the accepted commands are due at a tick of the match.
@@ -421,8 +173,7 @@ impl<G: Game> CopyStack<G> {
         requires { t < self.now.ticks }
         ensures { result ≡ length (due_at self.now.accepted t) }
     {
-        let _ = self.run.len();
-        self.list.start(t + 1) - self.list.start(t)
+        self.inner.due_len(t)
     }
 
     /// Puts the accepted commands that are due at a tick, in key order, in the place of others. They
@@ -431,7 +182,7 @@ impl<G: Game> CopyStack<G> {
         requires { length (due_at self.now.accepted t) ≤ N }
         ensures { commands.new.items ≡ due_at self.now.accepted t }
     {
-        due_into(&self.list, t, commands);
+        self.inner.due_into(t, commands);
     }
 
     /// The copy's clock: how many ticks it has run. The copy is there.
@@ -439,20 +190,16 @@ impl<G: Game> CopyStack<G> {
         requires { copy < length self.now.runs }
         ensures { result ≡ copy_clock self.now.runs copy }
     {
-        let _ = self.run.len();
-        self.clocks[copy as usize]
+        self.inner.clock(copy)
     }
 
-    /// The copy's live world, which is the world of its run. The copy is there, and its world isn't
-    /// still to be made.
+    /// The copy's live world, which is the world of its run. The copy is there.
     pub fn world(&self, copy: u8) -> &G
-        requires there { copy < length self.now.runs }
-        requires fresh { self.now.stale ≤ copy }
+        requires { copy < length self.now.runs }
         ensures { result.now
             ≡ world_of G.rules self.now.opening (slice_index_or self.now.runs copy []) }
     {
-        let _ = self.run.len();
-        &self.worlds[copy as usize]
+        self.inner.world(copy)
     }
 
     /// How many items the copy has run. The copy is there.
@@ -460,8 +207,7 @@ impl<G: Game> CopyStack<G> {
         requires { copy < length self.now.runs }
         ensures { result ≡ length (slice_index_or self.now.runs copy []) }
     {
-        let _ = self.run.len();
-        self.run.end(copy)
+        self.inner.run_len(copy)
     }
 
     /// The item at a place of the copy's run. The copy and the place are there.
@@ -470,7 +216,6 @@ impl<G: Game> CopyStack<G> {
         requires place { place < length (slice_index_or self.now.runs copy []) }
         ensures { slice_get (slice_index_or self.now.runs copy []) place ≡ Some result }
     {
-        let _ = self.run.len();
-        self.run.item(place)
+        self.inner.run_item(copy, place)
     }
 }

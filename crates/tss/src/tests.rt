@@ -3,6 +3,7 @@
 
 mod arenas;
 mod commands;
+mod copies;
 mod counting_game;
 mod limits;
 mod lines;

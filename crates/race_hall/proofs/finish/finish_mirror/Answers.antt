@@ -12,5 +12,5 @@ take_unissued-requires-clause-can g c =
 
 pub returns : goal.returns
 returns g c =
-    finish-state c.args.mirror.now c.take_links.new.mirror c.take_unissued.new.mirror c.drain_mirror.new.mirror (left_in c.args.links.now) (unissued_in c.args.senders.now) c.turns_to_drain-turns.result
-    c.take_links.ensures c.take_unissued.ensures c.turns_to_drain-turns.ensures c.drain_mirror.ensures
+    finish-state c.args.mirror.now c.take_links.new.mirror c.take_unissued.new.mirror c.drain.new.self (left_in c.args.links.now) (unissued_in c.args.senders.now)
+    c.take_links.ensures c.take_unissued.ensures c.drain.ensures

@@ -6,7 +6,7 @@ use Rattle.game_trait.proofs.Lengths.{length-tick_of-due}
 pub overflow_sub-result : goal.overflow_sub-result
 overflow_sub-result c =
     (let more = start-next c.args.list.now.all c.args.t in
-    let at = c.start.ensures.start in let from = c.start-2.ensures.start in omega arith)
+    let at = c.start.ensures.start in let from = c.requires.start in omega arith)
 
 pub overflow_add-result : goal.overflow_add-result
 overflow_add-result c =
@@ -14,7 +14,7 @@ overflow_add-result c =
     let whole = length-tick_of-due c.args.list.now.all c.args.t in
     let few = c.requires.few in
     let at = c.start.ensures.start in
-    let from = c.start-2.ensures.start in
+    let from = c.requires.start in
     omega arith)
 
 pub returns : goal.returns
@@ -22,5 +22,5 @@ returns c =
     (let more = start-next c.args.list.now.all c.args.t in
     let whole = length-tick_of-due c.args.list.now.all c.args.t in
     let at = c.start.ensures.start in
-    let from = c.start-2.ensures.start in
+    let from = c.requires.start in
     omega arith)

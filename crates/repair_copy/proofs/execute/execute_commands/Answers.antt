@@ -6,10 +6,10 @@ use Rattle.repair_copy.proofs.execute.execute_commands.Goals as goal
 pub loop-x-init : goal.loop-x-init
 loop-x-init g c = record {
   walked =
-      (walk-begun c.args.list.now.all c.args.t c.start-start.result c.start-start.ensures.start).0;
+      (walk-begun c.args.list.now.all c.args.t c.args.start c.requires).0;
   world =
-      executed-none g.G.Game.rules c.args.list.now.all c.args.t c.start-start.result
-      c.args.world.now c.start-start.ensures.start;
+      executed-none g.G.Game.rules c.args.list.now.all c.args.t c.args.start
+      c.args.world.now c.requires;
 }
 
 pub loop-x-smaller : goal.loop-x-smaller
