@@ -1,13 +1,14 @@
 #!/usr/bin/env python3
 """Lists what the program's headline says: the definitions that the clauses of its calls cite, and all that these stand on.
 
-    python3 tools/claim.py [--names]
+    python3 tools/claim.py [--names | --write]
 
 It begins at the clauses of `run_watched`, `run` and `run_plain` (crates/tss_program/src), looks up each name in the imports of its
 file, and goes on from the definition that it finds, over all crates. It prints a line for each crate, the lowest first: the files of
 its specs/, and the files of its src/ whose types and constants the definitions name. Then it prints what the laws of tss_program
 (src/laws.rt), which take the clause of the calls apart, add to that. With --names it prints what stands in each file.
-docs/READING.md has the same lists, with what each crate's files say; tools/tests compares the two.
+docs/READING.md has the same lists, with what each crate's files say; tools/tests compares the two. With --write it brings the page's
+tables up to date, and keeps what they say of each crate; of a new one that is to be written by hand.
 
 Names of std and of the kit's crates aren't followed. A name is looked up as a word, so where a variable is called as a definition
 of its file, that one is listed too: the list may have a definition too many, and none too few.
@@ -20,6 +21,7 @@ import re
 import sys
 
 TOP = os.path.join(os.path.dirname(os.path.abspath(__file__)), "..")
+PAGE = os.path.join(TOP, "docs", "READING.md")
 CALLS = [("watched.rt", "run_watched"), ("race.rt", "run"), ("plain.rt", "run_plain")]
 WORD = re.compile(r"[^\s(){}\[\],;]+")
 IMPORT = re.compile(r"^\s*(?:ghost )?(?:pub )?use Rattle\.(\w+)\.specs\.([\w.]+?)(?:\.\{([^}]*)\}| as ([\w-]+));?$", re.M)
@@ -274,11 +276,35 @@ def show(listed, with_names):
                 print(f"{crate} {kind}/{path}: {', '.join(sorted(names))}")
 
 
+def rows(listed, table):
+    """The rows of a table of the page for this list, with what the table says of each crate now."""
+    says = dict(re.findall(r"^\| `(\w+)` \|.*\| ([^|]*) \|$", table, re.M))
+    lines = []
+    for crate, kinds in listed.items():
+        cells = [", ".join(f"`{name.removesuffix('.rt')}`" for name in sorted(files)) for files in kinds.values()]
+        lines.append(f"| `{crate}` | {cells[0]} | {cells[1]} | {says.get(crate, '')} |\n")
+    return "".join(lines)
+
+
+def write(lists):
+    """Brings the tables of the page up to date, which stand in the order of the lists."""
+    page = read(PAGE)
+    front, *tables = re.split(r"(?<=\|---\|---\|---\|---\|\n)", page)
+    for at, listed in enumerate(lists):
+        old = re.match(r"(?:\|.*\n)*", tables[at]).group(0)
+        tables[at] = rows(listed, old) + tables[at][len(old) :]
+    with open(PAGE, "w", encoding="utf-8") as file:
+        file.write(front + "".join(tables))
+
+
 def main():
-    if sys.argv[1:] not in ([], ["--names"]):
+    if sys.argv[1:] not in ([], ["--names"], ["--write"]):
         print(__doc__.strip())
         return 0 if sys.argv[1:] in (["-h"], ["--help"]) else 2
     calls, laws = claim()
+    if sys.argv[1:] == ["--write"]:
+        write([calls, laws])
+        return 0
     show(calls, bool(sys.argv[1:]))
     print("\nThe laws add:")
     show(laws, bool(sys.argv[1:]))
