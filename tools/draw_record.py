@@ -3,7 +3,7 @@
 
     python3 tools/draw_record.py RECORD > PICTURE.svg
 
-RECORD is a file with a legal record (docs/RECORDS.md). From left to right stands the log, one column an event; in a
+RECORD is a file with a legal record (docs/RECORDS.md); of a text that is none it says in one line what is wrong. From left to right stands the log, one column an event; in a
 lane the clock rises by one tick at each step of its copy. Below a mirror's lanes stands what arrived, at its event:
 
 - a filled mark: the command was taken;
@@ -49,6 +49,8 @@ class Mirror:
             self.arrive(int(words[1]), int(words[2]))
         elif words[0] == "restagger":
             self.restaggers.append((self.place, int(words[1])))
+        elif words != ["tick"]:
+            raise ValueError(f"{words[0]} is no event")
 
     def repair(self, copies, since):
         for copy in copies:
@@ -79,31 +81,55 @@ class Mirror:
             self.points[copy].append((self.place, clock))
 
 
+class Wrong(Exception):
+    """What is wrong with a text that is no record."""
+
+
+class Reader:
+    """A record, line by line."""
+
+    def __init__(self):
+        self.length, self.copies, self.times, self.mirrors = 0, 0, {}, []
+        self.in_match, self.left = False, 0
+
+    def line(self, line):
+        words = line.split(" ")
+        if self.left > 0:
+            self.mirrors[-1].event(words)
+            self.left -= 1
+        elif line in ("tss match 1", "tss match 2"):
+            self.in_match = True
+        elif self.in_match and line == "end":
+            self.in_match = False
+        elif self.in_match and words[0] == "length":
+            self.length = int(words[1])
+        elif self.in_match and words[0] == "delays":
+            self.copies = len(words) - 1
+        elif self.in_match and words[0] == "cmd":
+            self.times[int(words[2]), int(words[3])] = int(words[1])
+        elif not self.in_match and words[0] == "log":
+            self.mirrors.append(Mirror(int(words[1]), self.copies, self.times))
+            self.left = int(words[2])
+
+
 def read(text):
     """The length of the match and its mirrors, as the record's logs say."""
-    length, copies, times, mirrors, left = 0, 0, {}, [], 0
-    in_match = False
-    for line in text.splitlines():
-        words = line.split(" ")
-        if left > 0:
-            mirrors[-1].event(words)
-            left -= 1
-        elif line.startswith("tss match"):
-            in_match = True
-        elif in_match and line == "end":
-            in_match = False
-        elif in_match and words[0] == "length":
-            length = int(words[1])
-        elif in_match and words[0] == "delays":
-            copies = len(words) - 1
-        elif in_match and words[0] == "cmd":
-            times[int(words[2]), int(words[3])] = int(words[1])
-        elif not in_match and words[0] == "log":
-            mirrors.append(Mirror(int(words[1]), copies, times))
-            left = int(words[2])
-    for mirror in mirrors:
+    lines = text.splitlines()
+    if not lines or lines[0] != "tss record 1":
+        raise Wrong("line 1 isn't 'tss record 1'")
+    if lines[-1] != "done":
+        raise Wrong("the last line isn't 'done'")
+    reader = Reader()
+    for number, line in enumerate(lines, 1):
+        try:
+            reader.line(line)
+        except (KeyError, IndexError, ValueError):
+            raise Wrong(f"line {number}, '{line[:60]}', can't stand there in a legal record") from None
+    if not reader.mirrors or reader.left > 0:
+        raise Wrong("it has no log" if not reader.mirrors else f"the last log is {reader.left} events short")
+    for mirror in reader.mirrors:
         mirror.end()
-    return length, mirrors
+    return reader.length, reader.mirrors
 
 
 def label(x, y, text, size=12, anchor="start", colour=COLOURS["ink"]):
@@ -182,10 +208,16 @@ def draw(length, mirrors):
 
 
 def main():
+    if sys.argv[1:] in (["-h"], ["--help"]):
+        print(__doc__.strip())
+        return
     if len(sys.argv) != 2:
         sys.exit("usage: python3 tools/draw_record.py RECORD > PICTURE.svg")
-    with open(sys.argv[1], encoding="ascii") as file:
-        length, mirrors = read(file.read())
+    try:
+        with open(sys.argv[1], encoding="ascii") as file:
+            length, mirrors = read(file.read())
+    except (OSError, UnicodeDecodeError, Wrong) as wrong:
+        sys.exit(f"{sys.argv[1]} is no record: {wrong}")
     sys.stdout.write(draw(length, mirrors))
 
 

@@ -48,7 +48,7 @@ def blocks(lines):
     return {head: "\n".join(block) for head, block in found.items()}
 
 
-class Traces(unittest.TestCase):
+class Files(unittest.TestCase):
     def setUp(self):
         self.folder = tempfile.TemporaryDirectory()
         self.addCleanup(self.folder.cleanup)
@@ -59,6 +59,8 @@ class Traces(unittest.TestCase):
             file.write(text)
         return path
 
+
+class Traces(Files):
     def test_the_program_accepts_what_a_trace_makes(self):
         text, said, status = tool("match_of_trace.py", SAMPLE)
         self.assertEqual((said, status), ("", 0))
@@ -130,6 +132,77 @@ class Studies(unittest.TestCase):
 
     def test_delays_that_dont_rise_are_refused(self):
         self.assertIn("strictly rising", tool("study_delays.py", self.match, "--program", PROGRAM, "--delays", "0 0")[1])
+
+
+RECORD = """tss record 1
+tss match 1
+length 1
+grid 3 1
+mirrors 1
+delays 0 1
+pace 1
+player ann 0 0 e
+end
+log 0 4
+tick
+step 0
+tick
+step 1
+world 0 0 1
+live ann 0 0 e 3 5 0
+world 0 1 1
+live ann 0 0 e 3 5 0
+done
+"""
+
+
+class Drawings(Files):
+    def drawn(self, text):
+        return tool("draw_record.py", self.file("a.record", text))
+
+    def test_a_lane_for_each_copy(self):
+        picture, said, status = self.drawn(RECORD)
+        self.assertEqual((said, status, picture.count("<polyline")), ("", 0, 2))
+
+    def test_what_is_no_record_is_told_in_a_line(self):
+        for text, wrong in (("", "line 1 isn't 'tss record 1'"), (RECORD[:-5], "the last line isn't 'done'"),
+                            (RECORD.replace("step 1", "step 2"), "line 14, 'step 2', can't stand there in a legal record"),
+                            ("tss record 1\ndone\n", "it has no log")):
+            picture, said, status = self.drawn(text)
+            self.assertEqual((picture, status, said.count("\n")), ("", 1, 1))
+            self.assertTrue(said.endswith(f"is no record: {wrong}\n"), said)
+        self.assertIn("is no record", tool("draw_record.py", "no/such/file")[1])
+
+    def test_help(self):
+        self.assertTrue(tool("draw_record.py", "--help")[0].startswith("Draws a record"))
+
+
+class Claims(unittest.TestCase):
+    def files(self, cell):
+        return ", ".join(re.findall(r"`([\w/]+)`", cell))
+
+    def rows(self, table):
+        """For each crate of a table of the page its files of specs/ and src/."""
+        cells = [[cell.strip() for cell in line.split("|")[1:4]] for line in table.split("\n") if line.startswith("| `")]
+        return [(crate.strip("`"), self.files(specs), self.files(src)) for crate, specs, src in cells]
+
+    def listed(self, lines):
+        """The same of what the tool prints."""
+        rows = []
+        for crate, files in (line.split(": ") for line in lines.split("\n") if line):
+            parts = files.split("; ")
+            src = parts[-1].replace(".rt", "") if ".rt" in parts[-1] else ""
+            rows.append((crate, parts[0] if ".rt" not in parts[0] else "", src))
+        return rows
+
+    def test_the_page_lists_what_the_clauses_cite(self):
+        printed, said, status = tool("claim.py")
+        self.assertEqual((said, status), ("", 0))
+        calls, laws = printed.split("\nThe laws add:\n")
+        page = read(os.path.join(TOP, "docs", "READING.md")).split("## What to read to believe the headline")[1]
+        tables = page.split("| Crate |")[1:]
+        self.assertEqual(self.rows(tables[0]), self.listed(calls))
+        self.assertEqual(self.rows(tables[1]), self.listed(laws))
 
 
 @unittest.skipUnless(CHROMIUM, "Chromium isn't installed")

@@ -19,12 +19,22 @@ use Rattle.command_lines.specs.Faults.{fault_cause, Reads}
 
 acts_told : (version : ℕ) (a : Act) → has_act version a ≡ true → Chosen act_word (acts_of version) a
 unfolding is_word
-acts_told version Go h = elim (eqb version 1) as (λ t. Chosen act_word (cond t (Go ∷ Left ∷ Right ∷ Shoot ∷ []) (Go ∷ Left ∷ Right ∷ Shoot ∷ Dash ∷ [])) Go) [ true ↦ (refl, refl) | false ↦ (refl, refl) ]
-acts_told version Left h = elim (eqb version 1) as (λ t. Chosen act_word (cond t (Go ∷ Left ∷ Right ∷ Shoot ∷ []) (Go ∷ Left ∷ Right ∷ Shoot ∷ Dash ∷ [])) Left) [ true ↦ (refl, refl) | false ↦ (refl, refl) ]
-acts_told version Right h = elim (eqb version 1) as (λ t. Chosen act_word (cond t (Go ∷ Left ∷ Right ∷ Shoot ∷ []) (Go ∷ Left ∷ Right ∷ Shoot ∷ Dash ∷ [])) Right) [ true ↦ (refl, refl) | false ↦ (refl, refl) ]
-acts_told version Shoot h = elim (eqb version 1) as (λ t. Chosen act_word (cond t (Go ∷ Left ∷ Right ∷ Shoot ∷ []) (Go ∷ Left ∷ Right ∷ Shoot ∷ Dash ∷ [])) Shoot) [ true ↦ (refl, refl) | false ↦ (refl, refl) ]
+acts_told version Go h = elim (eqb version 1) as (λ t. Chosen act_word
+    (cond t (Go ∷ Left ∷ Right ∷ Shoot ∷ []) (Go ∷ Left ∷ Right ∷ Shoot ∷ Dash ∷ [])) Go) [ true ↦ (refl, refl)
+    | false ↦ (refl, refl) ]
+acts_told version Left h = elim (eqb version 1) as
+    (λ t. Chosen act_word (cond t (Go ∷ Left ∷ Right ∷ Shoot ∷ []) (Go ∷ Left ∷ Right ∷ Shoot ∷ Dash ∷ [])) Left)
+    [ true ↦ (refl, refl) | false ↦ (refl, refl) ]
+acts_told version Right h = elim (eqb version 1) as
+    (λ t. Chosen act_word (cond t (Go ∷ Left ∷ Right ∷ Shoot ∷ []) (Go ∷ Left ∷ Right ∷ Shoot ∷ Dash ∷ [])) Right)
+    [ true ↦ (refl, refl) | false ↦ (refl, refl) ]
+acts_told version Shoot h = elim (eqb version 1) as
+    (λ t. Chosen act_word (cond t (Go ∷ Left ∷ Right ∷ Shoot ∷ []) (Go ∷ Left ∷ Right ∷ Shoot ∷ Dash ∷ [])) Shoot)
+    [ true ↦ (refl, refl) | false ↦ (refl, refl) ]
 acts_told version Dash h =
-    elim (eqb version 1) as (λ t. cond t false true ≡ true → Chosen act_word (cond t (Go ∷ Left ∷ Right ∷ Shoot ∷ []) (Go ∷ Left ∷ Right ∷ Shoot ∷ Dash ∷ [])) Dash) [ true ↦ λ e. absurd cc | false ↦ λ e. (refl, refl) ] h
+    elim (eqb version 1) as (λ t. cond t false true ≡ true
+        → Chosen act_word (cond t (Go ∷ Left ∷ Right ∷ Shoot ∷ []) (Go ∷ Left ∷ Right ∷ Shoot ∷ Dash ∷ [])) Dash)
+        [ true ↦ λ e. absurd cc | false ↦ λ e. (refl, refl) ] h
 
 abbrev act_in : Bool → Act → Bool
 act_in t Go = true
@@ -35,7 +45,9 @@ act_in t Dash = cond t false true
 
 acts_fit : (version : ℕ) → AllByRecursion (λ a. has_act version a ≡ true) (acts_of version)
 acts_fit version =
-    elim (eqb version 1) as (λ t. AllByRecursion (λ a. act_in t a ≡ true) (cond t (Go ∷ Left ∷ Right ∷ Shoot ∷ []) (Go ∷ Left ∷ Right ∷ Shoot ∷ Dash ∷ []))) [ true ↦ (refl, (refl, (refl, (refl, tt)))) | false ↦ (refl, (refl, (refl, (refl, (refl, tt))))) ]
+    elim (eqb version 1) as (λ t. AllByRecursion (λ a. act_in t a ≡ true)
+        (cond t (Go ∷ Left ∷ Right ∷ Shoot ∷ []) (Go ∷ Left ∷ Right ∷ Shoot ∷ Dash ∷ [])))
+        [ true ↦ (refl, (refl, (refl, (refl, tt)))) | false ↦ (refl, (refl, (refl, (refl, (refl, tt))))) ]
 
 acts_short : (a : Act) → length (act_word a) ≤ 5
 acts_short Go = lit≤ tt
@@ -44,10 +56,14 @@ acts_short Right = lit≤ tt
 acts_short Shoot = lit≤ tt
 acts_short Dash = lit≤ tt
 
-pub command_form_exact : (version : ℕ) (ranges : CommandRanges) → ranges.last_time < 10000 → ranges.last_mirror < 10 → ranges.last_player < 100 → ExactForm (command_form version ranges) (CommandFits version ranges) (λ _. 23)
+pub command_form_exact : (version : ℕ) (ranges : CommandRanges) → ranges.last_time < 10000 → ranges.last_mirror < 10
+    → ranges.last_player < 100 → ExactForm (command_form version ranges) (CommandFits version ranges) (λ _. 23)
 command_form_exact version ranges time from player =
     made_exact _ _ (λ _. refl) (λ _. refl)
-    (then_exact (number_exact 0 ranges.last_time 4 (lit< tt) time (omega arith)) (then_exact (number_exact 0 ranges.last_mirror 1 (lit< tt) from (omega arith)) (then_exact (number_exact 0 999999 6 (lit< tt) (lit< tt) (lit< tt)) (then_exact (number_exact 0 ranges.last_player 2 (lit< tt) player (omega arith))
+    (then_exact (number_exact 0 ranges.last_time 4 (lit< tt) time (omega arith))
+        (then_exact (number_exact 0 ranges.last_mirror 1 (lit< tt) from (omega arith))
+        (then_exact (number_exact 0 999999 6 (lit< tt) (lit< tt) (lit< tt))
+        (then_exact (number_exact 0 ranges.last_player 2 (lit< tt) player (omega arith))
     (only_exact (choice_exact act_word (acts_of version) 5 (acts_fit version) (acts_told version) acts_short))))))
 
 pub last_small : (version : ℕ) → last_player version < 100
@@ -86,7 +102,9 @@ found version line (Err fault) e = tt
 same_fault : (r : Result Command Cause) (fault : CommandFault) (c : Command) → r ≡ Err (fault_cause fault) → r ≡ Ok c → ⊥
 same_fault r fault c e o = absurd cc
 
-pub only : (version : ℕ) (line : List ℕ) (r : Result Command CommandFault) → Reads r (keyword_step (line_kind version) tt line) → (c : Command) → IsCommandLine version c → line ≡ command_line c → r ≡ Ok c
+pub only : (version : ℕ) (line : List ℕ) (r : Result Command CommandFault)
+    → Reads r (keyword_step (line_kind version) tt line) → (c : Command) → IsCommandLine version c → line
+    ≡ command_line c → r ≡ Ok c
 only version line (Ok d) e c h whole =
     let again : keyword_step (line_kind version) tt line ≡ Ok c = rw whole (keyword_again (line_exact version) tt c (sound_line version c h)) in
     let same : ◌≡◌ {A = Result Command Cause} (Ok d) (Ok c) = sym e ∙ again in
@@ -95,7 +113,9 @@ only version line (Err fault) e c h whole =
     let again : keyword_step (line_kind version) tt line ≡ Ok c = rw whole (keyword_again (line_exact version) tt c (sound_line version c h)) in
     absurd (same_fault _ fault c e again)
 
-pub refused : (version : ℕ) (line : List ℕ) (r : Result Command CommandFault) → Reads r (keyword_step (line_kind version) tt line) → IfErr r (λ fault. first_failing (command_checks version line) ≡ Some (fault_cause fault))
+pub refused : (version : ℕ) (line : List ℕ) (r : Result Command CommandFault)
+    → Reads r (keyword_step (line_kind version) tt line)
+    → IfErr r (λ fault. first_failing (command_checks version line) ≡ Some (fault_cause fault))
 refused version line (Ok c) e = tt
 refused version line (Err fault) e = sym (keyword_fault (line_exact version) tt line) ∙ rw e refl
 
@@ -104,6 +124,8 @@ refused version line (Err fault) e = sym (keyword_fault (line_exact version) tt 
 pub fault_is : (version : ℕ) (line : List ℕ) (c : Cause) → keyword_step (line_kind version) tt line ≡ Err c → (c ≡ Shape) ⊎ (c ≡ Number)
 fault_is version line c e = failing _ _ _ e (λ e. inl (front_err (words_of line) c e)) (λ front _ e.
     elim (bytes_eq front.0 (codes "cmd")) as (λ b. cond b (step (line_kind version) tt front.1) (Err Shape) ≡ Err c → (c ≡ Shape) ⊎ (c ≡ Number)) [
-      | true ↦ λ e. failing _ _ _ e (λ e. inl (((line_exact version).form tt).shape front.1 c e)) (λ seen _ e. failing _ _ _ e (λ e. inr (((line_exact version).form tt).number seen c e)) (λ a _ e. absurd cc))
+      | true ↦ λ e. failing _ _ _ e (λ e. inl (((line_exact version).form tt).shape front.1 c e))
+          (λ seen _ e. failing _ _ _ e (λ e. inr (((line_exact version).form tt).number seen c e))
+          (λ a _ e. absurd cc))
       | false ↦ λ e. inl cc
     ] e)

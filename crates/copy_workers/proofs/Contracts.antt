@@ -46,7 +46,9 @@ all-back Q [] all = tt
 all-back Q (h ∷ hs) all = (all.0, all-back Q hs all.1)
 
 -- what follows of two facts
-all-with : (P R : Hearing → Type 0) (Q : List Message → Type 0) (hs : List Hearing) → ((h : Hearing) → P h → R h → Q h.got) → AllByRecursion P hs → AllByRecursion R hs → AllByRecursion Q (map got_of hs)
+all-with : (P R : Hearing → Type 0) (Q : List Message → Type 0) (hs : List Hearing)
+    → ((h : Hearing) → P h → R h → Q h.got) → AllByRecursion P hs → AllByRecursion R hs
+    → AllByRecursion Q (map got_of hs)
 all-with P R Q [] step all more = tt
 all-with P R Q (h ∷ hs) step all more = (step h all.0 more.0, all-with P R Q hs step all.1 more.1)
 
@@ -82,7 +84,9 @@ all-receive turns (x ∷ xs) (y ∷ ys) (h ∷ hs) heard hears tries =
     (record { same = heard.0.same; received = heard.0.received; rises = omega arith; each = omega arith; least = omega arith }, all-receive turns xs ys hs heard.1 hears.1 tries.1)
 
 -- how often nothing came, in all
-total-misses : (first now : List LinkReceive) (hs : List Hearing) → AllHeard first now hs → total (λ h. length (commands_in h.got) + h.risen) hs ≡ total (λ h. length (commands_in h.got)) hs + misses_between first now
+total-misses : (first now : List LinkReceive) (hs : List Hearing) → AllHeard first now hs
+    → total (λ h. length (commands_in h.got) + h.risen) hs ≡ total (λ h. length (commands_in h.got)) hs
+    + misses_between first now
 unfolding AllHeard misses_between
 total-misses [] [] [] heard = omega arith
 total-misses [] [] (h ∷ hs) heard = absurd heard
@@ -103,7 +107,9 @@ no-links [] (y ∷ ys) (h ∷ hs) heard e = absurd heard
 no-links (x ∷ xs) ys hs heard e = absurd cc
 
 -- each link holds the clock
-bound-got : (job : FeederJob) (clock_s clock_e : ℕ) (h : Hearing) → clock_e ≡ clock_s → Hears h → IsBound (task_of job) clock_s h → (clock_e ≤ last_mark h.got + job.pace) ⊎ (last_mark h.got ≡ job.stagger.length)
+bound-got : (job : FeederJob) (clock_s clock_e : ℕ) (h : Hearing) → clock_e ≡ clock_s → Hears h
+    → IsBound (task_of job) clock_s h → (clock_e ≤ last_mark h.got + job.pace)
+    ⊎ (last_mark h.got ≡ job.stagger.length)
 bound-got job clock_s clock_e h same hears (inl e) = inl (let a = hears.kept in omega arith)
 bound-got job clock_s clock_e h same hears (inr e) = inr (let a = hears.kept in omega arith)
 
@@ -122,7 +128,8 @@ feeder-ends job end before after e =
       gots = gots;
       asks = e.asked;
       plan = e.plan;
-      receives = all-receive end.turns job.receives.items end.receives.items s.hearings e.receives hears (subst (λ (n : ℕ). AllByRecursion (λ h. h.tries ≡ n) s.hearings) (sym e.turns) e.between.tries);
+      receives = all-receive end.turns job.receives.items end.receives.items s.hearings e.receives hears
+          (subst (λ (n : ℕ). AllByRecursion (λ h. h.tries ≡ n) s.hearings) (sym e.turns) e.between.tries);
       sent = subst (λ (l : List Message). AllZip (IsSent l) job.sends.items end.sends.items) sent e.sends;
       issued = e.issued ∙ ap (λ (l : List Message). length (commands_in l)) sent;
       least = (let a = f.sends.least in let b = e.clock in let c = e.marked in omega arith);
@@ -141,7 +148,9 @@ feeder-ends job end before after e =
       going = f.turns.going;
       ends = e.ends;
       fair = λ orderly few.
-          let fair : IsFair (task_of job) s.hearings = record { orderly = all-back (IsOrderly job.stagger.length) s.hearings orderly; few = (let a = total-got (λ got. length (commands_in got)) s.hearings in omega arith) } in
+          let fair : IsFair (task_of job) s.hearings = record
+              { orderly = all-back (IsOrderly job.stagger.length) s.hearings orderly;
+              few = (let a = total-got (λ got. length (commands_in got)) s.hearings in omega arith) } in
           let keeps = e.fed.keeps fair in
           record {
             in_time = all-got (λ h. InTime s.asked job.pace 0 h.got) (ArriveInTime s.asked job.pace) s.hearings (λ h t. in_time-got s.asked job.pace h.got t) keeps.in_time;
@@ -149,7 +158,9 @@ feeder-ends job end before after e =
                 let a = total-got (λ got. times (same_command x) (commands_in got)) s.hearings in
                 let b = ap (λ (l : List Message). times (same_command x) (commands_in l)) sent in
                 let c = keeps.counts x in omega arith;
-            bounds = all-with Hears (IsBound (task_of job) s.clock) (λ got. (end.clock ≤ last_mark got + job.pace) ⊎ (last_mark got ≡ job.stagger.length)) s.hearings (λ h a b. bound-got job s.clock end.clock h e.clock a b) hears keeps.bounds;
+            bounds = all-with Hears (IsBound (task_of job) s.clock)
+                (λ got. (end.clock ≤ last_mark got + job.pace) ⊎ (last_mark got ≡ job.stagger.length)) s.hearings
+                (λ h a b. bound-got job s.clock end.clock h e.clock a b) hears keeps.bounds;
             few =
                 (let a = keeps.few in let b = total-misses job.receives.items end.receives.items s.hearings e.receives in
                 let c = total-got (λ got. length (commands_in got)) s.hearings in let d = e.turns in omega arith);

@@ -108,8 +108,12 @@ ends-as c job f end before asked calls grows b h plan sends receives clock issue
       between = subst (λ (t : Task). IsBetween t s) b.task h.between;
       asked = h.stands.asks ∙ ap (λ (l : List Asked). l ++ s.asked) b.before;
       plan = ap (λ v. v.items) plan ∙ h.stands.plan ∙ ap (λ (t : Task). t.plan) b.task;
-      sends = subst (λ (l : List LinkSend). AllZip (IsSent s.sent) l end.sends.items) b.sends (subst (λ (l : List LinkSend). AllZip (IsSent s.sent) c.sends l) (sym (ap (λ v. v.items) sends)) h.stands.sends);
-      receives = subst (λ (l : List LinkReceive). AllHeard l end.receives.items s.hearings) b.receives (subst (λ (l : List LinkReceive). AllHeard c.receives l s.hearings) (sym (ap (λ v. v.items) receives)) h.stands.heard);
+      sends = subst (λ (l : List LinkSend). AllZip (IsSent s.sent) l end.sends.items) b.sends
+          (subst (λ (l : List LinkSend). AllZip (IsSent s.sent) c.sends l) (sym (ap (λ v. v.items) sends))
+          h.stands.sends);
+      receives = subst (λ (l : List LinkReceive). AllHeard l end.receives.items s.hearings) b.receives
+          (subst (λ (l : List LinkReceive). AllHeard c.receives l s.hearings) (sym (ap (λ v. v.items) receives))
+          h.stands.heard);
       clock = clock ∙ h.stands.clock;
       marked = marked ∙ h.stands.marked;
       issued = issued ∙ h.stands.issued;

@@ -135,7 +135,9 @@ hear-ends c f then asked asked_then calls calls_then grows grows_then n h k end 
         };
         kept = k.kept;
         heard = k.heard;
-        sends = subst (λ (l : List Message). AllZip (IsSent l) c.sends then.sends.items) (sym k.sent) (subst (λ (l : List LinkSend). AllZip (IsSent h.stands.state.sent) c.sends l) (sym (ap (λ v. v.items) sends)) h.stands.sends);
+        sends = subst (λ (l : List Message). AllZip (IsSent l) c.sends then.sends.items) (sym k.sent)
+            (subst (λ (l : List LinkSend). AllZip (IsSent h.stands.state.sent) c.sends l)
+            (sym (ap (λ v. v.items) sends)) h.stands.sends);
         calls_left = (let a = h.stands.calls_left in omega arith);
         grows_left = (let a = h.stands.grows_left in omega arith);
         few = (let a = within h.stands.few in let b = ap (λ b. b.foreign) bounds in omega arith);

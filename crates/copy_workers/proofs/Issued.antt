@@ -1,5 +1,6 @@
 -- Issuing a tick: the commands that are due, what is asked, what is sent.
-use Rattle.std.proofs.Common.{◌≡◌, ◌≢◌, ℕ, zero, suc, ◌+◌, ◌<◌, ◌≤◌, true, false, List, [], ◌∷◌, ◌++◌, map, filter, length, take, drop, get_or, refl, ap, sym, ◌∙◌, subst, append_assoc, arith, length-append, append-nil}
+use Rattle.std.proofs.Common.{◌≡◌, ◌≢◌, ℕ, zero, suc, ◌+◌, ◌<◌, ◌≤◌, true, false, List, [], ◌∷◌, ◌++◌, map, filter, length, take, drop, get_or, refl, ap, sym}
+use Rattle.std.proofs.Common.{◌∙◌, subst, append_assoc, arith, length-append, append-nil}
 use Rattle.std.specs.Prelude.{◌==◌}
 use Rattle.std.proofs.lemmas.Bool.Decides.{nat_tests}
 use Rattle.std.proofs.Math.Seq.{drop-cons}
@@ -114,7 +115,8 @@ rising-drop (suc n) [] h = h
 rising-drop (suc n) (x ∷ xs) h = rising-drop n xs h.1
 
 -- all behind are as late
-pub all-behind : (t : ℕ) (rest : List Command) → KeysRise rest → AllByRecursion (λ x. t ≤ x.time) rest → ((x : Command) (more : List Command) → rest ≡ x ∷ more → x.time ≢ t) → AllByRecursion (λ x. t + 1 ≤ x.time) rest
+pub all-behind : (t : ℕ) (rest : List Command) → KeysRise rest → AllByRecursion (λ x. t ≤ x.time) rest
+    → ((x : Command) (more : List Command) → rest ≡ x ∷ more → x.time ≢ t) → AllByRecursion (λ x. t + 1 ≤ x.time) rest
 unfolding KeysRise
 all-behind t [] rises low stops = tt
 all-behind t (x ∷ rest) rises low stops =
@@ -175,7 +177,9 @@ issuing-stops plan issued t next asked asked_now sends sends_now d rises from st
     first (suc n) (y ∷ xs) x more is stops = first n xs x more is (λ below. stops (omega arith))
 
 -- what holds up to a place, and of those behind it
-all-take-append : {X : Type 0} (P : X → Type 0) (n k : ℕ) (xs some rest : List X) → AllByRecursion P (take n xs) → AllByRecursion P some → drop n xs ≡ some ++ rest → k ≡ length some → n ≤ length xs → AllByRecursion P (take (n + k) xs)
+all-take-append : {X : Type 0} (P : X → Type 0) (n k : ℕ) (xs some rest : List X) → AllByRecursion P (take n xs)
+    → AllByRecursion P some → drop n xs ≡ some ++ rest → k ≡ length some → n ≤ length xs
+    → AllByRecursion P (take (n + k) xs)
 all-take-append P zero k xs some rest front here parts count within = (let e : zero + k ≡ length some = omega arith in rw (e, parts) (rw take-front here))
   where
     take-front : {Y : Type 0} (a b : List Y) → take (length a) (a ++ b) ≡ a

@@ -18,7 +18,8 @@ use Rattle.copy_workers.specs.Feed.{Task, Hearing, Feed, issued, missed, with_ma
 use Rattle.copy_workers.specs.Feeding.{Turns, Hears, IsFair, InTime, IsBound, Keeps, IsFed}
 use Rattle.copy_workers.proofs.Lists.{all-at, all-changed, total-at, joined-more}
 use Rattle.copy_workers.proofs.MessageLists.{messages-more, commands_in-tick, commands_in-mark, commands_in-command, orderly-mark, orderly-command}
-use Rattle.copy_workers.proofs.Arrivals.{moves-append, ticks-append, arrivals-append, at-later, in_time-later, in_time-mark, in_time-command, arrivals-moves, arrivals-ticks, arrivals-count, arrivals-feeding, arrivals-each, times-one}
+use Rattle.copy_workers.proofs.Arrivals.{moves-append, ticks-append, arrivals-append, at-later, in_time-later, in_time-mark, in_time-command, arrivals-moves}
+use Rattle.copy_workers.proofs.Arrivals.{arrivals-ticks, arrivals-count, arrivals-feeding, arrivals-each, times-one}
 use Rattle.copy_workers.proofs.Links.{hears-missed, hears-mark, hears-command, heard_commands, commands-mark, commands-command, fair-missed, fair-mark, fair-command}
 use Rattle.game_trait.proofs.Lists.{all-append}
 
@@ -36,7 +37,9 @@ fed-issued job s pairs below unissued arrivals due f =
     record {
       feeds = record {
         sends = record {
-          sent = ap (λ (l : List Message). l ++ tick_messages job.plan s.clock) sends.sent ∙ ap (λ (n : ℕ). messages job.plan s.marked ++ tick_messages job.plan n) (sym marked) ∙ sym (messages-more job.plan s.marked);
+          sent = ap (λ (l : List Message). l ++ tick_messages job.plan s.clock) sends.sent
+              ∙ ap (λ (n : ℕ). messages job.plan s.marked ++ tick_messages job.plan n) (sym marked)
+              ∙ sym (messages-more job.plan s.marked);
           least = omega (arith, sends.least);
           most = omega (arith, sends.most);
         };
@@ -65,10 +68,13 @@ fed-issued job s pairs below unissued arrivals due f =
       keeps = λ fair.
           let keeps = f.keeps fair in
           record {
-            in_time = all-weaker (λ h. InTime s.asked job.pace 0 h.got) (λ h. InTime (s.asked ++ pairs) job.pace 0 h.got) s.hearings (λ h t. in_time-later s.asked pairs job.pace 0 h.got t) keeps.in_time;
+            in_time = all-weaker (λ h. InTime s.asked job.pace 0 h.got)
+                (λ h. InTime (s.asked ++ pairs) job.pace 0 h.got) s.hearings
+                (λ h t. in_time-later s.asked pairs job.pace 0 h.got t) keeps.in_time;
             counts = λ x.
                 let more = times-append (same_command x) (commands_in s.sent) (due_at job.plan s.clock) in
-                let both : times (same_command x) (commands_in (s.sent ++ tick_messages job.plan s.clock)) ≡ times (same_command x) (commands_in s.sent) + times (same_command x) (due_at job.plan s.clock) =
+                let both : times (same_command x) (commands_in (s.sent ++ tick_messages job.plan s.clock))
+                    ≡ times (same_command x) (commands_in s.sent) + times (same_command x) (due_at job.plan s.clock) =
                 ap (times (same_command x)) commands ∙ more in
                 omega (arith, arrivals-append x s.asked pairs, arrivals-count x (due_at job.plan s.clock) pairs arrivals, keeps.counts x);
             bounds = keeps.bounds;
@@ -123,7 +129,9 @@ fed-missed job s front h back known place none f =
                 total-at (λ g. times (same_command x) (commands_in g.got)) front h back ∙ sym (total-at (λ g. times (same_command x) (commands_in g.got)) front (missed h known) back));
             bounds =
                 all-changed (IsBound job s.clock) (IsBound job s.clock) front h (missed h known) back (λ g k. k) (all-at (IsBound job s.clock) front h back keeps.bounds) keeps.bounds;
-            few = (let a = total-at (λ g. heard_commands g + g.risen) front h back in let b = total-at (λ g. heard_commands g + g.risen) front (missed h known) back in let c = keeps.few in omega arith);
+            few = (let a = total-at (λ g. heard_commands g + g.risen) front h back in
+                let b = total-at (λ g. heard_commands g + g.risen) front (missed h known) back in
+                let c = keeps.few in omega arith);
           };
     }
 
@@ -228,7 +236,9 @@ fed-command job s front h back x known reply place fewer still f =
           record {
             in_time =
                 all-changed (λ g. InTime s.asked job.pace 0 g.got) (λ g. InTime (s.asked ++ more) job.pace 0 g.got) front h k back (λ g e. in_time-later s.asked more job.pace 0 g.got e)
-                (in_time-command (s.asked ++ more) job.pace 0 h.got x (in_time-later s.asked more job.pace 0 h.got (all-at (λ g. InTime s.asked job.pace 0 g.got) front h back keeps.in_time)) now) keeps.in_time;
+                (in_time-command (s.asked ++ more) job.pace 0 h.got x
+                    (in_time-later s.asked more job.pace 0 h.got (all-at (λ g. InTime s.asked job.pace 0 g.got) front
+                    h back keeps.in_time)) now) keeps.in_time;
             counts = λ y.
                 let a = total-at (λ g. times (same_command y) (commands_in g.got)) front h back in
                 let b = total-at (λ g. times (same_command y) (commands_in g.got)) front k back in

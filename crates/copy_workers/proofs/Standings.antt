@@ -80,7 +80,9 @@ pub issue-stands :
 issue-stands c f then asked asked_then calls calls_then grows grows_then below unissued arrivals sent from count called grown bounds plan receives marks clock marked taken turns h =
     let s = h.stands.state in
     let due : due_at f.plan.items f.clock ≡ due_at c.job.plan s.clock = ap (λ (l : List Command). due_at l f.clock) h.stands.plan ∙ ap (due_at c.job.plan) h.stands.clock in
-    let sends : tick_messages f.plan.items f.clock ≡ tick_messages c.job.plan s.clock = ap (λ (l : List Command). tick_messages l f.clock) h.stands.plan ∙ ap (tick_messages c.job.plan) h.stands.clock in
+    let sends : tick_messages f.plan.items f.clock ≡ tick_messages c.job.plan s.clock =
+        ap (λ (l : List Command). tick_messages l f.clock) h.stands.plan
+        ∙ ap (tick_messages c.job.plan) h.stands.clock in
     let arrive = subst (λ (l : List Command). HasArrivals l asked asked_then) due arrivals in
     let pairs = arrive.pairs in
     let long = ap (λ (l : List Command). length l) due in
@@ -89,7 +91,9 @@ issue-stands c f then asked asked_then calls calls_then grows grows_then below u
     record {
       stands = record {
         state = issued c.job pairs s;
-        fed = fed-issued c.job s pairs (let a = h.stands.clock in let b = h.stands.limit in omega arith) (let a = h.stands.clock in let b = h.stands.marked in omega arith) arrive.arrivals (due-times c.job.plan s.clock) h.stands.fed;
+        fed = fed-issued c.job s pairs (let a = h.stands.clock in
+            let b = h.stands.limit in omega arith) (let a = h.stands.clock in
+            let b = h.stands.marked in omega arith) arrive.arrivals (due-times c.job.plan s.clock) h.stands.fed;
         plan = ap (λ v. v.items) plan ∙ h.stands.plan;
         limit = ap (λ b. b.length) bounds ∙ h.stands.limit;
         delay = ap (λ b. b.delay) bounds ∙ h.stands.delay;
@@ -104,7 +108,9 @@ issue-stands c f then asked asked_then calls calls_then grows grows_then below u
         from = subst (λ (n : ℕ). IsFrom then.plan.items then.issued n) (sym marked) (subst (λ (l : List Command). IsFrom l then.issued (f.clock + 1)) (sym (ap (λ v. v.items) plan)) from);
         kept = subst (λ (l : List ℕ). AllKept l s.hearings) (sym marks) h.stands.kept;
         heard = subst (λ (l : List LinkReceive). AllHeard c.receives l s.hearings) (sym (ap (λ v. v.items) receives)) h.stands.heard;
-        sends = sent-both s.sent (tick_messages c.job.plan s.clock) c.sends f.sends.items then.sends.items h.stands.sends (subst (λ (l : List Message). AllZip (IsSent l) f.sends.items then.sends.items) sends sent);
+        sends = sent-both s.sent (tick_messages c.job.plan s.clock) c.sends f.sends.items then.sends.items
+            h.stands.sends (subst (λ (l : List Message). AllZip (IsSent l) f.sends.items then.sends.items) sends
+            sent);
         calls_left = (let a = h.stands.calls_left in omega arith);
         grows_left = (let a = h.stands.grows_left in omega arith);
         few = (let a = h.stands.few in let b = ap (λ b. b.foreign) bounds in omega arith);

@@ -44,7 +44,9 @@ goes_on-push last clock (t ∷ turns) turn h below =
 
 -- a tick is never more than one move
 move-most : (reply : Reply) → moves_in (ticking reply ∷ []) ≤ 1
-move-most reply = (let e = times-one (λ q. is_moved q.reply) (ticking reply) in elim (is_moved reply) as (λ v. moves_in (ticking reply ∷ []) ≡ cond v 1 0 → moves_in (ticking reply ∷ []) ≤ 1) [ true ↦ λ h. omega arith | false ↦ λ h. omega arith ] e)
+move-most reply = (let e = times-one (λ q. is_moved q.reply) (ticking reply) in
+    elim (is_moved reply) as (λ v. moves_in (ticking reply ∷ []) ≡ cond v 1 0 → moves_in (ticking reply ∷ []) ≤ 1)
+    [ true ↦ λ h. omega arith | false ↦ λ h. omega arith ] e)
 
 -- where the clock isn't held, every mark holds it also after a tick
 bound-tick :
@@ -90,7 +92,10 @@ fed-ticked job s reply below free marked f =
           unmoved = times-nothing (λ p. is_moved p.reply);
           moved = omega (arith, ticks-append s.asked more, turns.moved);
           within = omega (arith, turns.within);
-          going = goes_on-push (ending_clock job) 0 s.turns (s.here ++ more) turns.going (let a = ap (λ (l : List Asked). moves_in l) turns.pieces in let b = moves-append (joined s.turns) s.here in let c = turns.unmoved in let d = turns.clock in omega arith);
+          going = goes_on-push (ending_clock job) 0 s.turns (s.here ++ more) turns.going
+              (let a = ap (λ (l : List Asked). moves_in l) turns.pieces in
+              let b = moves-append (joined s.turns) s.here in let c = turns.unmoved in
+              let d = turns.clock in omega arith);
           alone = λ e. (let a = ticks-append s.asked more in let b = turns.alone e in let c = length-append s.turns ((s.here ++ more) ∷ []) in omega arith);
         };
         hears = f.feeds.hears;
@@ -99,12 +104,16 @@ fed-ticked job s reply below free marked f =
       keeps = λ fair.
           let keeps = f.keeps fair in
           record {
-            in_time = all-weaker (λ h. InTime s.asked job.pace 0 h.got) (λ h. InTime (s.asked ++ more) job.pace 0 h.got) s.hearings (λ h t. in_time-later s.asked more job.pace 0 h.got t) keeps.in_time;
+            in_time = all-weaker (λ h. InTime s.asked job.pace 0 h.got)
+                (λ h. InTime (s.asked ++ more) job.pace 0 h.got) s.hearings
+                (λ h t. in_time-later s.asked more job.pace 0 h.got t) keeps.in_time;
             counts = λ x. (let e : arrivals_of x more ≡ 0 = times-one (λ q. is_arrival_of x q.event) pair in omega (arith, arrivals-append x s.asked more, keeps.counts x));
             bounds =
                 all-weaker (λ h. (least_mark job.length s.hearings ≤ h.kept) × (h.kept ≤ job.length)) (IsBound job (s.clock + cond (is_moved reply) 1 0)) s.hearings
                 (λ h k. bound-tick job s.clock (cond (is_moved reply) 1 0) (least_mark job.length s.hearings) h (omega arith) free k)
-                (all-both (λ h. least_mark job.length s.hearings ≤ h.kept) (λ h. h.kept ≤ job.length) (λ h. (least_mark job.length s.hearings ≤ h.kept) × (h.kept ≤ job.length)) s.hearings (λ h a b. (a, b))
+                (all-both (λ h. least_mark job.length s.hearings ≤ h.kept) (λ h. h.kept ≤ job.length)
+                    (λ h. (least_mark job.length s.hearings ≤ h.kept) × (h.kept ≤ job.length)) s.hearings
+                    (λ h a b. (a, b))
                 (least-all job.length s.hearings)
                 (all-both Hears (λ h. IsOrderly job.length h.got) (λ h. h.kept ≤ job.length) s.hearings (λ h a b. kept-most job h a b) f.feeds.hears fair.orderly));
             few = (let a = keeps.few in let b = ticks-append s.asked more in let c = length-append s.turns ((s.here ++ more) ∷ []) in omega arith);
@@ -130,7 +139,10 @@ fed-rested job s below held tries f =
           unmoved = times-nothing (λ p. is_moved p.reply);
           moved = turns.moved;
           within = turns.within;
-          going = goes_on-push (ending_clock job) 0 s.turns s.here turns.going (let a = ap (λ (l : List Asked). moves_in l) turns.pieces in let b = moves-append (joined s.turns) s.here in let c = turns.unmoved in let d = turns.clock in omega arith);
+          going = goes_on-push (ending_clock job) 0 s.turns s.here turns.going
+              (let a = ap (λ (l : List Asked). moves_in l) turns.pieces in
+              let b = moves-append (joined s.turns) s.here in let c = turns.unmoved in
+              let d = turns.clock in omega arith);
           alone = λ e. absurd (let a = ap (least_mark job.length) e in let b = held.1 in let c = least-none job.length in omega arith);
         };
         hears = f.feeds.hears;

@@ -37,8 +37,11 @@ held-as clock clock_s least least_s length length_s pace pace_s a b c d h =
     not_le x y k = omega arith
 
 -- each link was asked in this turn
-tries-there : (c : Start) (f : Feeder) (asked : List Asked) (calls grows : ℕ) → (h : InTurn c f asked calls grows 7 1) → AllByRecursion (λ g. g.tries ≡ length h.stands.state.turns + 1) h.stands.state.hearings
-tries-there c f asked calls grows h = all-weaker (λ g. g.tries ≡ f.turns + 1) (λ g. g.tries ≡ length h.stands.state.turns + 1) h.stands.state.hearings (λ g e. (let a = h.stands.turns in omega arith)) h.tries
+tries-there : (c : Start) (f : Feeder) (asked : List Asked) (calls grows : ℕ) → (h : InTurn c f asked calls grows 7 1)
+    → AllByRecursion (λ g. g.tries ≡ length h.stands.state.turns + 1) h.stands.state.hearings
+tries-there c f asked calls grows h = all-weaker (λ g. g.tries ≡ f.turns + 1)
+    (λ g. g.tries ≡ length h.stands.state.turns + 1) h.stands.state.hearings
+    (λ g e. (let a = h.stands.turns in omega arith)) h.tries
 
 -- a turn ends with a tick
 pub tick-stands :
@@ -59,7 +62,9 @@ tick-stands c f then asked asked_then calls calls_then grows grows_then n reply 
     record {
       stands = record {
         state = ticked reply s;
-        fed = fed-ticked c.job s reply (let a = h.below in let b = h.stands.clock in omega arith) free_now (let a = h.stands.marked in let b = h.stands.clock in let d = h.stands.limit in omega arith) h.stands.fed;
+        fed = fed-ticked c.job s reply (let a = h.below in
+            let b = h.stands.clock in omega arith) free_now (let a = h.stands.marked in let b = h.stands.clock in
+            let d = h.stands.limit in omega arith) h.stands.fed;
         plan = ap (λ v. v.items) plan ∙ h.stands.plan;
         limit = ap (λ b. b.length) bounds ∙ h.stands.limit;
         delay = ap (λ b. b.delay) bounds ∙ h.stands.delay;
@@ -139,7 +144,8 @@ pub turn-begins : (c : Start) (f : Feeder) (asked : List Asked) (calls grows : �
 turn-begins c f asked calls grows h =
     record {
       stands = h.rests.stands;
-      tries = all-weaker (λ g. g.tries ≡ length h.rests.stands.state.turns) (λ g. g.tries ≡ f.turns + 0) h.rests.stands.state.hearings (λ g e. (let a = h.rests.stands.turns in omega arith)) h.rests.between.tries;
+      tries = all-weaker (λ g. g.tries ≡ length h.rests.stands.state.turns) (λ g. g.tries ≡ f.turns + 0)
+          h.rests.stands.state.hearings (λ g e. (let a = h.rests.stands.turns in omega arith)) h.rests.between.tries;
       below = h.below;
       going = h.going;
     }

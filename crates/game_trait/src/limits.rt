@@ -38,8 +38,11 @@ pub const MOST_PICKUPS: usize = 32;
 /// How many shots fly at once at most.
 pub const MOST_SHOTS: usize = 64;
 
-/// How many commands a match has at most.
-pub const MOST_COMMANDS: usize = 16_384;
+/// How many commands a match of version 1 has at most.
+pub const MOST_COMMANDS_IN_1: usize = 16_384;
+
+/// How many commands a match of version 2 has at most.
+pub const MOST_COMMANDS_IN_2: usize = 32_768;
 
 /// The greatest number of a command.
 pub const GREATEST_NUMBER: Number = 999_999;
@@ -68,6 +71,9 @@ pub const MOST_NET_LINES: usize = 262_144;
 /// The greatest number that a line of the net gives, of a command, of a packet or of packets that
 /// were heard of.
 pub const GREATEST_NET_NUMBER: u32 = 999_999;
+
+/// How many worlds that were looked up are kept at most; it is 1 at least.
+pub const MOST_CACHED: usize = 64;
 
 /// How many arrivals, and how many changes of the plan, a mirror may have room for.
 pub const MOST_ROOM: u32 = 1_048_576;

@@ -1,5 +1,6 @@
 -- Whatever a net line does to the links of a net, they stay what they are.
-use Rattle.std.proofs.Common.{◌≡◌, ℕ, zero, suc, ◌<◌, max, Bool, true, false, cond, ◌==◌, List, [], ◌∷◌, ◌++◌, length, get_or, set, take, drop, map, filter, replicate, Contains, Option, Some, None, inl, inr, refl, ap, sym, ◌∙◌, subst, append-nil, arith}
+use Rattle.std.proofs.Common.{◌≡◌, ℕ, zero, suc, ◌<◌, max, Bool, true, false, cond, ◌==◌, List, [], ◌∷◌, ◌++◌, length, get_or, set, take, drop, map, filter}
+use Rattle.std.proofs.Common.{replicate, Contains, Option, Some, None, inl, inr, refl, ap, sym, ◌∙◌, subst, append-nil, arith}
 use Rattle.std.proofs.lemmas.List.{get_or_at, get_or_append_left, get_or_past, length-append, length-set, length-map, length-replicate, get_or-set_same, get_or-set_other, get_or-replicate, get_or-map}
 use Rattle.std.proofs.lemmas.List.Elements.{filter-append}
 use Rattle.std.proofs.lemmas.Bool.{cases_eq, cases_lt}
@@ -246,7 +247,9 @@ issue-AreLinks m n x from a h is there new =
       room = h.room;
       there = all-push (Contains m.commands) n.issued x h.there there;
       differ = names-push n.issued x h.differ new;
-      rows = ap (λ (rs : List (List LinkState)). length rs) (issued-set x from n.rows place) ∙ length-set n.rows from (set (map (after_put x) (row_at n.rows from)) from (after_take (after_put x own))) ∙ h.rows;
+      rows = ap (λ (rs : List (List LinkState)). length rs) (issued-set x from n.rows place)
+          ∙ length-set n.rows from (set (map (after_put x) (row_at n.rows from)) from (after_take (after_put x own)))
+          ∙ h.rows;
       row = λ i below. issued-row x from i n.rows place ∙ h.row i below;
       links = λ i j bi bj.
           elim (cases_eq i from) [
@@ -338,7 +341,9 @@ pub new-received : (commands : List Command) (mirrors f i : ℕ) → (link_at (n
 new-received commands mirrors f i =
     elim (cases_lt f mirrors) [
       | inl below ↦ ap (λ (row : List LinkState). (get_or row i (new_link 0)).received) (new-row commands mirrors mirrors f below) ∙ none-received mirrors (times (is_from f) commands) i
-      | inr past ↦ ap (λ (row : List LinkState). (get_or row i (new_link 0)).received) (get_or_past (new_rows commands mirrors mirrors) f [] (let long = new-length commands mirrors mirrors in omega arith))
+      | inr past ↦ ap (λ (row : List LinkState). (get_or row i (new_link 0)).received)
+          (get_or_past (new_rows commands mirrors mirrors) f [] (let long = new-length commands mirrors mirrors in
+          omega arith))
     ]
 
 pub new-AreLinks : (m : MatchData) → AreLinks m (new_links m.mirrors m.commands)

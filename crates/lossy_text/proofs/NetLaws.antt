@@ -1,5 +1,6 @@
 -- The lines behind the match, both ways.
-use Rattle.std.proofs.Common.{◌≡◌, ℕ, ◌+◌, ◌-◌, ◌<◌, ◌≤◌, Bool, true, false, eqb, ltb, List, [], ◌∷◌, ◌++◌, length, map, Ok, Err, refl, sym, ap, subst, ◌∙◌, append_assoc, append-nil, length-append, arith, lit<, lit≤}
+use Rattle.std.proofs.Common.{◌≡◌, ℕ, ◌+◌, ◌-◌, ◌<◌, ◌≤◌, Bool, true, false, eqb, ltb, List, [], ◌∷◌, ◌++◌, length, map, Ok, Err, refl, sym, ap, subst, ◌∙◌}
+use Rattle.std.proofs.Common.{append_assoc, append-nil, length-append, arith, lit<, lit≤}
 use Rattle.std.specs.Prelude.{not}
 use Rattle.std.specs.List.{AllByRecursion}
 use Rattle.std.proofs.lemmas.Bool.{and_parts, eqb-true, ltb-true, lt-ltb, le-ltb}
@@ -181,7 +182,8 @@ pub record Item (m : MatchData) (t : Tail) (x : NetLine) : Type 0 where
   pub taken : take_by (net_table m) t (net_line x) ≡ Ok (with_line t x)
 
 -- what a kind writes
-kind_item : {R A : Type 0} {k : Kind Tail R A Tail} {Fits : Tail → A → Type 0} (m : MatchData) (x : ExactKind k Fits) (t : Tail) (a : A) (e : NetLine) → Sound k Fits t a → line_text k t a ≡ net_line e → k.put t a ≡ with_line t e
+kind_item : {R A : Type 0} {k : Kind Tail R A Tail} {Fits : Tail → A → Type 0} (m : MatchData) (x : ExactKind k Fits)
+    (t : Tail) (a : A) (e : NetLine) → Sound k Fits t a → line_text k t a ≡ net_line e → k.put t a ≡ with_line t e
     → length k.keyword + x.longest a ≤ 16 → take_words (net_table m).entries t k.keyword ((k.form t).words a) ≡ step k t ((k.form t).words a) → Item m t e
 kind_item {k = k} m x t a e h line put short led = record {
   short = let s = line_length x t a h in let same = ap length line in omega (arith, s, short, same);
@@ -199,15 +201,24 @@ pub item : (m : MatchData) → IsMatch m → (t : Tail) (x : NetLine) → is_eve
 unfolding take_words issue_exact send_exact carry_exact ack_exact hear_exact turn_exact
 item m is t (Issue from number) due fit =
     let f = fit.0 in
-    kind_item m (issue_exact m is) t (from, number) (Issue from number) (record { stands = due; fits = ((omega arith, omega arith), (omega arith, fit.1)); room = refl; tests = (fit.2, tt) }) refl refl (lit≤ tt) refl
+    kind_item m (issue_exact m is) t (from, number) (Issue from number)
+        (record { stands = due; fits = ((omega arith, omega arith), (omega arith, fit.1)); room = refl;
+        tests = (fit.2, tt) }) refl refl (lit≤ tt) refl
 item m is t (Send from to packet) due fit =
-    kind_item m (send_exact m is) t (from, (to, packet)) (Send from to packet) (record { stands = due; fits = packet_fits m t from to packet fit.0 fit.1; room = refl; tests = (differ_again (eqb from to) fit.0.differ, tt) }) refl refl (lit≤ tt) refl
+    kind_item m (send_exact m is) t (from, (to, packet)) (Send from to packet)
+        (record { stands = due; fits = packet_fits m t from to packet fit.0 fit.1; room = refl;
+        tests = (differ_again (eqb from to) fit.0.differ, tt) }) refl refl (lit≤ tt) refl
 item m is t (Carry from to packet) due fit =
-    kind_item m (carry_exact m is) t (from, (to, packet)) (Carry from to packet) (record { stands = due; fits = packet_fits m t from to packet fit.0 fit.1; room = refl; tests = (differ_again (eqb from to) fit.0.differ, tt) }) refl refl (lit≤ tt) refl
+    kind_item m (carry_exact m is) t (from, (to, packet)) (Carry from to packet)
+        (record { stands = due; fits = packet_fits m t from to packet fit.0 fit.1; room = refl;
+        tests = (differ_again (eqb from to) fit.0.differ, tt) }) refl refl (lit≤ tt) refl
 item m is t (Ack from to) due fit =
-    kind_item m (ack_exact m is) t (from, to) (Ack from to) (record { stands = due; fits = link_fits m t from to fit; room = refl; tests = (differ_again (eqb from to) fit.differ, tt) }) refl refl (lit≤ tt) refl
+    kind_item m (ack_exact m is) t (from, to) (Ack from to) (record { stands = due; fits = link_fits m t from to fit;
+        room = refl; tests = (differ_again (eqb from to) fit.differ, tt) }) refl refl (lit≤ tt) refl
 item m is t (Hear from to count) due fit =
-    kind_item m (hear_exact m is) t (from, (to, count)) (Hear from to count) (record { stands = due; fits = packet_fits m t from to count fit.0 fit.1; room = refl; tests = (differ_again (eqb from to) fit.0.differ, tt) }) refl refl (lit≤ tt) refl
+    kind_item m (hear_exact m is) t (from, (to, count)) (Hear from to count)
+        (record { stands = due; fits = packet_fits m t from to count fit.0 fit.1; room = refl;
+        tests = (differ_again (eqb from to) fit.0.differ, tt) }) refl refl (lit≤ tt) refl
 item m is t (Turn mirror) due fit =
     let f : mirror < m.mirrors = fit in
     kind_item m (turn_exact m is) t mirror (Turn mirror) (record { stands = due; fits = (omega arith, omega arith); room = refl; tests = tt }) refl refl (lit≤ tt) refl
@@ -225,7 +236,9 @@ events_follow m is t (x ∷ lines) stage count fit =
     let due : is_event_due t ≡ true = rw (stage, some) refl in
     let one = item m is t x due fit.0 in
     let rest = events_follow m is (with_line t x) lines stage (omega (arith, count)) fit.1 in
-    let same : record (with_line t x) { lines = (t.lines ++ x ∷ []) ++ lines; left = 0 } ≡ record t { lines = t.lines ++ x ∷ lines; left = 0 } = λ i. record t { lines = append_assoc t.lines (x ∷ []) lines i; left = 0 } in (
+    let same : record (with_line t x) { lines = (t.lines ++ x ∷ []) ++ lines; left = 0 }
+        ≡ record t { lines = t.lines ++ x ∷ lines; left = 0 } =
+        λ i. record t { lines = append_assoc t.lines (x ∷ []) lines i; left = 0 } in (
       rw stage refl,
       not_long (net_line x) 16 one.short (lit≤ tt),
       with_line t x,
@@ -239,7 +252,9 @@ started count = record { stage = InNet; left = count; lines = [] }
 abbrev pub ended_with : List NetLine → Tail
 ended_with lines = record { stage = Done; left = 0; lines = lines }
 
-net_taken : (m : MatchData) (count : ℕ) → count ≤ MOST_NET_LINES → (is_long (count_line count) ≡ false) × Lacks 10 (count_line count) × (take_by (net_table m) no_tail (count_line count) ≡ Ok (started count)) × (length (count_line count) ≤ 10)
+net_taken : (m : MatchData) (count : ℕ) → count ≤ MOST_NET_LINES → (is_long (count_line count) ≡ false)
+    × Lacks 10 (count_line count) × (take_by (net_table m) no_tail (count_line count) ≡ Ok (started count))
+    × (length (count_line count) ≤ 10)
 unfolding take_words net_exact last_at
 net_taken m count few =
     let word = (number_exact 0 262144 6 (lit< tt) (lit< tt) (lit< tt)).fit count (omega arith, few) in
@@ -254,7 +269,9 @@ net_taken m count few =
 done_lacks : Lacks 10 last_line
 done_lacks = (refl, (refl, (refl, (refl, tt))))
 
-pub net_follows : (m : MatchData) → IsMatch m → (lines : List NetLine) → length lines ≤ MOST_NET_LINES → AllByRecursion (IsNetLine m) lines → Follows (take_by (net_table m)) is_last no_tail (net_lines lines) (ended_with lines)
+pub net_follows : (m : MatchData) → IsMatch m → (lines : List NetLine) → length lines ≤ MOST_NET_LINES
+    → AllByRecursion (IsNetLine m) lines → Follows (take_by (net_table m)) is_last no_tail (net_lines lines)
+    (ended_with lines)
 unfolding Follows take_by take_whole
 net_follows m is lines few fit =
     let opens = net_taken m (length lines) few in (
@@ -268,7 +285,8 @@ net_follows m is lines few fit =
     )
 
 -- any state in which an event is due
-items_lack : (m : MatchData) → IsMatch m → (lines : List NetLine) → AllByRecursion (IsNetLine m) lines → AllByRecursion (Lacks 10) (map net_line lines) × AllByRecursion (λ l. length l ≤ 16) (map net_line lines)
+items_lack : (m : MatchData) → IsMatch m → (lines : List NetLine) → AllByRecursion (IsNetLine m) lines
+    → AllByRecursion (Lacks 10) (map net_line lines) × AllByRecursion (λ l. length l ≤ 16) (map net_line lines)
 items_lack m is [] fit = (tt, tt)
 items_lack m is (x ∷ lines) fit =
     let one = item m is (started 1) x refl fit.0 in
@@ -283,4 +301,7 @@ unfolding lines_text
 net_short m is lines few fit =
     let first = (net_taken m (length lines) few).3 in
     let all = section_length net_line lines 16 262144 (items_lack m is lines fit).1 few in
-    omega (arith, first, all, length-append (as_line (count_line (length lines))) (lines_text (map net_line lines ++ last_line ∷ [])), length-append (count_line (length lines)) (10 ∷ []), ap length (lines_text-append (map net_line lines) (last_line ∷ [])), length-append (lines_text (map net_line lines)) (lines_text (last_line ∷ [])))
+    omega (arith, first, all, length-append (as_line (count_line (length lines)))
+        (lines_text (map net_line lines ++ last_line ∷ [])), length-append (count_line (length lines)) (10 ∷ []),
+        ap length (lines_text-append (map net_line lines) (last_line ∷ [])),
+        length-append (lines_text (map net_line lines)) (lines_text (last_line ∷ [])))

@@ -25,9 +25,11 @@ use Rattle.match_file.specs.Kinds.{is_open, is_script, is_none, plan_kind, wall_
 use Rattle.tss_io.specs.Machines.{take_words, take_by, take_whole}
 use Rattle.tss_io.proofs.TableLaws.{ExactTable, entry_exact, alone_exact, table_says, entry_again, not_this}
 use Rattle.match_file.specs.Reading.{body_entries, body_table, may_open, may_end, take, is_last, no_body}
-use Rattle.match_file.specs.Sections.{PlanFits, WallFits, PickupFits, PlayerFits, OrderFits, PlanRight, WallRight, PickupRight, PlayerRight, CommandRight, ScriptRight, IsBody, closing_lines, body_lines, home_line}
+use Rattle.match_file.specs.Sections.{PlanFits, WallFits, PickupFits, PlayerFits, OrderFits, PlanRight, WallRight, PickupRight, PlayerRight, CommandRight}
+use Rattle.match_file.specs.Sections.{ScriptRight, IsBody, closing_lines, body_lines, home_line}
 use Rattle.match_file.specs.Text.{plan_line, wall_line, pickup_line, script_line}
-use Rattle.match_file.proofs.ExactKinds.{IsSmall, plan_exact, wall_exact, pickup_exact, player_exact, command_exact, tick_exact, turn_exact, arrive_exact, step_exact, world_exact, run_exact, restagger_exact}
+use Rattle.match_file.proofs.ExactKinds.{IsSmall, plan_exact, wall_exact, pickup_exact, player_exact, command_exact, tick_exact, turn_exact, arrive_exact}
+use Rattle.match_file.proofs.ExactKinds.{step_exact, world_exact, run_exact, restagger_exact}
 
 -- ---- where a line may stand
 
@@ -123,7 +125,9 @@ plan_says o b a is s =
     let none = none_is b.commands players.1 in
     let right : PlanRight o b.plans a = record { stands = refl; fits = s.fits; room = s.room; tests = s.tests } in (
       said_plan b a (open_is b.stage at.0) (none_is b.walls walls.0) (none_is b.pickups pickups.0) (none_is b.players players.0) none,
-      record { plans = each_push (PlanRight o) [] b.plans a is.plans right; walls = is.walls; pickups = is.pickups; players = is.players; commands = is.commands; script = none_each _ b.script (is.closed at.0); closed = is.closed; begun = is.begun },
+      record { plans = each_push (PlanRight o) [] b.plans a is.plans right; walls = is.walls; pickups = is.pickups;
+          players = is.players; commands = is.commands; script = none_each _ b.script (is.closed at.0);
+          closed = is.closed; begun = is.begun },
     )
 
 wall_says : (o : Opening) (b : Body) (a : Cell) → IsBody o b → Sound (wall_kind o) WallFits b a → Says o b (line_text (wall_kind o) b a) ((wall_kind o).put b a)
@@ -133,7 +137,10 @@ wall_says o b a is s =
     let players = and_parts (is_none b.players) _ pickups.1 in
     let right : WallRight o b.walls a = record { stands = refl; fits = s.fits; room = s.room; tests = s.tests } in (
       said_wall b a (open_is b.stage at.0) (none_is b.pickups pickups.0) (none_is b.players players.0) (none_is b.commands players.1),
-      record { plans = is.plans; walls = each_push (WallRight o) [] b.walls a is.walls right; pickups = none_each _ b.pickups (none_is b.pickups pickups.0); players = none_each _ b.players (none_is b.players players.0); commands = is.commands; script = is.script; closed = is.closed; begun = is.begun },
+      record { plans = is.plans; walls = each_push (WallRight o) [] b.walls a is.walls right;
+          pickups = none_each _ b.pickups (none_is b.pickups pickups.0);
+          players = none_each _ b.players (none_is b.players players.0); commands = is.commands; script = is.script;
+          closed = is.closed; begun = is.begun },
     )
 
 pickup_says : (o : Opening) (b : Body) (a : PickupSpot) → IsBody o b → Sound (pickup_kind o) PickupFits b a → Says o b (line_text (pickup_kind o) b a) ((pickup_kind o).put b a)
@@ -142,7 +149,9 @@ pickup_says o b a is s =
     let players = and_parts (is_none b.players) _ at.1 in
     let right : PickupRight o b.walls b.pickups a = record { stands = refl; fits = s.fits; room = s.room; tests = s.tests } in (
       said_pickup b a (open_is b.stage at.0) (none_is b.players players.0) (none_is b.commands players.1),
-      record { plans = is.plans; walls = is.walls; pickups = each_push (PickupRight o b.walls) [] b.pickups a is.pickups right; players = none_each _ b.players (none_is b.players players.0); commands = is.commands; script = is.script; closed = is.closed; begun = is.begun },
+      record { plans = is.plans; walls = is.walls; pickups = each_push (PickupRight o b.walls) [] b.pickups a
+          is.pickups right; players = none_each _ b.players (none_is b.players players.0); commands = is.commands;
+          script = is.script; closed = is.closed; begun = is.begun },
     )
 
 player_says : (o : Opening) (b : Body) (a : Player) → IsBody o b → Sound (player_kind o) PlayerFits b a → Says o b (line_text (player_kind o) b a) ((player_kind o).put b a)
@@ -150,7 +159,10 @@ player_says o b a is s =
     let at = and_parts (is_open b.stage) _ s.stands in
     let right : PlayerRight o b.walls b.pickups b.players a = record { stands = refl; fits = s.fits; room = s.room; tests = s.tests } in (
       said_player b a (open_is b.stage at.0) (none_is b.commands at.1),
-      record { plans = is.plans; walls = is.walls; pickups = is.pickups; players = each_push (PlayerRight o b.walls b.pickups) [] b.players a is.players right; commands = none_each _ b.commands (none_is b.commands at.1); script = is.script; closed = is.closed; begun = λ k. open_clash b.stage at.0 k },
+      record { plans = is.plans; walls = is.walls; pickups = is.pickups;
+          players = each_push (PlayerRight o b.walls b.pickups) [] b.players a is.players right;
+          commands = none_each _ b.commands (none_is b.commands at.1); script = is.script; closed = is.closed;
+          begun = λ k. open_clash b.stage at.0 k },
     )
 
 command_says : (o : Opening) (b : Body) (a : Command) → IsBody o b → Sound (command_kind o) (OrderFits o) b a → Says o b (line_text (command_kind o) b a) ((command_kind o).put b a)
@@ -158,13 +170,19 @@ command_says o b a is s =
     let at = and_parts (is_open b.stage) _ s.stands in
     let right : CommandRight o b.players b.commands a = record { stands = at.1; fits = s.fits; room = s.room; tests = s.tests } in (
       said_command b a (open_is b.stage at.0),
-      record { plans = is.plans; walls = is.walls; pickups = is.pickups; players = is.players; commands = each_push (CommandRight o b.players) [] b.commands a is.commands right; script = none_each _ b.script (is.closed at.0); closed = is.closed; begun = is.begun },
+      record { plans = is.plans; walls = is.walls; pickups = is.pickups; players = is.players;
+          commands = each_push (CommandRight o b.players) [] b.commands a is.commands right;
+          script = none_each _ b.script (is.closed at.0); closed = is.closed; begun = is.begun },
     )
 
-script_says : (o : Opening) (b : Body) (x : ScriptLine) → IsBody o b → is_script b.stage ≡ true → ScriptRight o b.plans b.commands b.script x → Says o b (script_line x) (record b { script = b.script ++ x ∷ [] })
+script_says : (o : Opening) (b : Body) (x : ScriptLine) → IsBody o b → is_script b.stage ≡ true
+    → ScriptRight o b.plans b.commands b.script x
+    → Says o b (script_line x) (record b { script = b.script ++ x ∷ [] })
 script_says o b x is stands right = (
   said_script b x (script_is b.stage stands),
-  record { plans = is.plans; walls = is.walls; pickups = is.pickups; players = is.players; commands = is.commands; script = each_push (ScriptRight o b.plans b.commands) [] b.script x is.script right; closed = λ h. absurd (not_open b.stage stands h); begun = is.begun },
+  record { plans = is.plans; walls = is.walls; pickups = is.pickups; players = is.players; commands = is.commands;
+      script = each_push (ScriptRight o b.plans b.commands) [] b.script x is.script right;
+      closed = λ h. absurd (not_open b.stage stands h); begun = is.begun },
 )
 
 ended_said : (o : Opening) (b : Body) → IsBody o b → may_end b ≡ true → body_lines (record b { stage = Ended }) ≡ body_lines b ++ codes "end" ∷ []
@@ -182,13 +200,17 @@ ended_begun o b is h = elim (or_cases (may_open b) (is_script b.stage && not (is
 -- what the end of a text says
 end_says : (o : Opening) (b : Body) → IsBody o b → may_end b ≡ true → Says o b (codes "end") (record b { stage = Ended })
 end_says o b is h =
-    let closes : IsBody o (record b { stage = Ended }) = record { plans = is.plans; walls = is.walls; pickups = is.pickups; players = is.players; commands = is.commands; script = is.script; closed = λ k. absurd cc; begun = λ _. ended_begun o b is h } in
+    let closes : IsBody o (record b { stage = Ended }) = record { plans = is.plans; walls = is.walls;
+        pickups = is.pickups; players = is.players; commands = is.commands; script = is.script;
+        closed = λ k. absurd cc; begun = λ _. ended_begun o b is h } in
     (ended_said o b is h, closes)
 
 opens_says : (o : Opening) (b : Body) → IsBody o b → may_open b ≡ true → Says o b (codes "script") (record b { stage = InScript })
 opens_says o b is h =
     let at = and_parts (is_open b.stage) _ h in
-    (said_opened b (open_is b.stage at.0) (is.closed at.0), record { plans = is.plans; walls = is.walls; pickups = is.pickups; players = is.players; commands = is.commands; script = is.script; closed = λ k. absurd cc; begun = λ _. some_is b.players at.1 })
+    (said_opened b (open_is b.stage at.0) (is.closed at.0), record { plans = is.plans; walls = is.walls;
+        pickups = is.pickups; players = is.players; commands = is.commands; script = is.script;
+        closed = λ k. absurd cc; begun = λ _. some_is b.players at.1 })
 
 -- each kind says its line
 pub body_exact : (o : Opening) → IsSmall o → ExactTable (IsBody o) (Says o) (body_table o)
@@ -245,33 +267,47 @@ unfolding front_at words_of
 alone_end = refl
 
 -- what a kind writes is taken, where its keyword leads to it
-kind_again : {R A : Type 0} {k : Kind Body R A Body} {Fits : Body → A → Type 0} (o : Opening) → ExactKind k Fits → (b : Body) (a : A) → Sound k Fits b a → take_words (body_table o).entries b k.keyword ((k.form b).words a) ≡ step k b ((k.form b).words a)
+kind_again : {R A : Type 0} {k : Kind Body R A Body} {Fits : Body → A → Type 0} (o : Opening) → ExactKind k Fits
+    → (b : Body) (a : A) → Sound k Fits b a → take_words (body_table o).entries b k.keyword ((k.form b).words a)
+    ≡ step k b ((k.form b).words a)
     → is_last b ≡ false → (is_last b ≡ false) × (is_long (line_text k b a) ≡ false) × (take o b (line_text k b a) ≡ Ok (k.put b a))
 kind_again o x b a h led going = (going, line_short x b a h, entry_again (body_table o) x b a h (not_this x b a h (codes "script") alone_script, (not_this x b a h (codes "end") alone_end, tt)) led)
 
 plans_follow : (o : Opening) → IsSmall o → (b : Body) → EachAfter (PlanRight o) [] b.plans → Follows (take o) is_last no_body (map plan_line b.plans) (record no_body { plans = b.plans })
 unfolding take_words body_entries
 plans_follow o small b h =
-    items_follow (take o) is_last (PlanRight o) plan_line (λ xs. record no_body { plans = xs }) (λ before a r. kind_again o (plan_exact o small) (record no_body { plans = before }) a r refl refl) [] b.plans h
+    items_follow (take o) is_last (PlanRight o) plan_line (λ xs. record no_body { plans = xs })
+        (λ before a r. kind_again o (plan_exact o small) (record no_body { plans = before }) a r refl refl) [] b.plans
+        h
 
-walls_follow : (o : Opening) (b : Body) → EachAfter (WallRight o) [] b.walls → Follows (take o) is_last (record no_body { plans = b.plans }) (map wall_line b.walls) (record no_body { plans = b.plans; walls = b.walls })
+walls_follow : (o : Opening) (b : Body) → EachAfter (WallRight o) [] b.walls
+    → Follows (take o) is_last (record no_body { plans = b.plans }) (map wall_line b.walls)
+    (record no_body { plans = b.plans; walls = b.walls })
 unfolding take_words body_entries
 walls_follow o b h =
     items_follow (take o) is_last (WallRight o) wall_line (λ xs. record no_body { plans = b.plans; walls = xs })
     (λ before a r. kind_again o (wall_exact o) (record no_body { plans = b.plans; walls = before }) a (record { stands = refl; fits = r.fits; room = r.room; tests = r.tests }) refl refl) [] b.walls h
 
-pickups_follow : (o : Opening) (b : Body) → EachAfter (PickupRight o b.walls) [] b.pickups → Follows (take o) is_last (record no_body { plans = b.plans; walls = b.walls }) (map pickup_line b.pickups) (record no_body { plans = b.plans; walls = b.walls; pickups = b.pickups })
+pickups_follow : (o : Opening) (b : Body) → EachAfter (PickupRight o b.walls) [] b.pickups
+    → Follows (take o) is_last (record no_body { plans = b.plans; walls = b.walls }) (map pickup_line b.pickups)
+    (record no_body { plans = b.plans; walls = b.walls; pickups = b.pickups })
 unfolding take_words body_entries
 pickups_follow o b h =
     items_follow (take o) is_last (PickupRight o b.walls) pickup_line (λ xs. record no_body { plans = b.plans; walls = b.walls; pickups = xs })
-    (λ before a r. kind_again o (pickup_exact o) (record no_body { plans = b.plans; walls = b.walls; pickups = before }) a (record { stands = refl; fits = r.fits; room = r.room; tests = r.tests }) refl refl) [] b.pickups h
+    (λ before a r. kind_again o (pickup_exact o) (record no_body { plans = b.plans; walls = b.walls;
+        pickups = before }) a (record { stands = refl; fits = r.fits; room = r.room; tests = r.tests }) refl refl) []
+        b.pickups h
 
 players_follow : (o : Opening) (b : Body) → EachAfter (PlayerRight o b.walls b.pickups) [] b.players
-    → Follows (take o) is_last (record no_body { plans = b.plans; walls = b.walls; pickups = b.pickups }) (map home_line b.players) (record no_body { plans = b.plans; walls = b.walls; pickups = b.pickups; players = b.players })
+    → Follows (take o) is_last (record no_body { plans = b.plans; walls = b.walls; pickups = b.pickups })
+        (map home_line b.players) (record no_body { plans = b.plans; walls = b.walls; pickups = b.pickups;
+        players = b.players })
 unfolding take_words body_entries
 players_follow o b h =
     items_follow (take o) is_last (PlayerRight o b.walls b.pickups) home_line (λ xs. record no_body { plans = b.plans; walls = b.walls; pickups = b.pickups; players = xs })
-    (λ before a r. kind_again o (player_exact o) (record no_body { plans = b.plans; walls = b.walls; pickups = b.pickups; players = before }) a (record { stands = refl; fits = r.fits; room = r.room; tests = r.tests }) refl refl) [] b.players h
+    (λ before a r. kind_again o (player_exact o) (record no_body { plans = b.plans; walls = b.walls;
+        pickups = b.pickups; players = before }) a (record { stands = refl; fits = r.fits; room = r.room;
+        tests = r.tests }) refl refl) [] b.players h
 
 abbrev opened : Body → Body
 opened b = record no_body { plans = b.plans; walls = b.walls; pickups = b.pickups; players = b.players; commands = b.commands }
@@ -281,7 +317,9 @@ commands_follow : (o : Opening) → IsSmall o → (b : Body) → EachAfter (Comm
 unfolding take_words body_entries
 commands_follow o small b h =
     items_follow (take o) is_last (CommandRight o b.players) command_line (λ xs. record no_body { plans = b.plans; walls = b.walls; pickups = b.pickups; players = b.players; commands = xs })
-    (λ before a r. kind_again o (command_exact o small) (record no_body { plans = b.plans; walls = b.walls; pickups = b.pickups; players = b.players; commands = before }) a (record { stands = r.stands; fits = r.fits; room = r.room; tests = r.tests }) refl refl) [] b.commands h
+    (λ before a r. kind_again o (command_exact o small) (record no_body { plans = b.plans; walls = b.walls;
+        pickups = b.pickups; players = b.players; commands = before }) a
+        (record { stands = r.stands; fits = r.fits; room = r.room; tests = r.tests }) refl refl) [] b.commands h
 
 abbrev scripted : Body → List ScriptLine → Body
 scripted b script = record b { stage = InScript; script = script }
@@ -297,7 +335,8 @@ script_item o small b before (World m c) r = kind_again o (world_exact o small) 
 script_item o small b before (Run m c) r = kind_again o (run_exact o small) (scripted b before) (m, c) (record { stands = refl; fits = r.fits; room = r.room; tests = r.tests }) refl refl
 script_item o small b before (Restagger m p) r = kind_again o (restagger_exact o small) (scripted b before) (m, p) (record { stands = refl; fits = r.fits; room = r.room; tests = r.tests }) refl refl
 
-script_follows : (o : Opening) → IsSmall o → (b : Body) → EachAfter (ScriptRight o b.plans b.commands) [] b.script → Follows (take o) is_last (scripted b []) (map script_line b.script) (scripted b b.script)
+script_follows : (o : Opening) → IsSmall o → (b : Body) → EachAfter (ScriptRight o b.plans b.commands) [] b.script
+    → Follows (take o) is_last (scripted b []) (map script_line b.script) (scripted b b.script)
 script_follows o small b h = items_follow (take o) is_last (ScriptRight o b.plans b.commands) script_line (scripted b) (script_item o small b) [] b.script h
 
 -- the lines behind the commands
@@ -321,6 +360,11 @@ ended_follows o small b stage is =
     let close : Follows (take o) is_last (opened b) (closing_lines b.stage b.script) b = rw stage (closing_follows o small b b.script refl some is.script) in
     follows_more (take o) is_last no_body (map plan_line b.plans) (record no_body { plans = b.plans }) _ _ (plans_follow o small b is.plans)
     (follows_more (take o) is_last (record no_body { plans = b.plans }) (map wall_line b.walls) (record no_body { plans = b.plans; walls = b.walls }) _ _ (walls_follow o b is.walls)
-    (follows_more (take o) is_last (record no_body { plans = b.plans; walls = b.walls }) (map pickup_line b.pickups) (record no_body { plans = b.plans; walls = b.walls; pickups = b.pickups }) _ _ (pickups_follow o b is.pickups)
-    (follows_more (take o) is_last (record no_body { plans = b.plans; walls = b.walls; pickups = b.pickups }) (map home_line b.players) (record no_body { plans = b.plans; walls = b.walls; pickups = b.pickups; players = b.players }) _ _ (players_follow o b is.players)
-    (follows_more (take o) is_last (record no_body { plans = b.plans; walls = b.walls; pickups = b.pickups; players = b.players }) (map command_line b.commands) (opened b) _ _ (commands_follow o small b is.commands) close))))
+    (follows_more (take o) is_last (record no_body { plans = b.plans; walls = b.walls }) (map pickup_line b.pickups)
+        (record no_body { plans = b.plans; walls = b.walls; pickups = b.pickups }) _ _ (pickups_follow o b is.pickups)
+    (follows_more (take o) is_last (record no_body { plans = b.plans; walls = b.walls; pickups = b.pickups })
+        (map home_line b.players) (record no_body { plans = b.plans; walls = b.walls; pickups = b.pickups;
+        players = b.players }) _ _ (players_follow o b is.players)
+    (follows_more (take o) is_last (record no_body { plans = b.plans; walls = b.walls; pickups = b.pickups;
+        players = b.players }) (map command_line b.commands) (opened b) _ _ (commands_follow o small b is.commands)
+        close))))

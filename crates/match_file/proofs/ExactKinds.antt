@@ -15,7 +15,8 @@ use Rattle.tss_io.proofs.FormLaws.{Chosen, ExactField, number_exact, choice_exac
 use Rattle.tss_io.proofs.KindLaws.{ExactKind}
 use Rattle.match_file.specs.declared.opening.Opening.{Opening}
 use Rattle.match_file.specs.Names.{is_letter, is_name_byte, is_name}
-use Rattle.match_file.specs.Kinds.{greatest, number_kind, length_kind, grid_kind, mirrors_kind, delays_kind, pace_kind, plan_kind, wall_kind, pickup_kind, player_kind, command_kind, tick_kind, turn_kind, arrive_kind, step_kind, world_kind, run_kind, restagger_kind}
+use Rattle.match_file.specs.Kinds.{greatest, number_kind, length_kind, grid_kind, mirrors_kind, delays_kind, pace_kind, plan_kind, wall_kind, pickup_kind}
+use Rattle.match_file.specs.Kinds.{player_kind, command_kind, tick_kind, turn_kind, arrive_kind, step_kind, world_kind, run_kind, restagger_kind}
 use Rattle.match_file.specs.Sections.{PlanFits, WallFits, PickupFits, PlayerFits, OrderFits, MirrorFits, CopyFits, ArriveFits, NextPlanFits}
 use Rattle.arena_rules.specs.Block.{face_word, kind_word}
 
@@ -27,7 +28,9 @@ pub record IsSmall (o : Opening) : Type 0 where
 
 -- ---- the opening
 
-pub number_kind_exact : (keyword : List ℕ) (least most digits : ℕ) → is_word keyword ≡ true → length keyword ≤ 20 → 0 < digits → digits ≤ 10 → most < 10 ^ digits → most < 2 ^ 64 → ExactKind (number_kind keyword least most) (λ _. InRange least most)
+pub number_kind_exact : (keyword : List ℕ) (least most digits : ℕ) → is_word keyword ≡ true → length keyword ≤ 20
+    → 0 < digits → digits ≤ 10 → most < 10 ^ digits → most < 2 ^ 64
+    → ExactKind (number_kind keyword least most) (λ _. InRange least most)
 number_kind_exact keyword least most digits word short some few small fits = record {
   keyword = word;
   longest = λ _. 1 + digits;
@@ -109,7 +112,9 @@ unfolding is_word
 pickup_exact o = record {
   keyword = refl;
   longest = λ _. 27;
-  form = λ _. made_exact _ _ (λ _. refl) (λ _. refl) (then_exact coordinate_exact (then_exact coordinate_exact (only_exact (choice_exact kind_word (Ammo ∷ Heal ∷ Gold ∷ []) 4 (tt, (tt, (tt, tt))) kinds_told kinds_short))));
+  form = λ _. made_exact _ _ (λ _. refl) (λ _. refl)
+      (then_exact coordinate_exact (then_exact coordinate_exact
+      (only_exact (choice_exact kind_word (Ammo ∷ Heal ∷ Gold ∷ []) 4 (tt, (tt, (tt, tt))) kinds_told kinds_short))));
   short = λ _ _ _. lit≤ tt;
 }
 
@@ -136,7 +141,10 @@ unfolding is_word
 player_exact o = record {
   keyword = refl;
   longest = λ p. 1 + (length p.name + (1 + (10 + (1 + (10 + (1 + 1))))));
-  form = λ _. made_exact _ _ (λ _. refl) (λ _. refl) (then_exact any_word_exact (then_exact coordinate_exact (then_exact coordinate_exact (only_exact (choice_exact face_word (N ∷ E ∷ S ∷ W ∷ []) 1 (tt, (tt, (tt, (tt, tt)))) faces_told faces_short)))));
+  form = λ _. made_exact _ _ (λ _. refl) (λ _. refl)
+      (then_exact any_word_exact (then_exact coordinate_exact
+      (then_exact coordinate_exact (only_exact (choice_exact face_word (N ∷ E ∷ S ∷ W ∷ []) 1
+      (tt, (tt, (tt, (tt, tt)))) faces_told faces_short)))));
   short = λ _ p h. let twelve = short_name p.name h.tests.0 in omega arith;
 }
 

@@ -2,19 +2,18 @@
 use Rattle.std.proofs.Common.{◌≡◌, inr, ℕ, ◌≤◌, true, false, cond, eqb, refl, lit≤, arith}
 use Rattle.game_trait.specs.declared.command.Act.{Act}
 use Rattle.game_trait.specs.declared.command.Act.TheVariants.{Go, Left, Right, Shoot, Dash}
-use Rattle.game_trait.specs.declared.limits.TheConstants.{MOST_PLAYERS, MOST_PLAYERS_IN_1, MOST_COMMANDS}
+use Rattle.game_trait.specs.declared.limits.TheConstants.{MOST_PLAYERS, MOST_PLAYERS_IN_1, MOST_COMMANDS_IN_1, MOST_COMMANDS_IN_2}
 use Rattle.command_lines.specs.CommandLine.{has_act}
 use Rattle.tss_io.proofs.EachLaws.{all_to}
 use Rattle.match_file.specs.declared.script_line.ScriptLine.{ScriptLine}
 use Rattle.match_file.specs.declared.script_line.ScriptLine.TheVariants.{Tick, Turn, Arrive, Step, World, Run, Restagger}
-use Rattle.match_file.specs.declared.versions.TheConstants.{MOST_COMMANDS_IN_2}
 use Rattle.match_file.specs.Data.{MatchData, most_players, most_commands, IsCommand, IsScriptLine, IsMatch, lifted}
 
 more_players : (version : ℕ) → most_players version ≤ most_players 2
 more_players version = elim (eqb version 1) as (λ t. cond t MOST_PLAYERS_IN_1 MOST_PLAYERS ≤ MOST_PLAYERS) [ true ↦ lit≤ tt | false ↦ lit≤ tt ]
 
 more_commands : (version : ℕ) → most_commands version ≤ most_commands 2
-more_commands version = elim (eqb version 1) as (λ t. cond t MOST_COMMANDS MOST_COMMANDS_IN_2 ≤ MOST_COMMANDS_IN_2) [ true ↦ lit≤ tt | false ↦ lit≤ tt ]
+more_commands version = elim (eqb version 1) as (λ t. cond t MOST_COMMANDS_IN_1 MOST_COMMANDS_IN_2 ≤ MOST_COMMANDS_IN_2) [ true ↦ lit≤ tt | false ↦ lit≤ tt ]
 
 more_acts : (a : Act) → has_act 2 a ≡ true
 more_acts Go = refl

@@ -11,7 +11,8 @@ use Rattle.tss_io.specs.Lines.{as_line, lines_text}
 use Rattle.tss_io.proofs.Printing.{lines_none, puts, puts_one}
 use Rattle.match_file.specs.declared.script_line.ScriptLine.{ScriptLine}
 use Rattle.match_file.specs.Data.{MatchData}
-use Rattle.match_file.specs.Text.{head_line, number_line, grid_line, delays_line, wall_line, wall_at, walls_in_row, walls_of, plan_line, pickup_line, player_line, player_lines, script_line, script_lines, opening_lines, match_lines, match_text}
+use Rattle.match_file.specs.Text.{head_line, number_line, grid_line, delays_line, wall_line, wall_at, walls_in_row, walls_of, plan_line, pickup_line}
+use Rattle.match_file.specs.Text.{player_line, player_lines, script_line, script_lines, opening_lines, match_lines, match_text}
 
 -- ---- walls
 
@@ -41,13 +42,18 @@ wall_none g x y old h = rw h (lines_none old)
 pub wall_one : (g : Grid) (x y : ℕ) (old new : List ℕ) → is_walled g x y ≡ true → new ≡ old ++ as_line (wall_line (record { x = x; y = y })) → new ≡ old ++ lines_text (map wall_line (wall_at g x y))
 wall_one g x y old new h e = rw h (puts_one (wall_line (record { x = x; y = y })) old new e)
 
-pub row_next : (g : Grid) (y x : ℕ) (old mid new : List ℕ) → mid ≡ old ++ lines_text (map wall_line (walls_in_row g y x)) → new ≡ mid ++ lines_text (map wall_line (wall_at g x y)) → new ≡ old ++ lines_text (map wall_line (walls_in_row g y (x + 1)))
+pub row_next : (g : Grid) (y x : ℕ) (old mid new : List ℕ) → mid ≡ old
+    ++ lines_text (map wall_line (walls_in_row g y x)) → new ≡ mid ++ lines_text (map wall_line (wall_at g x y)) → new
+    ≡ old ++ lines_text (map wall_line (walls_in_row g y (x + 1)))
 unfolding walls_in_row
 row_next g y x old mid new so_far next =
     let e : x + 1 ≡ suc x = omega arith in
     rw (e, map-append wall_line (walls_in_row g y x) (wall_at g x y)) (puts (map wall_line (walls_in_row g y x)) (map wall_line (wall_at g x y)) old mid new so_far next)
 
-pub walls_next : (g : Grid) (width y : ℕ) (old mid new : List ℕ) → mid ≡ old ++ lines_text (map wall_line (walls_of g width y)) → new ≡ mid ++ lines_text (map wall_line (walls_in_row g y width)) → new ≡ old ++ lines_text (map wall_line (walls_of g width (y + 1)))
+pub walls_next : (g : Grid) (width y : ℕ) (old mid new : List ℕ) → mid ≡ old
+    ++ lines_text (map wall_line (walls_of g width y)) → new ≡ mid
+    ++ lines_text (map wall_line (walls_in_row g y width)) → new ≡ old
+    ++ lines_text (map wall_line (walls_of g width (y + 1)))
 unfolding walls_of
 walls_next g width y old mid new so_far next =
     let e : y + 1 ≡ suc y = omega arith in
@@ -71,11 +77,16 @@ players_push (n ∷ names) [] i d within same = absurd (omega arith)
 players_push (n ∷ names) (h ∷ homes) zero d within same = refl
 players_push (n ∷ names) (h ∷ homes) (suc i) d within same = ap (λ (ls : List (List ℕ)). player_line n h ∷ ls) (players_push names homes i d (omega (arith, within)) (omega (arith, same)))
 
-pub players_next : (names : List (List ℕ)) (homes : List Spot) (i : ℕ) (d : Spot) (old mid new : List ℕ) → i < length homes → length names ≡ length homes → mid ≡ old ++ lines_text (player_lines (take i names) (take i homes)) → new ≡ mid ++ as_line (player_line (unwrap_or (slice_get names i) []) (get_or homes i d))
+pub players_next : (names : List (List ℕ)) (homes : List Spot) (i : ℕ) (d : Spot) (old mid new : List ℕ)
+    → i < length homes → length names ≡ length homes → mid ≡ old
+    ++ lines_text (player_lines (take i names) (take i homes)) → new ≡ mid
+    ++ as_line (player_line (unwrap_or (slice_get names i) []) (get_or homes i d))
     → new ≡ old ++ lines_text (player_lines (take (i + 1) names) (take (i + 1) homes))
 players_next names homes i d old mid new within same so_far next =
     let e : i + 1 ≡ suc i = omega arith in
-    rw (e, players_push names homes i d within same) (puts (player_lines (take i names) (take i homes)) (player_line (unwrap_or (slice_get names i) []) (get_or homes i d) ∷ []) old mid new so_far (puts_one _ mid new next))
+    rw (e, players_push names homes i d within same) (puts (player_lines (take i names) (take i homes))
+        (player_line (unwrap_or (slice_get names i) []) (get_or homes i d) ∷ []) old mid new so_far
+        (puts_one _ mid new next))
 
 pub players_none : (names : List (List ℕ)) (homes : List Spot) (old : List ℕ) → old ≡ old ++ lines_text (player_lines (take 0 names) (take 0 homes))
 unfolding player_lines
@@ -93,8 +104,11 @@ script_none (s ∷ script) old h = absurd (grind (arith, nat_tests))
 
 -- ---- the opening
 
-pub opening_puts : (m : MatchData) (old a b c d e f : List ℕ) → a ≡ old ++ as_line (head_line m.version) → b ≡ a ++ as_line (number_line (codes "length") m.length) → c ≡ b ++ as_line (grid_line m.layout.grid.width m.layout.grid.height)
-    → d ≡ c ++ as_line (number_line (codes "mirrors") m.mirrors) → e ≡ d ++ as_line (delays_line m.delays) → f ≡ e ++ as_line (number_line (codes "pace") m.pace) → f ≡ old ++ lines_text (opening_lines m)
+pub opening_puts : (m : MatchData) (old a b c d e f : List ℕ) → a ≡ old ++ as_line (head_line m.version) → b ≡ a
+    ++ as_line (number_line (codes "length") m.length) → c ≡ b
+    ++ as_line (grid_line m.layout.grid.width m.layout.grid.height)
+    → d ≡ c ++ as_line (number_line (codes "mirrors") m.mirrors) → e ≡ d ++ as_line (delays_line m.delays) → f ≡ e
+        ++ as_line (number_line (codes "pace") m.pace) → f ≡ old ++ lines_text (opening_lines m)
 opening_puts m old a b c d e f ea eb ec ed ee ef =
     puts (head_line m.version ∷ []) _ old a f (puts_one _ old a ea)
     (puts (number_line (codes "length") m.length ∷ []) _ a b f (puts_one _ a b eb)
@@ -104,8 +118,12 @@ opening_puts m old a b c d e f ea eb ec ed ee ef =
 
 -- ---- the whole
 
-pub match_puts : (m : MatchData) (a b c d e f g new : List ℕ) → a ≡ lines_text (opening_lines m) → b ≡ a ++ lines_text (map plan_line m.plans) → c ≡ b ++ lines_text (map wall_line (walls_of m.layout.grid m.layout.grid.width m.layout.grid.height)) → d ≡ c ++ lines_text (map pickup_line m.layout.pickups)
-    → e ≡ d ++ lines_text (player_lines m.names m.layout.players) → f ≡ e ++ lines_text (map command_line m.commands) → g ≡ f ++ lines_text (script_lines m.script) → new ≡ g ++ as_line (codes "end") → new ≡ match_text m
+pub match_puts : (m : MatchData) (a b c d e f g new : List ℕ) → a ≡ lines_text (opening_lines m) → b ≡ a
+    ++ lines_text (map plan_line m.plans) → c ≡ b
+    ++ lines_text (map wall_line (walls_of m.layout.grid m.layout.grid.width m.layout.grid.height)) → d ≡ c
+    ++ lines_text (map pickup_line m.layout.pickups)
+    → e ≡ d ++ lines_text (player_lines m.names m.layout.players) → f ≡ e ++ lines_text (map command_line m.commands)
+        → g ≡ f ++ lines_text (script_lines m.script) → new ≡ g ++ as_line (codes "end") → new ≡ match_text m
 unfolding match_lines
 match_puts m a b c d e f g new ea eb ec ed ee ef eg en =
     puts (opening_lines m) _ [] a new ea

@@ -1,5 +1,6 @@
 -- What was read is a match.
-use Rattle.std.proofs.Common.{◌≡◌, ℕ, ◌+◌, ◌<◌, ◌≤◌, Bool, true, false, cond, eqb, ltb, ◌&&◌, ◌||◌, List, [], ◌∷◌, ◌++◌, length, map, filter, refl, sym, ap, ◌∙◌, length-append, append_assoc, lit≤, arith}
+use Rattle.std.proofs.Common.{◌≡◌, ℕ, ◌+◌, ◌<◌, ◌≤◌, Bool, true, false, cond, eqb, ltb, ◌&&◌, ◌||◌, List, [], ◌∷◌, ◌++◌, length, map, filter, refl, sym, ap}
+use Rattle.std.proofs.Common.{◌∙◌, length-append, append_assoc, lit≤, arith}
 use Rattle.std.specs.Prelude.{bytes_eq, not, count_by}
 use Rattle.std.specs.List.{AllByRecursion, IsDistinct, list_any, list_all}
 use Rattle.std.proofs.lemmas.Bool.{ltb-true, leb-true, and_parts, not-true}
@@ -52,7 +53,8 @@ unfolding DelaysRise
 delays_rise [] h = tt
 delays_rise (d ∷ ds) h = rises_all d ds h
 
-pub is_schedule : (ticks : ℕ) (delays : List ℕ) → InRange 1 LONGEST_MATCH ticks → AreNumbers 0 LONGEST_DELAY delays → length delays ≤ MOST_COPIES → rises delays ≡ true → IsSchedule (record { delays = delays; length = ticks })
+pub is_schedule : (ticks : ℕ) (delays : List ℕ) → InRange 1 LONGEST_MATCH ticks → AreNumbers 0 LONGEST_DELAY delays
+    → length delays ≤ MOST_COPIES → rises delays ≡ true → IsSchedule (record { delays = delays; length = ticks })
 is_schedule ticks delays long are few rise = record {
   some_copy = are.some;
   few_copies = few;
@@ -87,7 +89,10 @@ wall_more o narrow before c w r =
     record {
       within = all_push (λ e. (e.x < o.width) × (e.y < o.height)) before c w.within (x, y);
       rise = rw (map-append place before (c ∷ [])) (rises_push (map place before) (place c) w.rise below);
-      below = rw (last_push before c, map-append place before (c ∷ [])) (all_push (λ n. n < place c + 1) (map place before) (place c) (all_to (λ n. n < place c) (λ n. n < place c + 1) (λ n lt. omega arith) (map place before) below) (omega arith));
+      below = rw (last_push before c, map-append place before (c ∷ []))
+          (all_push (λ n. n < place c + 1) (map place before) (place c)
+          (all_to (λ n. n < place c) (λ n. n < place c + 1) (λ n lt. omega arith) (map place before) below)
+          (omega arith));
       last = rw (last_push before c) (omega arith);
       few = rw (last_push before c, length-append before (c ∷ [])) (omega arith);
     }
@@ -140,18 +145,24 @@ no_commands : NamesDiffer []
 unfolding NamesDiffer
 no_commands = tt
 
-free_cell : (o : Opening) (walls : List Cell) (x y : ℕ) → IsGrid (open_grid o.width o.height) → InGrid o.width o.height walls → in_grid o x y ≡ true → not (has_wall x y walls) ≡ true → is_open (walled (open_grid o.width o.height) walls) x y ≡ true
+free_cell : (o : Opening) (walls : List Cell) (x y : ℕ) → IsGrid (open_grid o.width o.height)
+    → InGrid o.width o.height walls → in_grid o x y ≡ true → not (has_wall x y walls) ≡ true
+    → is_open (walled (open_grid o.width o.height) walls) x y ≡ true
 unfolding is_open is_walled
 free_cell o walls x y is within inside free =
     let parts = and_parts (ltb x o.width) (ltb y o.height) inside in
-    rw (walled_width (open_grid o.width o.height) walls, walled_height (open_grid o.width o.height) walls, parts.0, parts.1, walled_has (open_grid o.width o.height) walls x y is within, is_walled-open_grid o.width o.height x y)
+    rw (walled_width (open_grid o.width o.height) walls, walled_height (open_grid o.width o.height) walls, parts.0,
+        parts.1, walled_has (open_grid o.width o.height) walls x y is within,
+        is_walled-open_grid o.width o.height x y)
     (no_wall (has_wall x y walls) free)
 
 pickups_free : (o : Opening) (walls : List Cell) (pickups : List PickupSpot) → IsGrid (open_grid o.width o.height) → InGrid o.width o.height walls → EachAfter (PickupRight o walls) [] pickups
     → AllByRecursion (λ p. is_open (walled (open_grid o.width o.height) walls) p.x p.y ≡ true) pickups
 pickups_free o walls pickups is within h = each_of (PickupRight o walls) _ (λ before p r. free_cell o walls p.x p.y is within r.tests.0 r.tests.1.0) [] pickups h
 
-homes_free : (o : Opening) (walls : List Cell) (pickups : List PickupSpot) (players : List Player) → IsGrid (open_grid o.width o.height) → InGrid o.width o.height walls → EachAfter (PlayerRight o walls pickups) [] players
+homes_free : (o : Opening) (walls : List Cell) (pickups : List PickupSpot) (players : List Player)
+    → IsGrid (open_grid o.width o.height) → InGrid o.width o.height walls
+    → EachAfter (PlayerRight o walls pickups) [] players
     → AllByRecursion (λ p. is_open (walled (open_grid o.width o.height) walls) p.home.x p.home.y ≡ true) players
 homes_free o walls pickups players is within h = each_of (PlayerRight o walls pickups) _ (λ before p r. free_cell o walls p.home.x p.home.y is within r.tests.1.1.0 r.tests.1.1.1.0) [] players h
 
@@ -161,30 +172,46 @@ homes players = map (λ p. p.home) players
 all_free : (g : Grid) (pickups : List PickupSpot) (players : List Player) → AllByRecursion (λ p. is_open g p.x p.y ≡ true) pickups → AllByRecursion (λ p. is_open g p.home.x p.home.y ≡ true) players
     → list_all (λ c. is_open g c.x c.y) (map pickup_cell pickups ++ map spot_cell (homes players)) ≡ true
 all_free g pickups players h k =
-    list_all_of _ _ (all_append (λ c. is_open g c.x c.y ≡ true) (map pickup_cell pickups) (map spot_cell (homes players)) (all_map _ pickup_cell pickups h) (all_map _ spot_cell (homes players) (all_map _ (λ p. p.home) players k)))
+    list_all_of _ _ (all_append (λ c. is_open g c.x c.y ≡ true) (map pickup_cell pickups)
+        (map spot_cell (homes players)) (all_map _ pickup_cell pickups h)
+        (all_map _ spot_cell (homes players) (all_map _ (λ p. p.home) players k)))
 
 pickups_apart : (o : Opening) (walls : List Cell) (pickups : List PickupSpot) → EachAfter (PickupRight o walls) [] pickups → IsDistinct same_cell (map pickup_cell pickups)
 pickups_apart o walls pickups h =
     each_keeps (PickupRight o walls) (λ before. IsDistinct same_cell (map pickup_cell before))
-    (λ before p inv r. rw (map-append pickup_cell before (p ∷ [])) (distinct_push same_cell (map pickup_cell before) (pickup_cell p) inv (any_map _ pickup_cell before ∙ no_pickup p.x p.y before r.tests.1.1.0)))
+    (λ before p inv r. rw (map-append pickup_cell before (p ∷ []))
+        (distinct_push same_cell (map pickup_cell before) (pickup_cell p) inv
+        (any_map _ pickup_cell before ∙ no_pickup p.x p.y before r.tests.1.1.0)))
     [] pickups no_cells h
 
-cells_apart : (o : Opening) (walls : List Cell) (pickups : List PickupSpot) (players : List Player) → IsDistinct same_cell (map pickup_cell pickups) → EachAfter (PlayerRight o walls pickups) [] players → IsDistinct same_cell (map pickup_cell pickups ++ map spot_cell (homes players))
+cells_apart : (o : Opening) (walls : List Cell) (pickups : List PickupSpot) (players : List Player)
+    → IsDistinct same_cell (map pickup_cell pickups) → EachAfter (PlayerRight o walls pickups) [] players
+    → IsDistinct same_cell (map pickup_cell pickups ++ map spot_cell (homes players))
 cells_apart o walls pickups players first h =
     each_keeps (PlayerRight o walls pickups) (λ before. IsDistinct same_cell (map pickup_cell pickups ++ map spot_cell (homes before)))
     (λ before p inv r.
-    let e : map pickup_cell pickups ++ map spot_cell (homes (before ++ p ∷ [])) ≡ (map pickup_cell pickups ++ map spot_cell (homes before)) ++ spot_cell p.home ∷ [] = rw (map-append (λ p. p.home) before (p ∷ []), map-append spot_cell (homes before) (p.home ∷ [])) (sym (append_assoc (map pickup_cell pickups) (map spot_cell (homes before)) (spot_cell p.home ∷ []))) in
+    let e : map pickup_cell pickups ++ map spot_cell (homes (before ++ p ∷ []))
+        ≡ (map pickup_cell pickups ++ map spot_cell (homes before)) ++ spot_cell p.home
+        ∷ [] = rw (map-append (λ p. p.home) before (p ∷ []), map-append spot_cell (homes before) (p.home ∷ []))
+        (sym (append_assoc (map pickup_cell pickups) (map spot_cell (homes before)) (spot_cell p.home ∷ []))) in
     rw e (distinct_push same_cell (map pickup_cell pickups ++ map spot_cell (homes before)) (spot_cell p.home) inv
     (any_append _ (map pickup_cell pickups) (map spot_cell (homes before))
-    ∙ rw (any_map (λ c. same_cell c (spot_cell p.home)) pickup_cell pickups, no_pickup p.home.x p.home.y pickups r.tests.1.1.1.1.0, any_map (λ c. same_cell c (spot_cell p.home)) spot_cell (homes before), any_map (λ s. same_cell (spot_cell s) (spot_cell p.home)) (λ p. p.home) before) (no_home p.home.x p.home.y before r.tests.1.1.1.1.1.0))))
+    ∙ rw (any_map (λ c. same_cell c (spot_cell p.home)) pickup_cell pickups,
+        no_pickup p.home.x p.home.y pickups r.tests.1.1.1.1.0,
+        any_map (λ c. same_cell c (spot_cell p.home)) spot_cell (homes before),
+        any_map (λ s. same_cell (spot_cell s) (spot_cell p.home)) (λ p. p.home) before)
+        (no_home p.home.x p.home.y before r.tests.1.1.1.1.1.0))))
     [] players (rw (append-nil (map pickup_cell pickups)) first) h
 
 -- ---- names
 
-names_apart : (o : Opening) (walls : List Cell) (pickups : List PickupSpot) (players : List Player) → EachAfter (PlayerRight o walls pickups) [] players → IsDistinct bytes_eq (map (λ p. p.name) players)
+names_apart : (o : Opening) (walls : List Cell) (pickups : List PickupSpot) (players : List Player)
+    → EachAfter (PlayerRight o walls pickups) [] players → IsDistinct bytes_eq (map (λ p. p.name) players)
 names_apart o walls pickups players h =
     each_keeps (PlayerRight o walls pickups) (λ before. IsDistinct bytes_eq (map (λ p. p.name) before))
-    (λ before p inv r. rw (map-append (λ p. p.name) before (p ∷ [])) (distinct_push bytes_eq (map (λ p. p.name) before) p.name inv (any_map (λ n. bytes_eq n p.name) (λ p. p.name) before ∙ no_name p.name before r.tests.1.0)))
+    (λ before p inv r. rw (map-append (λ p. p.name) before (p ∷ []))
+        (distinct_push bytes_eq (map (λ p. p.name) before) p.name inv
+        (any_map (λ n. bytes_eq n p.name) (λ p. p.name) before ∙ no_name p.name before r.tests.1.0)))
     [] players no_names h
 
 commands_apart : (o : Opening) (players : List Player) (commands : List Command) → EachAfter (CommandRight o players) [] commands → NamesDiffer commands
@@ -216,15 +243,22 @@ one_kept x n = elim (shows x) as (λ t. n + length (cond {A = List ScriptLine} t
 
 pub count_push : (xs : List ScriptLine) (x : ScriptLine) → count_by shows (xs ++ x ∷ []) ≡ count_by shows xs + cond (shows x) 1 0
 count_push xs x =
-    sym (length-filter shows (xs ++ x ∷ [])) ∙ ap length (filter-append shows xs (x ∷ [])) ∙ length-append (filter shows xs) (filter shows (x ∷ [])) ∙ rw (length-filter shows xs) (one_kept x (count_by shows xs))
+    sym (length-filter shows (xs ++ x ∷ [])) ∙ ap length (filter-append shows xs (x ∷ []))
+        ∙ length-append (filter shows xs) (filter shows (x ∷ []))
+        ∙ rw (length-filter shows xs) (one_kept x (count_by shows xs))
 
-script_shown : (o : Opening) (plans commands before : _) (x : ScriptLine) → count_by shows before ≤ MOST_SHOWING_LINES → ScriptRight o plans commands before x → count_by shows before + cond (shows x) 1 0 ≤ MOST_SHOWING_LINES
+script_shown : (o : Opening) (plans commands before : _) (x : ScriptLine) → count_by shows before ≤ MOST_SHOWING_LINES
+    → ScriptRight o plans commands before x → count_by shows before + cond (shows x) 1 0 ≤ MOST_SHOWING_LINES
 script_shown o plans commands before (Tick m) le r = omega arith
 script_shown o plans commands before (Turn m) le r = omega arith
 script_shown o plans commands before (Arrive m f n) le r = omega arith
 script_shown o plans commands before (Step m c) le r = omega arith
-script_shown o plans commands before (World m c) le r = let less = ltb-true _ _ (and_parts (ltb (length before) MOST_SCRIPT_LINES) (ltb (count_by shows before) MOST_SHOWING_LINES) r.room).1 in omega arith
-script_shown o plans commands before (Run m c) le r = let less = ltb-true _ _ (and_parts (ltb (length before) MOST_SCRIPT_LINES) (ltb (count_by shows before) MOST_SHOWING_LINES) r.room).1 in omega arith
+script_shown o plans commands before (World m c) le r =
+    let less = ltb-true _ _ (and_parts (ltb (length before) MOST_SCRIPT_LINES)
+    (ltb (count_by shows before) MOST_SHOWING_LINES) r.room).1 in omega arith
+script_shown o plans commands before (Run m c) le r =
+    let less = ltb-true _ _ (and_parts (ltb (length before) MOST_SCRIPT_LINES)
+    (ltb (count_by shows before) MOST_SHOWING_LINES) r.room).1 in omega arith
 script_shown o plans commands before (Restagger m p) le r = omega arith
 
 -- ---- the whole
@@ -262,7 +296,8 @@ is_match_of o b read =
       mirrors = is.mirrors.fits;
       delays = is_schedule o.length o.delays is.length.fits is.delays.fits small.copies is.delays.tests.0;
       plan_count = omega arith;
-      plans = each_of (PlanRight o) _ (λ before p r. (is_schedule o.length p is.length.fits r.fits.0 (let wide = r.fits.1 in let cs = small.copies in omega arith) r.tests.0, r.fits.1)) [] b.plans h.plans;
+      plans = each_of (PlanRight o) _ (λ before p r. (is_schedule o.length p is.length.fits r.fits.0
+          (let wide = r.fits.1 in let cs = small.copies in omega arith) r.tests.0, r.fits.1)) [] b.plans h.plans;
       pace = leb-true _ _ is.pace.tests.0;
       layout = record {
         grid = walled_grid (open_grid o.width o.height) b.walls open_is within;
@@ -286,5 +321,7 @@ is_match_of o b read =
       commands_differ = commands_apart o b.players b.commands h.commands;
       script_count = each_fewer (ScriptRight o b.plans b.commands) MOST_SCRIPT_LINES (script_room o b.plans b.commands) b.script h.script;
       script = each_of (ScriptRight o b.plans b.commands) _ (script_right o b is.mirrors.fits.0 copies) [] b.script h.script;
-      shown = each_keeps (ScriptRight o b.plans b.commands) (λ before. count_by shows before ≤ MOST_SHOWING_LINES) (λ before x le r. rw (count_push before x) (script_shown o b.plans b.commands before x le r)) [] b.script (lit≤ tt) h.script;
+      shown = each_keeps (ScriptRight o b.plans b.commands) (λ before. count_by shows before ≤ MOST_SHOWING_LINES)
+          (λ before x le r. rw (count_push before x) (script_shown o b.plans b.commands before x le r)) [] b.script
+          (lit≤ tt) h.script;
     }

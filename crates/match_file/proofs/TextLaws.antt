@@ -1,5 +1,6 @@
 -- The text of a match, both ways.
-use Rattle.std.proofs.Common.{◌≡◌, inl, inr, ℕ, ◌+◌, ◌≤◌, Bool, true, false, cond, ltb, List, [], ◌∷◌, ◌++◌, length, map, Result, Ok, Err, refl, sym, ap, subst, ◌∙◌, append_assoc, append-nil, take, drop, ◌-◌, length-append, arith}
+use Rattle.std.proofs.Common.{◌≡◌, inl, inr, ℕ, ◌+◌, ◌≤◌, Bool, true, false, cond, ltb, List, [], ◌∷◌, ◌++◌, length, map, Result, Ok, Err, refl, sym, ap}
+use Rattle.std.proofs.Common.{subst, ◌∙◌, append_assoc, append-nil, take, drop, ◌-◌, length-append, arith}
 use Rattle.std.specs.Prelude.{IfOk, IfErr, codes}
 use Rattle.std.specs.List.{AllByRecursion}
 use Rattle.std.proofs.Math.Seq.{drop-append_seam}
@@ -112,11 +113,14 @@ pub match_said : (m : MatchData) → IsMatch m → match_lines m ≡ front_lines
 match_said m is = ap match_lines (sym (made_again m is)) ∙ read_lines (opening_of m) (body_of m) (is_read m is)
 
 -- the lines of a match are read as it, whatever stands behind them
-pub match_reads : (n : ℕ) (m : MatchData) (rest : Lines) → IsMatch m → read_match n (ahead (match_lines m) rest) ≡ Ok (m, record { state = tt; next = n + 6 + length (body_lines (body_of m)); rest = rest })
+pub match_reads : (n : ℕ) (m : MatchData) (rest : Lines) → IsMatch m → read_match n (ahead (match_lines m) rest)
+    ≡ Ok (m, record { state = tt; next = n + 6 + length (body_lines (body_of m)); rest = rest })
 unfolding read_match
 match_reads n m rest is =
     rw (match_said m is)
-    (then _ _ _ _ (match_again n (opening_of m) (body_of m) rest (is_read m is)) (ap (λ (k : MatchData). Ok (k, record { state = tt; next = n + 6 + length (body_lines (body_of m)); rest = rest })) (made_again m is)))
+    (then _ _ _ _ (match_again n (opening_of m) (body_of m) rest (is_read m is))
+        (ap (λ (k : MatchData). Ok (k, record { state = tt; next = n + 6 + length (body_lines (body_of m));
+        rest = rest })) (made_again m is)))
 
 -- lines without newlines, in front of a text
 front_lines_of : (lines : List (List ℕ)) (rest : List ℕ) → AllByRecursion (Lacks 10) lines → lines_of (lines_text lines ++ rest) ≡ ahead lines (lines_of rest)
@@ -171,11 +175,15 @@ abbrev matched : Opening × Stop Body → Result (MatchData × Stop (Unit {0})) 
 matched x = Ok (as_match x)
 
 -- where a text is refused, its machine is
-same_err : (r : Result (Opening × Stop Body) Refused) (refused : Refused) → ((r >>= λ (x : Opening × Stop Body). matched x) >>= λ (x : MatchData × Stop (Unit {0})). ended x.1 >>= λ _. data_of x) ≡ Err refused
+same_err : (r : Result (Opening × Stop Body) Refused) (refused : Refused)
+    → ((r >>= λ (x : Opening × Stop Body). matched x) >>= λ (x : MatchData × Stop (Unit {0})). ended x.1 >>= λ _.
+    data_of x) ≡ Err refused
     → ((r >>= λ (x : Opening × Stop Body). Ok (stopped (in_body x.0 x.1.state) x.1.next x.1.rest)) >>= ended) ≡ Err refused
 same_err (Ok x) refused e = end_err (is_end x.1.rest) (refused_at x.1.next End) refused x.0 x.1.state e
   where
-    end_err : (b : Bool) (c refused : Refused) (o : Opening) (s : Body) → (cond {A = Result (Unit {0}) Refused} b (Ok tt) (Err c) >>= λ _. Ok (match_of o s)) ≡ Err refused → cond {A = Result At Refused} b (Ok (in_body o s)) (Err c) ≡ Err refused
+    end_err : (b : Bool) (c refused : Refused) (o : Opening) (s : Body)
+        → (cond {A = Result (Unit {0}) Refused} b (Ok tt) (Err c) >>= λ _. Ok (match_of o s)) ≡ Err refused
+        → cond {A = Result At Refused} b (Ok (in_body o s)) (Err c) ≡ Err refused
     end_err true c refused o s e = absurd cc
     end_err false c refused o s e = cc
 same_err (Err c) refused e = cc
@@ -187,7 +195,9 @@ refused_first text (Err text_faults.NoMemory) h = tt
 refused_first text (Err (text_faults.Refused refused)) h =
     either (ltb LONGEST_MATCH_TEXT (length text)) _ _ _
     (λ long e. inl (ltb-true _ _ long, same_refusal _ _ e))
-    (λ short e. inr (ltb-false _ _ short, run_first (in_text at_exact) 1 head_due (lines_of text) refused tt (ap (λ (r : Result (Stop At) Refused). r >>= ended) (match_is 1 (lines_of text)) ∙ same_err (match_at 1 (lines_of text)) refused e))) h
+    (λ short e. inr (ltb-false _ _ short, run_first (in_text at_exact) 1 head_due (lines_of text) refused tt
+        (ap (λ (r : Result (Stop At) Refused). r >>= ended) (match_is 1 (lines_of text))
+        ∙ same_err (match_at 1 (lines_of text)) refused e))) h
 
 -- ---- a match inside a longer text
 
@@ -205,7 +215,8 @@ front_found n next text rest m e =
     let f = match_found n (lines_of text) (placed m next (lines_of rest)) e in
     (f.sound, sym (text_of-lines_of text) ∙ ap text_of f.whole ∙ behind_lines (match_lines m) rest)
 
-pub front_reads : (n : ℕ) (text rest : List ℕ) (m : MatchData) → IsMatch m → text ≡ match_text m ++ rest → read_match n (lines_of text) ≡ Ok (placed m (n + 6 + length (body_lines (body_of m))) (lines_of rest))
+pub front_reads : (n : ℕ) (text rest : List ℕ) (m : MatchData) → IsMatch m → text ≡ match_text m ++ rest
+    → read_match n (lines_of text) ≡ Ok (placed m (n + 6 + length (body_lines (body_of m))) (lines_of rest))
 front_reads n text rest m is e = rw (e, match_front m rest is) (match_reads n m (lines_of rest) is)
 
 -- what is left of a walk that goes on to its last bytes
@@ -223,7 +234,8 @@ match_err (Err c) refused e = cc
 
 pub front_refused : (n : ℕ) (lines : Lines) (refused : Refused) → read_match n lines ≡ Err refused → FirstFault take_line checks_of at_last n head_due lines refused
 unfolding read_match
-front_refused n lines refused e = run_first (in_text at_exact) n head_due lines refused tt (ap (λ (r : Result (Stop At) Refused). r >>= ended) (match_is n lines) ∙ match_err (match_at n lines) refused e)
+front_refused n lines refused e = run_first (in_text at_exact) n head_due lines refused tt
+    (ap (λ (r : Result (Stop At) Refused). r >>= ended) (match_is n lines) ∙ match_err (match_at n lines) refused e)
 
 -- the two readings of one text agree
 pub same_reading : (r : Result (MatchData × Stop (Unit {0})) Refused) (x y : MatchData × Stop (Unit {0})) → r ≡ Ok x → r ≡ Ok y → x.0 ≡ y.0
@@ -232,7 +244,9 @@ same_reading r x y e f = cc
 pub no_reading : (r : Result (MatchData × Stop (Unit {0})) Refused) (x : MatchData × Stop (Unit {0})) (refused : Refused) → r ≡ Ok x → r ≡ Err refused → ⊥
 no_reading r x refused e f = absurd cc
 
-pub at_only : (first n : ℕ) (text : List ℕ) (fault : LineFault) → FailsAt n fault (read_match first (lines_of text)) → (m : MatchData) (rest : List ℕ) → IsMatch m → text ≡ match_text m ++ rest → Fails {Y = MatchData} (fault_at n fault) (Ok m)
+pub at_only : (first n : ℕ) (text : List ℕ) (fault : LineFault) → FailsAt n fault (read_match first (lines_of text))
+    → (m : MatchData) (rest : List ℕ) → IsMatch m → text ≡ match_text m ++ rest
+    → Fails {Y = MatchData} (fault_at n fault) (Ok m)
 at_only first n text line_faults.NoMemory h m rest is e = tt
 at_only first n text (line_faults.Refused cause) h m rest is e = absurd (no_reading _ _ (refused_at n cause) (front_reads first text rest m is e) h)
 
@@ -244,5 +258,7 @@ pub at_refused : (first n : ℕ) (text : List ℕ) (fault : LineFault) → Fails
 at_refused first n text line_faults.NoMemory h = tt
 at_refused first n text (line_faults.Refused cause) h = front_refused first (lines_of text) (refused_at n cause) h
 
-pub ok_only : (first next : ℕ) (text behind : List ℕ) (x : MatchData) → read_match first (lines_of text) ≡ Ok (placed x next (lines_of behind)) → (m : MatchData) (rest : List ℕ) → IsMatch m → text ≡ match_text m ++ rest → ◌≡◌ {A = Result MatchData Refused} (Ok m) (Ok x)
+pub ok_only : (first next : ℕ) (text behind : List ℕ) (x : MatchData) → read_match first (lines_of text)
+    ≡ Ok (placed x next (lines_of behind)) → (m : MatchData) (rest : List ℕ) → IsMatch m → text ≡ match_text m ++ rest
+    → ◌≡◌ {A = Result MatchData Refused} (Ok m) (Ok x)
 ok_only first next text behind x h m rest is e = ap Ok (same_reading _ _ _ (front_reads first text rest m is e) h)

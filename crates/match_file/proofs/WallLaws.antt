@@ -1,5 +1,6 @@
 -- Walls as cells, row by row, and as bits of a grid.
-use Rattle.std.proofs.Common.{◌≡◌, ◌≢◌, inl, inr, ℕ, zero, suc, ◌+◌, ◌-◌, ◌*◌, ◌/◌, ◌%◌, ◌^◌, ◌<◌, ◌≤◌, Bool, true, false, cond, eqb, ltb, ◌&&◌, ◌||◌, List, [], ◌∷◌, ◌++◌, length, map, Option, Some, None, refl, sym, ap, subst, ◌∙◌, take, get_or, lit<, arith}
+use Rattle.std.proofs.Common.{◌≡◌, ◌≢◌, inl, inr, ℕ, zero, suc, ◌+◌, ◌-◌, ◌*◌, ◌/◌, ◌%◌, ◌^◌, ◌<◌, ◌≤◌, Bool, true, false, cond, eqb, ltb, ◌&&◌, ◌||◌, List}
+use Rattle.std.proofs.Common.{[], ◌∷◌, ◌++◌, length, map, Option, Some, None, refl, sym, ap, subst, ◌∙◌, take, get_or, lit<, arith}
 use Rattle.std.proofs.Math.Nat.{pow-suc}
 use Rattle.std.specs.Int.{bit_at}
 use Rattle.std.specs.List.{AllByRecursion, list_any}
@@ -75,7 +76,9 @@ unique (x ∷ xs) (y ∷ ys) h g same =
             let e : false ≡ true = sym (not_mem y (x ∷ xs) (less, above)) ∙ same y ∙ first_in y ys in absurd cc
         | inr also ↦
             let equal : x ≡ y = omega arith in
-            let rest : xs ≡ ys = unique xs ys h.1 g.1 (λ n. tail_same x n xs ys h.0 (subst (λ (k : ℕ). AllByRecursion (λ z. k < z) ys) (sym equal) g.0) (same n ∙ ap (λ (k : ℕ). eqb k n || mem n ys) (sym equal))) in
+            let rest : xs ≡ ys = unique xs ys h.1 g.1 (λ n. tail_same x n xs ys h.0
+                (subst (λ (k : ℕ). AllByRecursion (λ z. k < z) ys) (sym equal) g.0)
+                (same n ∙ ap (λ (k : ℕ). eqb k n || mem n ys) (sym equal))) in
             rw (equal, rest) refl
       ]
     ]
@@ -136,7 +139,9 @@ walled_push g [] c = refl
 walled_push g (d ∷ cells) c = walled_push (with_wall g d.x d.y) cells c
 
 -- the next of the cells
-pub walled_next : (g : Grid) (cells : List Cell) (i : ℕ) (d : Cell) (mid new : Grid) → i < length cells → mid ≡ walled g (take i cells) → new ≡ with_wall mid (get_or cells i d).x (get_or cells i d).y → new ≡ walled g (take (i + 1) cells)
+pub walled_next : (g : Grid) (cells : List Cell) (i : ℕ) (d : Cell) (mid new : Grid) → i < length cells → mid
+    ≡ walled g (take i cells) → new ≡ with_wall mid (get_or cells i d).x (get_or cells i d).y → new
+    ≡ walled g (take (i + 1) cells)
 walled_next g cells i d mid new within so_far next = next ∙ rw (so_far, (take_at_read cells i d within).1) (sym (walled_push g (take i cells) (get_or cells i d)))
 
 abbrev pub InGrid : ℕ → ℕ → List Cell → Type 0
@@ -215,13 +220,17 @@ pub row_has : (g : Grid) (r x y n : ℕ) → has_wall x y (walls_in_row g r n) �
 unfolding has_wall walls_in_row
 row_has g r x y zero = row_none x y r (is_walled g x r)
 row_has g r x y (suc n) =
-    any_append _ (walls_in_row g r n) _ ∙ rw (row_has g r x y n) (ap (λ b. (eqb y r && (ltb x n && is_walled g x r)) || b) (pick_has (is_walled g n r) x y n r) ∙ row_last 0 x n y r (is_walled g x r) (is_walled g n r) (λ e. ap (λ k. is_walled g k r) e))
+    any_append _ (walls_in_row g r n) _ ∙ rw (row_has g r x y n)
+        (ap (λ b. (eqb y r && (ltb x n && is_walled g x r)) || b) (pick_has (is_walled g n r) x y n r)
+        ∙ row_last 0 x n y r (is_walled g x r) (is_walled g n r) (λ e. ap (λ k. is_walled g k r) e))
 
 pub walls_has : (g : Grid) (w x y n : ℕ) → has_wall x y (walls_of g w n) ≡ (ltb y n && (ltb x w && is_walled g x y))
 unfolding has_wall walls_of
 walls_has g w x y zero = column_none y (ltb x w && is_walled g x y)
 walls_has g w x y (suc n) =
-    any_append _ (walls_of g w n) (walls_in_row g n w) ∙ rw (walls_has g w x y n) (ap (λ b. (ltb y n && (ltb x w && is_walled g x y)) || b) (row_has g n x y w) ∙ column_last y n (ltb x w) (is_walled g x y) (is_walled g x n) (λ e. ap (λ k. is_walled g x k) e))
+    any_append _ (walls_of g w n) (walls_in_row g n w)
+        ∙ rw (walls_has g w x y n) (ap (λ b. (ltb y n && (ltb x w && is_walled g x y)) || b) (row_has g n x y w)
+        ∙ column_last y n (ltb x w) (is_walled g x y) (is_walled g x n) (λ e. ap (λ k. is_walled g x k) e))
 
 -- ---- the walls of a grid rise, and are in it
 
@@ -259,7 +268,9 @@ row_rises g r width zero le = rising_none width (r * 64) (r * 64 + 0)
 row_rises g r width (suc n) le =
     let e : r * 64 + n + 1 ≡ r * 64 + suc n = omega arith in
     subst (λ (k : ℕ). Rising width (r * 64) k (walls_in_row g r n ++ cond {A = List Cell} (is_walled g n r) (record { x = n; y = r } ∷ []) [])) e
-    (rising_append width (r * 64) (r * 64 + n) (r * 64 + n) (r * 64 + n + 1) (walls_in_row g r n) _ (omega arith) (omega arith) (omega arith) (row_rises g r width n (omega arith)) (rising_one width (record { x = n; y = r }) (is_walled g n r) (omega arith)))
+    (rising_append width (r * 64) (r * 64 + n) (r * 64 + n) (r * 64 + n + 1) (walls_in_row g r n) _ (omega arith)
+        (omega arith) (omega arith) (row_rises g r width n (omega arith))
+        (rising_one width (record { x = n; y = r }) (is_walled g n r) (omega arith)))
 
 pub walls_rise : (g : Grid) (width n : ℕ) → width ≤ 64 → Rising width 0 (n * 64) (walls_of g width n)
 unfolding walls_of
@@ -300,7 +311,8 @@ grid_has g x y is =
     ] refl
 
 -- the walls of a grid made of rising cells are those cells
-pub walls_again : (width height : ℕ) (cells : List Cell) → IsGrid (open_grid width height) → InGrid width height cells → DelaysRise (map place cells) → walls_of (walled (open_grid width height) cells) width height ≡ cells
+pub walls_again : (width height : ℕ) (cells : List Cell) → IsGrid (open_grid width height) → InGrid width height cells
+    → DelaysRise (map place cells) → walls_of (walled (open_grid width height) cells) width height ≡ cells
 walls_again width height cells is within rise =
     let g = walled (open_grid width height) cells in
     let gw : g.width ≡ width = walled_width (open_grid width height) cells in

@@ -2,7 +2,7 @@
 use Rattle.std.specs.Prelude.{ℕ, ◌≡◌, ◌⊎◌, ◌<◌, ◌≤◌, ◌==◌, Bool, true, false, if◌then◌else◌, List, ◌∷◌, map, length, count_by, bytes_eq}
 use Rattle.std.specs.List.{AllByRecursion, IsDistinct}
 use Rattle.game_trait.specs.declared.command.Command.{Command}
-use Rattle.game_trait.specs.declared.limits.TheConstants.{LONGEST_MATCH, MOST_MIRRORS, MOST_PLANS, MOST_PLAYERS, MOST_PLAYERS_IN_1, MOST_COMMANDS, MOST_SCRIPT_LINES, MOST_SHOWING_LINES, GREATEST_NUMBER}
+use Rattle.game_trait.specs.declared.limits.TheConstants.{LONGEST_MATCH, MOST_MIRRORS, MOST_PLANS, MOST_PLAYERS, MOST_PLAYERS_IN_1, MOST_COMMANDS_IN_1, MOST_COMMANDS_IN_2, MOST_SCRIPT_LINES, MOST_SHOWING_LINES, GREATEST_NUMBER}
 use Rattle.game_trait.specs.CommandList.{has_command}
 use Rattle.game_trait.specs.Keys.{NamesDiffer}
 use Rattle.arena_rules.specs.Setup.{Layout, IsLayout}
@@ -10,7 +10,6 @@ use Rattle.command_lines.specs.CommandLine.{has_act}
 use Rattle.sync_model.specs.Schedule.{Schedule, IsSchedule, longest_delay}
 use Rattle.match_file.specs.declared.script_line.ScriptLine.{ScriptLine}
 use Rattle.match_file.specs.declared.script_line.ScriptLine.TheVariants.{Tick, Turn, Arrive, Step, World, Run, Restagger}
-use Rattle.match_file.specs.declared.versions.TheConstants.{MOST_COMMANDS_IN_2}
 use Rattle.match_file.specs.Names.{is_name}
 
 -- a match: its text's version, so many ticks, so many mirrors, the delays of their copies and the
@@ -34,7 +33,7 @@ most_players version = if version == 1 then MOST_PLAYERS_IN_1 else MOST_PLAYERS
 
 -- the most commands of a version
 abbrev pub most_commands : ℕ → ℕ
-most_commands version = if version == 1 then MOST_COMMANDS else MOST_COMMANDS_IN_2
+most_commands version = if version == 1 then MOST_COMMANDS_IN_1 else MOST_COMMANDS_IN_2
 
 -- the schedule of a mirror under these delays
 abbrev pub schedule_of : MatchData → List ℕ → Schedule

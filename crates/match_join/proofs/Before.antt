@@ -1,5 +1,6 @@
 -- A mirror as the match begins, and after its first lines.
-use Rattle.std.proofs.Common.{◌≡◌, refl, ◌∙◌, ap, sym, subst, ℕ, suc, ◌+◌, ◌≤◌, ◌<◌, Bool, true, false, cond, leb, List, [], ◌∷◌, ◌++◌, append-nil, filter, length, length-append, take, drop, inl, inr, arith}
+use Rattle.std.proofs.Common.{◌≡◌, refl, ◌∙◌, ap, sym, subst, ℕ, suc, ◌+◌, ◌≤◌, ◌<◌, Bool, true, false, cond, leb, List, [], ◌∷◌, ◌++◌, append-nil, filter}
+use Rattle.std.proofs.Common.{length, length-append, take, drop, inl, inr, arith}
 use Rattle.std.proofs.lemmas.List.{take-append-drop}
 use Rattle.std.specs.List.{AllByRecursion}
 use Rattle.game_trait.specs.declared.event.Event.{Event}
@@ -25,7 +26,8 @@ use Rattle.late_joiner.specs.declared.joined.JoinFault.{JoinFault}
 use Rattle.late_joiner.specs.declared.joined.JoinFault.TheVariants.{TooLate}
 use Rattle.late_joiner.specs.Joiner.{JoinerState, opened}
 use Rattle.late_joiner.proofs.Begun.{HasOpened, opened-room}
-use Rattle.match_join.specs.Join.{mirror_before, mirror_end, joiner_of, joiner_before, joiner_end, lines_after, HasBegun, IsOpened, join_head, joiner_text, ends_text, join_text, IsTooLate, too_late_text, TellsOn, TellsOfBoth}
+use Rattle.match_join.specs.Join.{mirror_before, mirror_end, joiner_of, joiner_before, joiner_end, lines_after, HasBegun, IsOpened, join_head, joiner_text}
+use Rattle.match_join.specs.Join.{ends_text, join_text, IsTooLate, too_late_text, TellsOn, TellsOfBoth}
 use Rattle.match_join.specs.Lines.{IsAlong, IsOfMatch, IsReady, IsFaultAt}
 use Rattle.match_join.proofs.Way.{way-lines, way-opening}
 
@@ -201,6 +203,9 @@ told-both {W} show opening m number n clock script later t s head new text all c
       decided = both.decided;
       lines =
           is ∙ both.lines
-          ∙ ap (λ (front : List ℕ). front ++ (joiner_text m.commands (lines_after m number n) (joiner_before show.rules opening m number n) ++ ends_text show number m.length (mirror_end opening m number n) (joiner_end show.rules opening m number n) both.same))
+          ∙ ap (λ (front : List ℕ). front ++ (joiner_text m.commands (lines_after m number n)
+              (joiner_before show.rules opening m number n)
+              ++ ends_text show number m.length (mirror_end opening m number n)
+              (joiner_end show.rules opening m number n) both.same))
           (put ∙ ap (join_head number n) (at ∙ ap (λ (u : MirrorState W). last_clock u.runs) begun));
     }

@@ -1,5 +1,6 @@
 -- Script lines along which a joiner stays ready.
-use Rattle.std.proofs.Common.{◌≡◌, refl, ◌∙◌, ap, sym, subst, ℕ, ◌+◌, ◌≤◌, ◌<◌, Bool, true, false, cond, eqb, ltb, List, [], ◌∷◌, ◌++◌, filter, length, drop, get_or, add-one, drop-cons, append-nil, append_assoc, Some, arith}
+use Rattle.std.proofs.Common.{◌≡◌, refl, ◌∙◌, ap, sym, subst, ℕ, ◌+◌, ◌≤◌, ◌<◌, Bool, true, false, cond, eqb, ltb, List, [], ◌∷◌, ◌++◌, filter, length, drop}
+use Rattle.std.proofs.Common.{get_or, add-one, drop-cons, append-nil, append_assoc, Some, arith}
 use Rattle.std.specs.Prelude.{find}
 use Rattle.std.proofs.lemmas.List.{drop_all}
 use Rattle.std.proofs.lemmas.Bool.Decides.{nat_tests}
@@ -150,7 +151,9 @@ pub lines-first :
     ≡ joiner_lines commands (filter (names number) ls) (joiner_lines commands (filter (names number) (l ∷ [])) s)
 unfolding joiner_lines
 lines-first commands number l ls s =
-    elim (eqb (mirror_of l) number) as (λ v. joiner_lines commands (cond v (l ∷ filter (names number) ls) (filter (names number) ls)) s ≡ joiner_lines commands (filter (names number) ls) (joiner_lines commands (cond v (l ∷ []) []) s))
+    elim (eqb (mirror_of l) number) as (λ v. joiner_lines commands
+        (cond v (l ∷ filter (names number) ls) (filter (names number) ls)) s
+        ≡ joiner_lines commands (filter (names number) ls) (joiner_lines commands (cond v (l ∷ []) []) s))
     [ true ↦ refl | false ↦ refl ]
 
 pub text-first :
@@ -160,7 +163,10 @@ pub text-first :
     ++ joiner_text commands (filter (names number) ls) (joiner_lines commands (filter (names number) (l ∷ [])) s)
 unfolding joiner_lines joiner_text
 text-first commands number l ls s =
-    elim (eqb (mirror_of l) number) as (λ v. joiner_text commands (cond v (l ∷ filter (names number) ls) (filter (names number) ls)) s ≡ joiner_text commands (cond v (l ∷ []) []) s ++ joiner_text commands (filter (names number) ls) (joiner_lines commands (cond v (l ∷ []) []) s))
+    elim (eqb (mirror_of l) number) as (λ v. joiner_text commands
+        (cond v (l ∷ filter (names number) ls) (filter (names number) ls)) s
+        ≡ joiner_text commands (cond v (l ∷ []) []) s
+        ++ joiner_text commands (filter (names number) ls) (joiner_lines commands (cond v (l ∷ []) []) s))
     [ true ↦ ap (λ (text : List ℕ). text ++ joiner_text commands (filter (names number) ls) (joiner_line commands l s)) (sym (append-nil (joiner_line_text commands l s))) | false ↦ refl ]
 
 -- ---- the lines, one after another

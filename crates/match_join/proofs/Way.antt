@@ -47,7 +47,9 @@ pub after_lines-first :
     ≡ after_lines commands (filter (names number) ls) (after_lines commands (filter (names number) (l ∷ [])) s)
 unfolding after_lines
 after_lines-first commands number l ls s =
-    elim (eqb (mirror_of l) number) as (λ v. after_lines commands (cond v (l ∷ filter (names number) ls) (filter (names number) ls)) s ≡ after_lines commands (filter (names number) ls) (after_lines commands (cond v (l ∷ []) []) s))
+    elim (eqb (mirror_of l) number) as (λ v. after_lines commands
+        (cond v (l ∷ filter (names number) ls) (filter (names number) ls)) s
+        ≡ after_lines commands (filter (names number) ls) (after_lines commands (cond v (l ∷ []) []) s))
     [ true ↦ refl | false ↦ refl ]
 
 pub way-lines :
@@ -132,7 +134,8 @@ made-more {W} m number xs i d s t within is h = (
 )
 
 -- a line that names the mirror, made, and one that doesn't, left out
-pub made-named : {W : Type 0} (commands : List Command) (number : ℕ) (l : ScriptLine) (s : MirrorState W) → mirror_of l ≡ number → after_line commands l s ≡ after_lines commands (filter (names number) (l ∷ [])) s
+pub made-named : {W : Type 0} (commands : List Command) (number : ℕ) (l : ScriptLine) (s : MirrorState W)
+    → mirror_of l ≡ number → after_line commands l s ≡ after_lines commands (filter (names number) (l ∷ [])) s
 unfolding after_lines
 made-named commands number l s own = (let e : eqb (mirror_of l) number ≡ true = grind (arith, nat_tests) in rw e refl)
 

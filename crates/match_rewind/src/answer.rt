@@ -2,11 +2,10 @@
 
 ghost use Rattle.std.specs.Prelude.{◌≡◌, ◌≤◌, ◌<◌, ◌++◌, true, length, IfOk, OnOk, if◌then◌else◌};
 ghost use Rattle.std.specs.List.{AllByRecursion};
-ghost use Rattle.game_trait.specs.declared.limits.TheConstants.{LONGEST_MATCH};
+ghost use Rattle.game_trait.specs.declared.limits.TheConstants.{LONGEST_MATCH, MOST_CACHED};
 ghost use Rattle.report_text.specs.Worlds.{Showing, block_text, at_head};
 ghost use Rattle.rewind_store.specs.Cached.{is_cached};
 ghost use Rattle.rewind_store.specs.Rewound.{after, world_at, hits_of};
-ghost use Rattle.rewind_store.specs.declared.store.TheConstants.{MOST_CACHED};
 ghost use Rattle.match_rewind.specs.Rewind.{looks_text, rewind_text};
 
 use arena_rules::{Roster, Shown};

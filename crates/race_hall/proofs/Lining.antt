@@ -6,7 +6,7 @@ use Rattle.std.specs.List.{AllByRecursion, AllZip}
 use Rattle.std.proofs.lemmas.List.{get_or_default, map-append, length-map}
 use Rattle.std.proofs.Math.ListN.{length-append}
 use Rattle.game_trait.specs.declared.command.Command.{Command}
-use Rattle.game_trait.specs.declared.limits.TheConstants.{MOST_COMMANDS}
+use Rattle.game_trait.specs.declared.limits.TheConstants.{MOST_COMMANDS_IN_1, MOST_COMMANDS_IN_2}
 use Rattle.game_trait.specs.Count.{times}
 use Rattle.game_trait.specs.Keys.{NamesDiffer}
 use Rattle.game_trait.proofs.KeyOrder.{NamesDiffer-filter}
@@ -14,7 +14,6 @@ use Rattle.game_trait.proofs.Lengths.{length-in_key_order}
 use Rattle.game_trait.proofs.Lists.{all-weaker, all-take}
 use Rattle.game_trait.proofs.Counts.{times-all}
 use Rattle.match_file.specs.Data.{MatchData, IsMatch, IsCommand}
-use Rattle.match_file.specs.declared.versions.TheConstants.{MOST_COMMANDS_IN_2}
 use Rattle.link_ring.specs.declared.send.LinkSend.{LinkSend}
 use Rattle.link_ring.specs.declared.receive.LinkReceive.{LinkReceive}
 use Rattle.copy_workers.specs.declared.feeder_job.FeederJob.{FeederJob}
@@ -42,7 +41,7 @@ match-course m is = record {
 
 pub few-commands : (m : MatchData) → IsMatch m → length m.commands ≤ 32768
 few-commands m is =
-    (elim (m.version == 1) as (λ v. length m.commands ≤ (if v then MOST_COMMANDS else MOST_COMMANDS_IN_2) → length m.commands ≤ 32768) [
+    (elim (m.version == 1) as (λ v. length m.commands ≤ (if v then MOST_COMMANDS_IN_1 else MOST_COMMANDS_IN_2) → length m.commands ≤ 32768) [
       | true ↦ λ h. omega arith
       | false ↦ λ h. omega arith
     ]) is.command_count

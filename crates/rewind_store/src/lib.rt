@@ -7,4 +7,4 @@ pub mod laws;
 mod store;
 mod ticks;
 
-pub use store::{Looked, MOST_CACHED, Rewind};
+pub use store::{Looked, Rewind};

@@ -44,7 +44,8 @@ went_further w v e es left changed on =
     }
 
 -- an event that changes the mirror
-pub note_moves : {W : Type 0} (w v : LogWalk W) (left : List Event) (note : NoteOf) → v.left ≡ left → told_next v left ≡ Note note → WentOn w v → WentOn w (moved_on v left) × (length (moved_on v left).left + 1 ≡ length left)
+pub note_moves : {W : Type 0} (w v : LogWalk W) (left : List Event) (note : NoteOf) → v.left ≡ left → told_next v left
+    ≡ Note note → WentOn w v → WentOn w (moved_on v left) × (length (moved_on v left).left + 1 ≡ length left)
 note_moves w v [] note here e on = absurd cc
 note_moves w v (x ∷ xs) note here e on =
     elim (why_of (said v.mirror x)) as (λ o. why_of (said v.mirror x) ≡ o → told_of_event v x o ≡ Note note → WentOn w (moved v x xs o) × (length (moved v x xs o).left + 1 ≡ length (x ∷ xs))) [
@@ -63,10 +64,13 @@ end_stays w v (x ∷ xs) here e on =
 same_stuck : (a b : ℕ) (x y : Why) → ◌≡◌ {A = Walked} (Stuck a x) (Stuck b y) → (b ≡ a) × (x ≡ y)
 same_stuck a b x y e = (cc, cc)
 
-pub stuck_stays : {W : Type 0} (w v : LogWalk W) (left : List Event) (place : ℕ) (why : Why) → v.left ≡ left → told_next v left ≡ Stuck place why → WentOn w v → WentOn w (moved_on v left) × Stopped (moved_on v left) (Some (record { place = place; why = why }))
+pub stuck_stays : {W : Type 0} (w v : LogWalk W) (left : List Event) (place : ℕ) (why : Why) → v.left ≡ left
+    → told_next v left ≡ Stuck place why → WentOn w v → WentOn w (moved_on v left)
+    × Stopped (moved_on v left) (Some (record { place = place; why = why }))
 stuck_stays w v [] place why here e on = absurd cc
 stuck_stays w v (x ∷ xs) place why here e on =
-    elim (why_of (said v.mirror x)) as (λ o. why_of (said v.mirror x) ≡ o → told_of_event v x o ≡ Stuck place why → WentOn w (moved v x xs o) × Stopped (moved v x xs o) (Some (record { place = place; why = why }))) [
+    elim (why_of (said v.mirror x)) as (λ o. why_of (said v.mirror x) ≡ o → told_of_event v x o ≡ Stuck place why
+        → WentOn w (moved v x xs o) × Stopped (moved v x xs o) (Some (record { place = place; why = why }))) [
       | None ↦ λ none e. absurd cc
       | Some cause ↦ λ some e. let same = same_stuck (length v.mirror.history) place cause why e in (on, (x, xs, here, same.0, some ∙ ap Some same.1))
     ] refl e
@@ -129,7 +133,9 @@ found_stuck show opening m number log blocks w fault is on stopped =
       stuck = ap why_of (sym answer) ∙ stopped.4;
     })
 
-legal_log : {W : Type 0} (opening : W) (m : MatchData) (number : ℕ) (log : List Event) (w : LogWalk W) → AllByRecursion (IsEventOf m) log → IsConsistent w.mirror → WentOn (walk_of opening m number log) w → w.left ≡ [] → (w.mirror.history ≡ log) × IsLegal m.commands (start opening m) log
+legal_log : {W : Type 0} (opening : W) (m : MatchData) (number : ℕ) (log : List Event) (w : LogWalk W)
+    → AllByRecursion (IsEventOf m) log → IsConsistent w.mirror → WentOn (walk_of opening m number log) w → w.left ≡ []
+    → (w.mirror.history ≡ log) × IsLegal m.commands (start opening m) log
 legal_log opening m number log w events is on ended =
     let s = w.mirror in
     let begun : first_state s ≡ start opening m = on.begun in
@@ -138,13 +144,17 @@ legal_log opening m number log w events is on ended =
     (whole, record { changes = subst (EachChanges (start opening m)) whole before; there = events_named m (start opening m) log refl (opened_copies opening m 0 0) events })
 
 -- the worlds of the mirror are those after the log
-stated_alike : {W : Type 0} (show : Showing W) (opening : W) (m : MatchData) (number : ℕ) (log : List Event) (s : MirrorState W) → IsConsistent s → first_state s ≡ start opening m → s.history ≡ log → IsStated show number s ≡ IsStated show number (after (start opening m) log)
+stated_alike : {W : Type 0} (show : Showing W) (opening : W) (m : MatchData) (number : ℕ) (log : List Event)
+    (s : MirrorState W) → IsConsistent s → first_state s ≡ start opening m → s.history ≡ log → IsStated show number s
+    ≡ IsStated show number (after (start opening m) log)
 stated_alike show opening m number log s is begun whole =
     let same = reached_start opening m s is begun ∙ ap (λ h. without_room (after (start opening m) h)) whole in
     λ i copy block. block ≡ copy_block show number (same i).opening copy (run_of (same i) copy)
 
 pub found_false : {W : Type 0} (show : Showing W) (opening : W) (m : MatchData) (number : ℕ) (log : List Event) (blocks : List (List ℕ)) (w : LogWalk W) (copy : ℕ) → AllByRecursion (IsEventOf m) log
-    → IsConsistent w.mirror → WentOn (walk_of opening m number log) w → Stopped w None → FoundFalse show number w.mirror blocks (Some copy) → Found show opening m number log blocks (Some (record { place = copy; why = whys.World }))
+    → IsConsistent w.mirror → WentOn (walk_of opening m number log) w → Stopped w None
+        → FoundFalse show number w.mirror blocks (Some copy)
+        → Found show opening m number log blocks (Some (record { place = copy; why = whys.World }))
 found_false show opening m number log blocks w copy events is on stopped wrong =
     let legal = legal_log opening m number log w events is on stopped in
     inr (record { legal = legal.1; cause = refl; world = subst (λ Is. IsFirstWrong Is 0 blocks copy) (stated_alike show opening m number log w.mirror is on.begun legal.0) wrong })
@@ -158,7 +168,9 @@ found_right show opening m number log blocks w events is on stopped right =
 -- ---- all mirrors
 
 -- what the mirrors from here on tell of all of them
-pub record MirrorsOn {W : Type 0} (show : Showing W) (opening : W) (m : MatchData) (logs : List MirrorLog) (worlds : List (List (List ℕ))) (all_logs : List MirrorLog) (all_worlds : List (List (List ℕ))) (events : ℕ) : Type 0 where
+pub record MirrorsOn {W : Type 0} (show : Showing W) (opening : W) (m : MatchData) (logs : List MirrorLog)
+    (worlds : List (List (List ℕ))) (all_logs : List MirrorLog) (all_worlds : List (List (List ℕ))) (events : ℕ) :
+    Type 0 where
   pub number : ℕ
   pub right : AllRight show opening m number logs worlds → AllRight show opening m 0 all_logs all_worlds
   pub fault : (mirror place : ℕ) (why : Why) → IsFirstFault show opening m number logs worlds mirror place why → IsFirstFault show opening m 0 all_logs all_worlds mirror place why
@@ -178,21 +190,29 @@ mirrors_begin show opening r is =
     let few = few_events r.game 0 r.logs is.logs in
     let count = is.log_count in
     let most = is.game.mirrors.1 in
-    record { number = 0; right = λ h. h; fault = λ mirror place why h. h; counted = omega arith; few = omega (arith, few, count, most); level = is.world_count ∙ sym is.log_count; are = is.logs; stated = is.worlds }
+    record { number = 0; right = λ h. h; fault = λ mirror place why h. h; counted = omega arith;
+        few = omega (arith, few, count, most); level = is.world_count ∙ sym is.log_count; are = is.logs;
+        stated = is.worlds }
 
 -- the next mirror's log and worlds are those of the record
 pub record NextIs (m : MatchData) (n : ℕ) (log : MirrorLog) (blocks : List (List ℕ)) : Type 0 where
   pub log_of : IsLogOf m n log
   pub worlds_of : AreWorldsOf m n blocks
 
-pub mirrors_there : {W : Type 0} (show : Showing W) (opening : W) (m : MatchData) (logs others : List MirrorLog) (worlds further : List (List (List ℕ))) (log : MirrorLog) (blocks : List (List ℕ)) (all_logs : List MirrorLog) (all_worlds : List (List (List ℕ))) (events : ℕ)
+pub mirrors_there : {W : Type 0} (show : Showing W) (opening : W) (m : MatchData) (logs others : List MirrorLog)
+    (worlds further : List (List (List ℕ))) (log : MirrorLog) (blocks : List (List ℕ)) (all_logs : List MirrorLog)
+    (all_worlds : List (List (List ℕ))) (events : ℕ)
     → logs ≡ log ∷ others → worlds ≡ blocks ∷ further → (on : MirrorsOn show opening m logs worlds all_logs all_worlds events) → NextIs m on.number log blocks
 unfolding EachNumbered
 mirrors_there show opening m logs others worlds further log blocks all_logs all_worlds events some shown on =
     record { log_of = (subst (EachNumbered (IsLogOf m) on.number) some on.are).0; worlds_of = (subst (EachNumbered (AreWorldsOf m) on.number) shown on.stated).0 }
 
-pub mirrors_next : {W : Type 0} (show : Showing W) (opening : W) (m : MatchData) (logs others : List MirrorLog) (worlds further : List (List (List ℕ))) (log : MirrorLog) (blocks : List (List ℕ)) (all_logs : List MirrorLog) (all_worlds : List (List (List ℕ))) (events : ℕ)
-    → logs ≡ log ∷ others → worlds ≡ blocks ∷ further → Found show opening m log.mirror log.events blocks None → MirrorsOn show opening m logs worlds all_logs all_worlds events → MirrorsOn show opening m others further all_logs all_worlds (events + length log.events)
+pub mirrors_next : {W : Type 0} (show : Showing W) (opening : W) (m : MatchData) (logs others : List MirrorLog)
+    (worlds further : List (List (List ℕ))) (log : MirrorLog) (blocks : List (List ℕ)) (all_logs : List MirrorLog)
+    (all_worlds : List (List (List ℕ))) (events : ℕ)
+    → logs ≡ log ∷ others → worlds ≡ blocks ∷ further → Found show opening m log.mirror log.events blocks None
+        → MirrorsOn show opening m logs worlds all_logs all_worlds events
+        → MirrorsOn show opening m others further all_logs all_worlds (events + length log.events)
 unfolding EachNumbered AllRight IsFirstFault event_count
 mirrors_next show opening m logs others worlds further log blocks all_logs all_worlds events some shown found on =
     let next = mirrors_there show opening m logs others worlds further log blocks all_logs all_worlds events some shown on in
@@ -213,28 +233,40 @@ mirrors_next show opening m logs others worlds further log blocks all_logs all_w
       stated = (subst (EachNumbered (AreWorldsOf m) on.number) shown on.stated).1;
     }
 
-pub mirrors_fault : {W : Type 0} (show : Showing W) (opening : W) (m : MatchData) (logs others : List MirrorLog) (worlds further : List (List (List ℕ))) (log : MirrorLog) (blocks : List (List ℕ)) (all_logs : List MirrorLog) (all_worlds : List (List (List ℕ))) (events : ℕ) (fault : Fault)
-    → logs ≡ log ∷ others → worlds ≡ blocks ∷ further → Found show opening m log.mirror log.events blocks (Some fault) → MirrorsOn show opening m logs worlds all_logs all_worlds events → IsFirstFault show opening m 0 all_logs all_worlds log.mirror fault.place fault.why
+pub mirrors_fault : {W : Type 0} (show : Showing W) (opening : W) (m : MatchData) (logs others : List MirrorLog)
+    (worlds further : List (List (List ℕ))) (log : MirrorLog) (blocks : List (List ℕ)) (all_logs : List MirrorLog)
+    (all_worlds : List (List (List ℕ))) (events : ℕ) (fault : Fault)
+    → logs ≡ log ∷ others → worlds ≡ blocks ∷ further → Found show opening m log.mirror log.events blocks (Some fault)
+        → MirrorsOn show opening m logs worlds all_logs all_worlds events
+        → IsFirstFault show opening m 0 all_logs all_worlds log.mirror fault.place fault.why
 unfolding IsFirstFault
 mirrors_fault show opening m logs others worlds further log blocks all_logs all_worlds events fault some shown found on =
     let next = mirrors_there show opening m logs others worlds further log blocks all_logs all_worlds events some shown on in
     let here : IsFault show opening m on.number log.events blocks fault.place fault.why = subst (λ n. IsFault show opening m n log.events blocks fault.place fault.why) next.log_of.mirror found in
     on.fault log.mirror fault.place fault.why (rw (some, shown) (inl (next.log_of.mirror, here)))
 
-pub mirrors_end : {W : Type 0} (show : Showing W) (opening : W) (m : MatchData) (logs : List MirrorLog) (worlds : List (List (List ℕ))) (all_logs : List MirrorLog) (all_worlds : List (List (List ℕ))) (events : ℕ) → length logs ≡ 0
+pub mirrors_end : {W : Type 0} (show : Showing W) (opening : W) (m : MatchData) (logs : List MirrorLog)
+    (worlds : List (List (List ℕ))) (all_logs : List MirrorLog) (all_worlds : List (List (List ℕ))) (events : ℕ)
+    → length logs ≡ 0
     → MirrorsOn show opening m logs worlds all_logs all_worlds events → AllRight show opening m 0 all_logs all_worlds × (events ≡ event_count all_logs)
 unfolding AllRight event_count
 mirrors_end show opening m [] worlds all_logs all_worlds events none on = let counted = on.counted in (on.right tt, omega arith)
 mirrors_end show opening m (log ∷ logs) worlds all_logs all_worlds events none on = absurd (omega arith)
 
-pub mirrors_short : {W : Type 0} (show : Showing W) (opening : W) (m : MatchData) (logs others : List MirrorLog) (worlds : List (List (List ℕ))) (log : MirrorLog) (all_logs : List MirrorLog) (all_worlds : List (List (List ℕ))) (events : ℕ) → logs ≡ log ∷ others → length worlds ≡ 0 → MirrorsOn show opening m logs worlds all_logs all_worlds events → ⊥
+pub mirrors_short : {W : Type 0} (show : Showing W) (opening : W) (m : MatchData) (logs others : List MirrorLog)
+    (worlds : List (List (List ℕ))) (log : MirrorLog) (all_logs : List MirrorLog) (all_worlds : List (List (List ℕ)))
+    (events : ℕ) → logs ≡ log ∷ others → length worlds ≡ 0
+    → MirrorsOn show opening m logs worlds all_logs all_worlds events → ⊥
 mirrors_short show opening m logs others worlds log all_logs all_worlds events some none on =
     let level = on.level in
     let one : length logs ≡ length others + 1 = ap length some ∙ omega arith in
     absurd (omega (arith, one))
 
 -- the count so far is small
-pub events_small : {W : Type 0} (show : Showing W) (opening : W) (m : MatchData) (logs others : List MirrorLog) (worlds : List (List (List ℕ))) (log : MirrorLog) (all_logs : List MirrorLog) (all_worlds : List (List (List ℕ))) (events : ℕ) → logs ≡ log ∷ others → MirrorsOn show opening m logs worlds all_logs all_worlds events → events + length log.events ≤ 1048576
+pub events_small : {W : Type 0} (show : Showing W) (opening : W) (m : MatchData) (logs others : List MirrorLog)
+    (worlds : List (List (List ℕ))) (log : MirrorLog) (all_logs : List MirrorLog) (all_worlds : List (List (List ℕ)))
+    (events : ℕ) → logs ≡ log ∷ others → MirrorsOn show opening m logs worlds all_logs all_worlds events → events
+    + length log.events ≤ 1048576
 unfolding event_count
 events_small show opening m logs others worlds log all_logs all_worlds events some on =
     let counted = on.counted in
@@ -260,13 +292,17 @@ unfolding EachNumbered IsFirstWrong
 not_wrong Is n [] place each wrong = wrong
 not_wrong Is n (a ∷ xs) place each wrong = elim wrong [ inl here ↦ here.1 each.0 | inr more ↦ not_wrong Is (n + 1) xs place each.1 more.1 ]
 
-not_both : {W : Type 0} (show : Showing W) (opening : W) (m : MatchData) (number : ℕ) (log : List Event) (blocks : List (List ℕ)) (place : ℕ) (why : Why) → IsRight show opening m number log blocks → IsFault show opening m number log blocks place why → ⊥
+not_both : {W : Type 0} (show : Showing W) (opening : W) (m : MatchData) (number : ℕ) (log : List Event)
+    (blocks : List (List ℕ)) (place : ℕ) (why : Why) → IsRight show opening m number log blocks
+    → IsFault show opening m number log blocks place why → ⊥
 not_both show opening m number log blocks place why right fault = elim fault [
   | inl stuck ↦ not_stuck (start opening m) log place why right.legal.changes stuck
   | inr wrong ↦ not_wrong _ 0 blocks place right.worlds wrong.world
 ]
 
-no_fault : {W : Type 0} (show : Showing W) (opening : W) (m : MatchData) (n : ℕ) (logs : List MirrorLog) (worlds : List (List (List ℕ))) (mirror place : ℕ) (why : Why) → AllRight show opening m n logs worlds → IsFirstFault show opening m n logs worlds mirror place why → ⊥
+no_fault : {W : Type 0} (show : Showing W) (opening : W) (m : MatchData) (n : ℕ) (logs : List MirrorLog)
+    (worlds : List (List (List ℕ))) (mirror place : ℕ) (why : Why) → AllRight show opening m n logs worlds
+    → IsFirstFault show opening m n logs worlds mirror place why → ⊥
 unfolding AllRight IsFirstFault
 no_fault show opening m n [] worlds mirror place why right fault = fault
 no_fault show opening m n (log ∷ logs) [] mirror place why right fault = fault

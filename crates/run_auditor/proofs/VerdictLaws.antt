@@ -56,7 +56,8 @@ stuck_here : {W : Type 0} (s : MirrorState W) (x : Event) (log : List Event) (wh
 unfolding EachChanges after
 stuck_here s x log why e = record { front = []; event = x; rest = log; whole = refl; here = refl; before = tt; stuck = e }
 
-stuck_further : {W : Type 0} (s : MirrorState W) (x : Event) (log : List Event) (place : ℕ) (why : Why) → changes s x ≡ true → IsStuckAt (next s x) log place why → IsStuckAt s (x ∷ log) (place + 1) why
+stuck_further : {W : Type 0} (s : MirrorState W) (x : Event) (log : List Event) (place : ℕ) (why : Why) → changes s x
+    ≡ true → IsStuckAt (next s x) log place why → IsStuckAt s (x ∷ log) (place + 1) why
 unfolding EachChanges after
 stuck_further s x log place why changed at = record {
   front = x ∷ at.front;
@@ -80,7 +81,9 @@ stuck_some {W} s (x ∷ log) fault e =
       | Some why ↦ λ some e. subst (λ (f : Fault). IsStuckAt s (x ∷ log) f.place f.why) (some_fault-same (record { place = 0; why = why }) fault e) (stuck_here s x log why some)
     ] refl e
   where
-    behind : ((f : Fault) → first_stuck (next s x) log ≡ Some f → IsStuckAt (next s x) log f.place f.why) → (o : Option Fault) → first_stuck (next s x) log ≡ o → changes s x ≡ true → later o ≡ Some fault → IsStuckAt s (x ∷ log) fault.place fault.why
+    behind : ((f : Fault) → first_stuck (next s x) log ≡ Some f → IsStuckAt (next s x) log f.place f.why)
+        → (o : Option Fault) → first_stuck (next s x) log ≡ o → changes s x ≡ true → later o ≡ Some fault
+        → IsStuckAt s (x ∷ log) fault.place fault.why
     behind there None is changed e = absurd cc
     behind there (Some f) is changed e =
         subst (λ (g : Fault). IsStuckAt s (x ∷ log) g.place g.why) (some_fault-same (record { place = f.place + 1; why = f.why }) fault e)
@@ -90,7 +93,9 @@ change_none : (r : Reply) (o : Option Why) → why_of r ≡ o → is_change r �
 change_none r None is changed = is
 change_none r (Some why) is changed = absurd (let same = why_stays r why is in cc)
 
-stuck_behind : {W : Type 0} (s : MirrorState W) (front : List Event) (x : Event) (rest : List Event) (why : Why) → EachChanges s front → why_of (said (after s front) x) ≡ Some why → first_stuck s (front ++ x ∷ rest) ≡ Some (record { place = length front; why = why })
+stuck_behind : {W : Type 0} (s : MirrorState W) (front : List Event) (x : Event) (rest : List Event) (why : Why)
+    → EachChanges s front → why_of (said (after s front) x) ≡ Some why → first_stuck s (front ++ x ∷ rest)
+    ≡ Some (record { place = length front; why = why })
 unfolding first_stuck EachChanges after
 stuck_behind s [] x rest why each stuck = rw stuck refl
 stuck_behind s (y ∷ front) x rest why each stuck =
@@ -158,10 +163,14 @@ abbrev fault_of : {W : Type 0} → Showing W → W → MatchData → ℕ → Lis
 fault_of show opening m number log blocks =
     or_world (first_stuck (start opening m) log) (first_wrong (worlds_due show opening m number log) 0 blocks)
 
-mirror_found : {W : Type 0} (show : Showing W) (opening : W) (m : MatchData) (number : ℕ) (log : List Event) (blocks : List (List ℕ)) → AllByRecursion (IsEventOf m) log → Found show opening m number log blocks (fault_of show opening m number log blocks)
+mirror_found : {W : Type 0} (show : Showing W) (opening : W) (m : MatchData) (number : ℕ) (log : List Event)
+    (blocks : List (List ℕ)) → AllByRecursion (IsEventOf m) log
+    → Found show opening m number log blocks (fault_of show opening m number log blocks)
 mirror_found {W} show opening m number log blocks events = by_log (first_stuck (start opening m) log) refl (first_wrong (worlds_due show opening m number log) 0 blocks) refl
   where
-    by_log : (o : Option Fault) → first_stuck (start opening m) log ≡ o → (p : Option ℕ) → first_wrong (worlds_due show opening m number log) 0 blocks ≡ p → Found show opening m number log blocks (or_world o p)
+    by_log : (o : Option Fault) → first_stuck (start opening m) log ≡ o → (p : Option ℕ)
+        → first_wrong (worlds_due show opening m number log) 0 blocks ≡ p
+        → Found show opening m number log blocks (or_world o p)
     by_log (Some fault) is p its = inl (stuck_some (start opening m) log fault is)
     by_log None is None its = record {
       legal = record { changes = stuck_none (start opening m) log is; there = events_named m (start opening m) log refl (opened_copies opening m 0 0) events };
@@ -187,11 +196,14 @@ due_none due n blocks each =
       | Some place ↦ λ is. absurd (not_wrong (IsDue due) n blocks place each (wrong_some due n blocks place is))
     ] refl
 
-mirror_right : {W : Type 0} (show : Showing W) (opening : W) (m : MatchData) (number : ℕ) (log : List Event) (blocks : List (List ℕ)) → IsRight show opening m number log blocks → fault_of show opening m number log blocks ≡ None
+mirror_right : {W : Type 0} (show : Showing W) (opening : W) (m : MatchData) (number : ℕ) (log : List Event)
+    (blocks : List (List ℕ)) → IsRight show opening m number log blocks → fault_of show opening m number log blocks
+    ≡ None
 mirror_right show opening m number log blocks right =
     rw (changes_none (start opening m) log right.legal.changes, due_none (worlds_due show opening m number log) 0 blocks right.worlds) refl
 
-mirror_fault : {W : Type 0} (show : Showing W) (opening : W) (m : MatchData) (number : ℕ) (log : List Event) (blocks : List (List ℕ)) (place : ℕ) (why : Why) → IsFault show opening m number log blocks place why
+mirror_fault : {W : Type 0} (show : Showing W) (opening : W) (m : MatchData) (number : ℕ) (log : List Event)
+    (blocks : List (List ℕ)) (place : ℕ) (why : Why) → IsFault show opening m number log blocks place why
     → fault_of show opening m number log blocks ≡ Some (record { place = place; why = why })
 mirror_fault show opening m number log blocks place why (inl stuck) = rw (stuck_is (start opening m) log place why stuck) refl
 mirror_fault show opening m number log blocks place why (inr wrong) =
@@ -216,7 +228,9 @@ abbrev TellsFrom : {W : Type 0} → Showing W → W → MatchData → ℕ → �
 TellsFrom show opening m n before logs worlds (Legal events) = AllRight show opening m n logs worlds × (events ≡ before + event_count logs)
 TellsFrom show opening m n before logs worlds (NotLegal mirror place why) = IsFirstFault show opening m n logs worlds mirror place why
 
-tells_next : {W : Type 0} (show : Showing W) (opening : W) (m : MatchData) (n before : ℕ) (log : MirrorLog) (logs : List MirrorLog) (blocks : List (List ℕ)) (worlds : List (List (List ℕ))) (v : Verdict) → IsRight show opening m n log.events blocks
+tells_next : {W : Type 0} (show : Showing W) (opening : W) (m : MatchData) (n before : ℕ) (log : MirrorLog)
+    (logs : List MirrorLog) (blocks : List (List ℕ)) (worlds : List (List (List ℕ))) (v : Verdict)
+    → IsRight show opening m n log.events blocks
     → TellsFrom show opening m (n + 1) (before + length log.events) logs worlds v → TellsFrom show opening m n before (log ∷ logs) (blocks ∷ worlds) v
 unfolding AllRight IsFirstFault event_count
 tells_next show opening m n before log logs blocks worlds (Legal events) right tells = ((right, tells.0), (let count = tells.1 in omega arith))
@@ -228,7 +242,8 @@ unfolding verdict_from AllRight IsFirstFault event_count EachNumbered
 verdict_tells show opening m n before [] worlds are = (tt, refl)
 verdict_tells show opening m n before (log ∷ logs) [] are = (tt, refl)
 verdict_tells {W} show opening m n before (log ∷ logs) (blocks ∷ worlds) are =
-    by_fault (verdict_tells show opening m (n + 1) (before + length log.events) logs worlds are.1) (fault_of show opening m n log.events blocks) (mirror_found show opening m n log.events blocks are.0.events)
+    by_fault (verdict_tells show opening m (n + 1) (before + length log.events) logs worlds are.1)
+        (fault_of show opening m n log.events blocks) (mirror_found show opening m n log.events blocks are.0.events)
   where
     by_fault : TellsFrom show opening m (n + 1) (before + length log.events) logs worlds (verdict_from show opening m (n + 1) (before + length log.events) logs worlds)
         → (o : Option Fault) → Found show opening m n log.events blocks o
@@ -236,7 +251,8 @@ verdict_tells {W} show opening m n before (log ∷ logs) (blocks ∷ worlds) are
     by_fault rest None right = tells_next show opening m n before log logs blocks worlds (verdict_from show opening m (n + 1) (before + length log.events) logs worlds) right rest
     by_fault rest (Some fault) found = inl (refl, found)
 
-legal_is : {W : Type 0} (show : Showing W) (opening : W) (m : MatchData) (n before events : ℕ) (logs : List MirrorLog) (worlds : List (List (List ℕ))) → AllRight show opening m n logs worlds → events ≡ before + event_count logs
+legal_is : {W : Type 0} (show : Showing W) (opening : W) (m : MatchData) (n before events : ℕ) (logs : List MirrorLog)
+    (worlds : List (List (List ℕ))) → AllRight show opening m n logs worlds → events ≡ before + event_count logs
     → Legal events ≡ verdict_from show opening m n before logs worlds
 unfolding verdict_from AllRight event_count
 legal_is show opening m n before events [] worlds right count = ap Legal count
@@ -245,7 +261,9 @@ legal_is show opening m n before events (log ∷ logs) (blocks ∷ worlds) right
     rw (mirror_right show opening m n log.events blocks right.0)
     (legal_is show opening m (n + 1) (before + length log.events) events logs worlds right.1 (omega (arith, count)))
 
-first_fault-is : {W : Type 0} (show : Showing W) (opening : W) (m : MatchData) (n before : ℕ) (logs : List MirrorLog) (worlds : List (List (List ℕ))) (mirror place : ℕ) (why : Why) → IsFirstFault show opening m n logs worlds mirror place why
+first_fault-is : {W : Type 0} (show : Showing W) (opening : W) (m : MatchData) (n before : ℕ) (logs : List MirrorLog)
+    (worlds : List (List (List ℕ))) (mirror place : ℕ) (why : Why)
+    → IsFirstFault show opening m n logs worlds mirror place why
     → NotLegal mirror place why ≡ verdict_from show opening m n before logs worlds
 unfolding verdict_from IsFirstFault
 first_fault-is show opening m n before [] worlds mirror place why fault = absurd fault

@@ -70,7 +70,9 @@ unfolding times
 walk_moves s left rest e whole changed is =
     let spare : s.spare ≡ cond (is_arrival e) 1 0 + times is_arrival rest = is.spare ∙ ap (times is_arrival) whole in
     let plan_spare : s.plan_spare ≡ cond (is_restagger e) 1 0 + times is_restagger rest = is.plan_spare ∙ ap (times is_restagger) whole in
-    let after : (next s e).spare ≡ s.spare - cond (is_arrival e) 1 0 = spare-next s e ∙ ap (λ (b : Bool). s.spare - cond (is_arrival e && b) 1 0) changed ∙ ap (λ (b : Bool). s.spare - cond b 1 0) (and-true (is_arrival e)) in
+    let after : (next s e).spare ≡ s.spare - cond (is_arrival e) 1 0 = spare-next s e
+        ∙ ap (λ (b : Bool). s.spare - cond (is_arrival e && b) 1 0) changed
+        ∙ ap (λ (b : Bool). s.spare - cond b 1 0) (and-true (is_arrival e)) in
     let plan_after = plan_spare-next s e in
     let history : (next s e).history ≡ s.history ++ e ∷ [] = history-next s e ∙ rw changed refl in
     let few = is.few in
@@ -87,7 +89,8 @@ pub walk_stays : {W : Type 0} (s : MirrorState W) (left : List Event) (e : Event
 walk_stays s left e same is = subst (λ t. IsWalk t left) (sym (unchanged-next s e same)) is
 
 -- a walk whose next event changes nothing stays
-pub stays_put : {W : Type 0} (w v : LogWalk W) (e : Event) (rest : List Event) (why : Why) → w ≡ v → w.left ≡ e ∷ rest → why_of (said w.mirror e) ≡ Some why → record w { mirror = next w.mirror e } ≡ moved_on v v.left
+pub stays_put : {W : Type 0} (w v : LogWalk W) (e : Event) (rest : List Event) (why : Why) → w ≡ v → w.left ≡ e ∷ rest
+    → why_of (said w.mirror e) ≡ Some why → record w { mirror = next w.mirror e } ≡ moved_on v v.left
 stays_put {W} w v e rest why here whole stuck =
     let same = unchanged-next w.mirror e (why_stays (said w.mirror e) why stuck) in
     (λ i. record w { mirror = same i }) ∙ sym (ap (moved_on w) whole ∙ ap (moved w e rest) stuck) ∙ ap (λ (u : LogWalk W). moved_on u u.left) here
@@ -101,7 +104,9 @@ event_named m s (Arrive x) plans copies is = command_named-Contains m.commands x
 event_named m s (Step c) plans copies is = omega (arith, copies, is)
 event_named m s (Restagger p) plans copies is = let count : length s.plans ≡ length m.plans + 1 = ap length plans ∙ omega arith in omega (arith, count, is)
 
-pub events_named : {W : Type 0} (m : MatchData) (s : MirrorState W) (log : List Event) → s.plans ≡ all_plans m → length s.runs ≡ length m.delays → AllByRecursion (IsEventOf m) log → AllByRecursion (NamesWhatIsThere m.commands s) log
+pub events_named : {W : Type 0} (m : MatchData) (s : MirrorState W) (log : List Event) → s.plans ≡ all_plans m
+    → length s.runs ≡ length m.delays → AllByRecursion (IsEventOf m) log
+    → AllByRecursion (NamesWhatIsThere m.commands s) log
 events_named m s [] plans copies is = tt
 events_named m s (e ∷ log) plans copies is = (event_named m s e plans copies is.0, events_named m s log plans copies is.1)
 
@@ -109,14 +114,18 @@ commands_due : (m : MatchData) (commands : List Command) → AllByRecursion (IsC
 commands_due m [] is = tt
 commands_due m (x ∷ commands) is = (is.0.time, commands_due m commands is.1)
 
-all_fit : {W : Type 0} (commands : List Command) (s : MirrorState W) (log : List Event) → AllByRecursion (λ x. x.time < s.length) commands → AllByRecursion (NamesWhatIsThere commands s) log → AllByRecursion (Fits s) log
+all_fit : {W : Type 0} (commands : List Command) (s : MirrorState W) (log : List Event)
+    → AllByRecursion (λ x. x.time < s.length) commands → AllByRecursion (NamesWhatIsThere commands s) log
+    → AllByRecursion (Fits s) log
 all_fit commands s [] due is = tt
 all_fit commands s (e ∷ log) due is = (named-fits commands s due e is.0, all_fit commands s log due is.1)
 
 pub opened_copies : {W : Type 0} (opening : W) (m : MatchData) (room changes : ℕ) → length (opening_state opening m.length (all_plans m) room changes).runs ≡ length m.delays
 opened_copies opening m room changes = length-map m.delays (λ _. [])
 
-pub walk_begins : {W : Type 0} (opening : W) (m : MatchData) (log : List Event) → IsMatch m → length log ≤ MOST_ROOM → AllByRecursion (IsEventOf m) log → IsWalk (opening_state opening m.length (all_plans m) (times is_arrival log) (times is_restagger log)) log
+pub walk_begins : {W : Type 0} (opening : W) (m : MatchData) (log : List Event) → IsMatch m → length log ≤ MOST_ROOM
+    → AllByRecursion (IsEventOf m) log → IsWalk (opening_state opening m.length (all_plans m) (times is_arrival log)
+    (times is_restagger log)) log
 walk_begins opening m log is few of_match =
     let s = opening_state opening m.length (all_plans m) (times is_arrival log) (times is_restagger log) in
     record {
@@ -129,6 +138,7 @@ walk_begins opening m log is few of_match =
 -- ---- the mirror of a walk
 
 -- the mirror that is made of a match's plans
-pub opened : {W : Type 0} (opening : W) (m : MatchData) (plans : List Schedule) (log : List Event) (room changes : ℕ) (s : MirrorState W) → plans ≡ schedules m → room ≡ times is_arrival log → changes ≡ times is_restagger log
+pub opened : {W : Type 0} (opening : W) (m : MatchData) (plans : List Schedule) (log : List Event) (room changes : ℕ)
+    (s : MirrorState W) → plans ≡ schedules m → room ≡ times is_arrival log → changes ≡ times is_restagger log
     → s ≡ opening_state opening (ticks_of_first plans) (delays_of_each plans) room changes → s ≡ opening_state opening m.length (all_plans m) (times is_arrival log) (times is_restagger log)
 opened opening m plans log room changes s is counted changed made = made ∙ rw (is, delays-of_schedules m, counted, changed) refl

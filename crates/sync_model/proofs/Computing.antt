@@ -15,5 +15,7 @@ use Rattle.sync_model.specs.Drafts.{renewals}
 
 -- named on a line of its own, this opens them all
 unfoldable pub computing : ℕ
-unfolding beats same_item same_command commands_of same_name key_lt in_key_order placed times ticks last_of limit_at step_limit settle settle_one which_repaired is_repaired next said after answers with_late with_tick steps_from turns_of drain_within repairs_in renewals
+unfolding beats same_item same_command commands_of same_name key_lt in_key_order placed times ticks last_of limit_at
+    step_limit settle settle_one which_repaired is_repaired next said after answers with_late with_tick steps_from
+    turns_of drain_within repairs_in renewals
 computing = 0

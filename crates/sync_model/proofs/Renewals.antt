@@ -1,5 +1,6 @@
 -- Which copies an event renews, told without the runs that it leaves.
-use Rattle.std.proofs.Common.{◌≡◌, ℕ, zero, suc, ◌≤◌, ◌<◌, Bool, true, false, not, ◌&&◌, ◌||◌, ltb, leb, List, [], ◌∷◌, ◌++◌, map, length, get_or, set, refl, ap, sym, ◌∙◌, subst, ⊎_elim, append-nil, arith}
+use Rattle.std.proofs.Common.{◌≡◌, ℕ, zero, suc, ◌≤◌, ◌<◌, Bool, true, false, not, ◌&&◌, ◌||◌, ltb, leb, List, [], ◌∷◌, ◌++◌, map, length, get_or, set, refl}
+use Rattle.std.proofs.Common.{ap, sym, ◌∙◌, subst, ⊎_elim, append-nil, arith}
 use Rattle.std.specs.Prelude.{◌==◌, nat_lt, nat_le}
 use Rattle.std.specs.List.{AllByRecursion, list_any}
 use Rattle.std.proofs.lemmas.Bool.{ltb-false, leb-true, leb-false, lt-ltb, cases_eq, both_ways}
@@ -140,7 +141,8 @@ chained-front (run ∷ behind) zero (suc j) h order there = front-at run behind 
 chained-front (run ∷ behind) (suc i) zero h order there = absurd (omega arith)
 chained-front (run ∷ behind) (suc i) (suc j) h order there = chained-front behind i j h.1 (omega arith) (omega arith)
 
-rebuild-ahead : (accepted : List Command) (base : List Item) (n : ℕ) (runs : List (List Item)) (c : ℕ) → c < n → c < length runs → get_or (rebuild accepted base n runs) c [] ≡ rebuilt accepted (get_or runs c []) base
+rebuild-ahead : (accepted : List Command) (base : List Item) (n : ℕ) (runs : List (List Item)) (c : ℕ) → c < n
+    → c < length runs → get_or (rebuild accepted base n runs) c [] ≡ rebuilt accepted (get_or runs c []) base
 unfolding rebuild
 rebuild-ahead accepted base zero runs c first there = absurd (omega arith)
 rebuild-ahead accepted base (suc n) [] c first there = absurd (omega arith)
@@ -197,7 +199,9 @@ repaired-differs accepted runs b c chained complete there room apart settled ord
     (λ (h : IsPrefix q (get_or runs b [])). both_ways (begins_with (get_or runs b []) q) apart ((begins_with-Decides (get_or runs b []) q).1 h))
     (λ (h : IsPrefix (get_or runs b []) q).
     let up = beats-front (get_or runs b []) q h in
-    let equal = equal_clocks accepted (get_or runs b []) q (complete-at accepted runs b complete) (complete-tick accepted (get_or runs (suc b) []) (complete-at accepted runs (suc b) complete)) h (omega arith) in
+    let equal = equal_clocks accepted (get_or runs b []) q (complete-at accepted runs b complete)
+        (complete-tick accepted (get_or runs (suc b) []) (complete-at accepted runs (suc b) complete)) h
+        (omega arith) in
     both_ways (begins_with (get_or runs b []) q) apart ((begins_with-Decides (get_or runs b []) q).1 ([], sym equal ∙ sym (append-nil q))))
     (fronts-compare q (get_or runs b []) (get_or runs c []) front_new front_old)
   where
@@ -213,7 +217,9 @@ unfolding IsBehindAhead
 stepped accepted runs zero chained complete room there = stepped-alone accepted runs zero (step_first accepted runs chained)
 stepped accepted runs (suc b) chained complete room there =
     let q = with_tick accepted (get_or runs (suc b) []) in
-    elim (begins_with (get_or runs b []) (with_tick accepted (get_or runs (suc b) []))) as (λ v. begins_with (get_or runs b []) (with_tick accepted (get_or runs (suc b) [])) ≡ v → IsStepped accepted runs (suc b)) [
+    elim (begins_with (get_or runs b []) (with_tick accepted (get_or runs (suc b) []))) as
+        (λ v. begins_with (get_or runs b []) (with_tick accepted (get_or runs (suc b) [])) ≡ v
+        → IsStepped accepted runs (suc b)) [
       | true ↦ λ front. stepped-alone accepted runs (suc b) (step_front accepted runs b chained front)
       | false ↦ λ apart.
           let closed = step_apart accepted runs b chained complete room there apart in

@@ -1,5 +1,6 @@
 -- The repaired copies of an event are the first ones, and how many they are.
-use Rattle.std.proofs.Common.{◌≡◌, ℕ, zero, suc, ◌+◌, ◌-◌, ◌<◌, ◌⊎◌, Bool, true, false, not, cond, List, [], ◌∷◌, ◌++◌, map, length, get_or, set, drop, replicate, refl, ap, sym, ◌∙◌, subst, inl, inr, ⊎_elim, append_assoc, arith}
+use Rattle.std.proofs.Common.{◌≡◌, ℕ, zero, suc, ◌+◌, ◌-◌, ◌<◌, ◌⊎◌, Bool, true, false, not, cond, List, [], ◌∷◌, ◌++◌, map, length, get_or, set, drop}
+use Rattle.std.proofs.Common.{replicate, refl, ap, sym, ◌∙◌, subst, inl, inr, ⊎_elim, append_assoc, arith}
 use Rattle.std.specs.List.{AllByRecursion}
 use Rattle.std.proofs.lemmas.List.{length-replicate}
 use Rattle.std.proofs.lemmas.Bool.{not-true, false_from_ne_true}
@@ -164,7 +165,8 @@ step-marks accepted (a ∷ r ∷ rs) (suc c) chained complete room there apart =
     let more = step-marks accepted (r ∷ rs) c chained.1 complete.1 room (omega arith) apart in
     let falls = subst NeverRises (sym (step-beats accepted (r ∷ rs) (suc c))) (set-falls (r ∷ rs) (suc c) (chained-falls (r ∷ rs) chained.1) room) in
     let behind = set rs c q in
-    let each = settle-each accepted (IsComplete accepted) (complete-rebuilt accepted) (set rs c q) falls.1 (all-set (IsComplete accepted) (with_tick accepted) [] (complete-tick accepted) rs c complete.1.1) in
+    let each = settle-each accepted (IsComplete accepted) (complete-rebuilt accepted) (set rs c q) falls.1
+        (all-set (IsComplete accepted) (with_tick accepted) [] (complete-tick accepted) rs c complete.1.1) in
     let first = subst (IsFirstAtMost (beats r)) (sym (settle-beats accepted (set rs c q) falls.1)) falls.0 in
     let head : is_repaired r (settle accepted (set rs c q)) ≡ true = cc in
     let here = repaired-goes_on accepted r a (settle accepted (set rs c q)) (only-front accepted r a complete.1.0 chained.0) each first head in
@@ -226,7 +228,10 @@ set-marks accepted runs zero chained complete room there =
 set-marks accepted runs (suc c) chained complete room there =
     let q = with_tick accepted (get_or runs (suc c) []) in
     let qs = proposed_by_step accepted runs (suc c) in
-    elim (begins_with (get_or runs c []) (with_tick accepted (get_or runs (suc c) []))) as (λ v. begins_with (get_or runs c []) (with_tick accepted (get_or runs (suc c) [])) ≡ v → (m : ℕ) × (which_repaired accepted (proposed_by_step accepted runs (suc c)) ≡ replicate (cond v 0 (suc c)) true ++ replicate m false)) [
+    elim (begins_with (get_or runs c []) (with_tick accepted (get_or runs (suc c) []))) as
+        (λ v. begins_with (get_or runs c []) (with_tick accepted (get_or runs (suc c) [])) ≡ v → (m : ℕ)
+        × (which_repaired accepted (proposed_by_step accepted runs (suc c)) ≡ replicate (cond v 0 (suc c)) true
+        ++ replicate m false)) [
       | true ↦ λ front. (length (proposed_by_step accepted runs (suc c)), front-marks accepted qs (front-chained accepted runs c chained front))
       | false ↦ λ apart.
           (length (drop (suc c) runs), step-marks accepted runs c chained complete room there apart ∙ ap (λ (l : List Bool). replicate (suc c) true ++ l) (none-marked (drop (suc c) runs)))

@@ -14,7 +14,8 @@ use Rattle.sync_model.specs.Settle.{settle}
 use Rattle.sync_model.specs.Change.{with_late, with_tick, proposed_by_arrival, proposed_by_step}
 use Rattle.sync_model.specs.Staggered.{IsAhead, IsChained, IsComplete, IsNeverEarly, IsTrailing}
 use Rattle.sync_model.proofs.Settle.{IsFirstAtMost, NeverRises, settle-beats, settled_chained, settle-last, settle-each}
-use Rattle.sync_model.proofs.Proposals.{beats-with_late, beats-with_tick, with_late-due, complete-rebuilt, complete-late, complete-tick, never_early-rebuilt, never_early-late, never_early-tick, ticks-later}
+use Rattle.sync_model.proofs.Proposals.{beats-with_late, beats-with_tick, with_late-due, complete-rebuilt, complete-late, complete-tick, never_early-rebuilt}
+use Rattle.sync_model.proofs.Proposals.{never_early-late, never_early-tick, ticks-later}
 use Rattle.sync_model.proofs.Lists.{all-map, all-set, last-map, last-set}
 
 -- a front has at most the beats of the whole
@@ -107,9 +108,11 @@ module _ {accepted : List Command} {runs : List (List Item)} (here : IsTrailing 
       let last = settle-last accepted [] proposed in
       record {
         chained = settled_chained accepted proposed;
-        complete = settle-each accepted (IsComplete accepted) (complete-rebuilt accepted) proposed falls (all-set (IsComplete accepted) (with_tick accepted) [] (complete-tick accepted) runs c here.complete);
+        complete = settle-each accepted (IsComplete accepted) (complete-rebuilt accepted) proposed falls
+            (all-set (IsComplete accepted) (with_tick accepted) [] (complete-tick accepted) runs c here.complete);
         last_ordered = last ∙ step.0 ∙ ap (λ (run : List Item). ordered accepted 0 (beats run)) (sym last);
-        never_early = settle-each accepted (IsNeverEarly zero) (never_early-rebuilt accepted) proposed falls (all-set (IsNeverEarly zero) (with_tick accepted) [] (never_early-tick accepted) runs c here.never_early);
+        never_early = settle-each accepted (IsNeverEarly zero) (never_early-rebuilt accepted) proposed falls
+            (all-set (IsNeverEarly zero) (with_tick accepted) [] (never_early-tick accepted) runs c here.never_early);
       }
 
   -- it moves the clock of its copy by one, and no other
@@ -136,9 +139,13 @@ module _ {accepted : List Command} {runs : List (List Item)} (here : IsTrailing 
       let last = last-arrival accepted x runs due in
       record {
         chained = settled_chained all (map (with_late x) runs);
-        complete = settle-each all (IsComplete all) (complete-rebuilt all) (map (with_late x) runs) falls (all-map (IsComplete accepted) (IsComplete all) (with_late x) (complete-late accepted x) runs here.complete);
+        complete = settle-each all (IsComplete all) (complete-rebuilt all) (map (with_late x) runs) falls
+            (all-map (IsComplete accepted) (IsComplete all) (with_late x) (complete-late accepted x) runs
+            here.complete);
         last_ordered = last ∙ here.last_ordered ∙ sym (ticks-later accepted x 0 (beats (last_of [] runs) - 0) (omega arith)) ∙ ap (λ (run : List Item). ordered all 0 (beats run)) (sym last);
-        never_early = settle-each all (IsNeverEarly zero) (never_early-rebuilt all) (map (with_late x) runs) falls (all-map (IsNeverEarly zero) (IsNeverEarly zero) (with_late x) (never_early-late x) runs here.never_early);
+        never_early = settle-each all (IsNeverEarly zero) (never_early-rebuilt all) (map (with_late x) runs) falls
+            (all-map (IsNeverEarly zero) (IsNeverEarly zero) (with_late x) (never_early-late x) runs
+            here.never_early);
       }
 
   -- it moves no clock

@@ -1,7 +1,7 @@
 -- The words of a command line, and how much of an input they ask to read.
 use Rattle.std.specs.Prelude.{ℕ, ◌<◌, ◌≤◌, ◌+◌, ◌-◌, ◌^◌, ◌&&◌, Bool, true, false, List, [], ◌∷◌, Option, Some, None, option_map, option_and_then, nat_le, length, bytes_eq, codes, if◌then◌else◌}
 use Rattle.tss_io.specs.Decimals.{number_of}
-use Rattle.game_trait.specs.declared.limits.TheConstants.{LONGEST_MATCH, LONGEST_MATCH_TEXT, LONGEST_RECORD_TEXT, LONGEST_LOSSY_TEXT, MOST_MIRRORS, MOST_SCRIPT_LINES}
+use Rattle.game_trait.specs.declared.limits.TheConstants.{LONGEST_MATCH, LONGEST_MATCH_TEXT, LONGEST_RECORD_TEXT, LONGEST_LOSSY_TEXT, MOST_CACHED, MOST_MIRRORS, MOST_SCRIPT_LINES}
 use Rattle.tss_words.specs.declared.ticks.TheConstants.{MOST_LOOKS}
 use Rattle.tss_words.specs.declared.subcommand.MatchTask.{MatchTask}
 use Rattle.tss_words.specs.declared.subcommand.MatchTask.TheVariants.{Order, Play, Race, Lift, Score, PaintOrder, PaintPlay, Join, Rewind}
@@ -78,7 +78,7 @@ rewind_of every room ticks =
     option_and_then
     (λ e. option_and_then
     (λ c. option_map (λ ts. OfMatch (Rewind e c ts)) (ticks_of ticks))
-    (number_between room 1 64))
+    (number_between room 1 MOST_CACHED))
     (number_between every 1 LONGEST_MATCH)
 
 -- what two words ask for: `soak` and a number, or `paint` and what is asked of the match
@@ -107,7 +107,7 @@ pub record IsKept (every room : ℕ) : Type 0 where
   pub some_ticks : 0 < every
   pub few_ticks : every ≤ LONGEST_MATCH
   pub some_room : 0 < room
-  pub little_room : room ≤ 64
+  pub little_room : room ≤ MOST_CACHED
 
 -- what is asked of a match is in its ranges
 abbrev pub IsAskedOfMatch : MatchTask → Type 0

@@ -8,15 +8,15 @@ ghost use Rattle.tss_words.specs.Subcommands.{subcommand_named, subcommand_of, s
 
 use crate::subcommand::{MatchTask, Subcommand};
 use crate::ticks::{MOST_LOOKS, Ticks};
-use game_trait::limits::{LONGEST_MATCH, MOST_MIRRORS, MOST_SCRIPT_LINES};
+use game_trait::limits::{LONGEST_MATCH, MOST_CACHED, MOST_MIRRORS, MOST_SCRIPT_LINES};
 use game_trait::{MirrorId, Tick};
 use tss_io::decimal;
 
 // The greatest number of a mirror.
 const LAST_MIRROR: u64 = MOST_MIRRORS as u64 - 1;
 
-// How many looked-up worlds a `rewind` keeps at most; it keeps 1 at least (this project's own).
-const MOST_KEPT: u64 = 64;
+// How many looked-up worlds a `rewind` keeps at most; it keeps 1 at least.
+const MOST_KEPT: u64 = MOST_CACHED as u64;
 
 // The number whose canonical decimal the word is, where it lies between these.
 #[tactic(auto, unfolding(crate::specs::Subcommands::number_between))]

@@ -17,4 +17,6 @@ returns c =
       commands = c.m.inside.commands.items;
       script = c.m.inside.script;
     } in
-    rw (← c.m.view_is) (opening_puts m _ _ _ _ _ _ _ c.in_ok-push_head.ensures c.in_ok-push_number.ensures c.in_ok-push_grid.ensures (rw c.from.ensures at c.in_ok-push_number-2.ensures) (rw c.as_slice.ensures at c.in_ok-push_numbers.ensures) c.in_ok-push_number-3.ensures)
+    rw (← c.m.view_is) (opening_puts m _ _ _ _ _ _ _ c.in_ok-push_head.ensures c.in_ok-push_number.ensures
+        c.in_ok-push_grid.ensures (rw c.from.ensures at c.in_ok-push_number-2.ensures)
+        (rw c.as_slice.ensures at c.in_ok-push_numbers.ensures) c.in_ok-push_number-3.ensures)

@@ -8,4 +8,5 @@ pub returns-then-is_empty : goal.returns-then-is_empty
 returns-then-is_empty c = script_none c.args.script.now _ (sym c.is_empty.ensures ∙ c.if-is_empty.true)
 
 pub returns : goal.returns
-returns c = rw (script_some c.args.script.now (sym c.is_empty.ensures ∙ c.if-is_empty.false)) (puts (codes "script" ∷ []) _ _ _ _ (puts_one _ _ _ c.in_ok-push_whole.ensures) c.in_ok-push_script_lines.ensures)
+returns c = rw (script_some c.args.script.now (sym c.is_empty.ensures ∙ c.if-is_empty.false))
+    (puts (codes "script" ∷ []) _ _ _ _ (puts_one _ _ _ c.in_ok-push_whole.ensures) c.in_ok-push_script_lines.ensures)

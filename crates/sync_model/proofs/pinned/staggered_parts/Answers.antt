@@ -1,4 +1,6 @@
-use Rattle.sync_model.proofs.Alone.{staggered-parts, unchained-alone, lacking-alone, doubled-alone, strange-alone, hasty-alone, last_too_late-alone, last_unsorted-alone, too_early-alone, past_match-alone, past_clock-alone, past_end-alone, past_delay-alone, third_copy-alone, same_names-alone, never_due-alone, wrong_bound-alone}
+use Rattle.sync_model.proofs.Alone.{staggered-parts, unchained-alone, lacking-alone, doubled-alone, strange-alone, hasty-alone, last_too_late-alone}
+use Rattle.sync_model.proofs.Alone.{last_unsorted-alone, too_early-alone, past_match-alone, past_clock-alone, past_end-alone, past_delay-alone}
+use Rattle.sync_model.proofs.Alone.{third_copy-alone, same_names-alone, never_due-alone, wrong_bound-alone}
 use Rattle.sync_model.proofs.pinned.staggered_parts.Goals as goal
 
 pub returns : goal.returns
