@@ -3,7 +3,7 @@
 ghost use Rattle.std.specs.Prelude.{◌≡◌, ℕ, ◌<◌, ◌^◌, map};
 ghost use Rattle.std.specs.List.{AllByRecursion};
 ghost use Rattle.game_trait.specs.declared.command.Item.TheVariants.{Cmd};
-ghost use Rattle.game_trait.specs.Keys.{KeysRise, NamesDiffer};
+ghost use Rattle.game_trait.specs.Keys.{KeysRise, NamesDiffer, in_key_order};
 ghost use Rattle.game_trait.specs.Run.{world_of};
 ghost use Rattle.game_trait.specs.Ordered.{ticks, time_ordered};
 ghost use Rattle.game_trait.specs.Front.{due_front, due_behind};
@@ -33,7 +33,8 @@ fn apply_due<'a, G: Game>(game: &mut G, commands: &'a [Command], t: Tick) -> &'a
 /// memory.
 pub fn execute_in_order<G: Game>(game: &mut G, commands: &mut [Command], length: Tick)
     requires { NamesDiffer commands.old }
-    ensures { game.new ≡ time_ordered G.rules game.old commands.old length }
+    ensures world { game.new ≡ time_ordered G.rules game.old commands.old length }
+    ensures order { commands.new ≡ in_key_order commands.old }
 {
     order_by_key(commands);
     let mut left: &[Command] = commands;

@@ -20,8 +20,8 @@ loop-t-preserved g c =
           ∙ c.loop-t.invariant.world;
     })
 
-pub returns : goal.returns
-returns g c =
+pub returns-clause-world : goal.returns-clause-world
+returns-clause-world g c =
     sym (world_of-no_ticks g.G.Game.rules c.loop-t.game c.loop-t.left.now c.loop-t.t (c.args.length - c.loop-t.t) (omega arith))
     ∙ c.loop-t.invariant.world
     ∙ world_of-in_key_order g.G.Game.rules c.args.game.now c.args.commands.now c.args.length c.requires
