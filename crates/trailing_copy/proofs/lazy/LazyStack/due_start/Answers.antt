@@ -1,4 +1,4 @@
-use Rattle.std.proofs.Common.{◌+◌, ◌-◌, ap, ◌∙◌, arith}
+use Rattle.std.proofs.Common.{◌-◌, ap, arith}
 use Rattle.trailing_copy.proofs.OwnClocks.{clock-own}
 use Rattle.trailing_copy.proofs.Places.{end-told, start-told}
 use Rattle.trailing_copy.proofs.lazy.LazyStack.due_start.Goals as goal
