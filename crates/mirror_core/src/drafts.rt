@@ -219,6 +219,17 @@ pub enum Drafted<G> {
 }
 
 impl<G: Game> Drafted<G> {
+    // Says that the copy stands at its limit. Where it said so before, nothing is written.
+    pub(crate) fn put_idle(&mut self)
+        ensures { self.new ≡ Drafted.Idle }
+    {
+        match self {
+            Drafted::Idle => {}
+            Drafted::Draft(_) => *self = Drafted::Idle,
+            Drafted::Wide { commands: _ } => *self = Drafted::Idle,
+        }
+    }
+
     // Makes it the tick of a copy of these at this clock, which is there and has so many commands at
     // most. Where it was a draft before, the new one takes its place.
     pub(crate) fn put(&mut self, copy: u8, epoch: u64, clock: Tick, stack: &LazyStack<G>)

@@ -255,7 +255,7 @@ impl<G: Game> LazyMirror<G> {
     {
         let clock = self.stack.clock(copy);
         if clock >= self.limit(copy) {
-            *drafted = Drafted::Idle;
+            drafted.put_idle();
             return;
         }
         let commands = self.stack.due_len(clock);

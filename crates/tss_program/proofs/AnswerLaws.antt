@@ -19,7 +19,9 @@ use Rattle.run_auditor.proofs.VerdictLaws.{some_verdict, one_verdict}
 use Rattle.match_maker.specs.Generator.{match_of_number}
 use Rattle.match_maker.proofs.Sound.{IsMatch-match_of_number}
 use Rattle.run_recorder.specs.declared.log.MirrorLog.{MirrorLog}
-use Rattle.tss_race.specs.Record.{IsRecordOfRace}
+use Rattle.run_auditor.specs.Audit.{event_count}
+use Rattle.tss_race.specs.Record.{IsRecordOfRace, record_of}
+use Rattle.tss_race.proofs.LegalLaws.{record_legal}
 use Rattle.watch_board.specs.Behaviour.{Behaviour}
 use Rattle.tss_words.specs.declared.subcommand.MatchTask.{MatchTask}
 use Rattle.tss_words.specs.declared.subcommand.MatchTask.TheVariants.{Order, Play, Race, Lift, Score, PaintOrder, PaintPlay, Join, Rewind}
@@ -38,7 +40,7 @@ use Rattle.tss_program.specs.declared.status.Status.TheVariants.{Complete, Wrong
 use Rattle.tss_program.specs.declared.due.Due.{Due}
 use Rattle.tss_words.specs.Subcommands.{is_race, races}
 use Rattle.tss_program.specs.Due.{IsDueFor, answer, refusal, IsMatchText, IsMatchAnswer, IsRaced, raced, no_pace, pace_line, IsJoined, joined, no_mirror, mirrors_line, due_of_join, due_of_rewind, are_within, due_of_lossy, net_of, complete, order_text, arena_shown, IsRecordText, IsAudited, IsAnswer, IsDueOf, due_of_number, usage_due, refusal_due, code, IsVerdictOf, status_of, due_of_verdict}
-use Rattle.tss_program.specs.Promises.{keeps_logs, PlaysMatch, KeepsPlayed, KeepsPainted, KeepsNet, KeepsLogsOf, SaysIfLegal}
+use Rattle.tss_program.specs.Promises.{keeps_logs, PlaysMatch, KeepsPlayed, KeepsPainted, KeepsNet, KeepsLogsOf, SaysIfLegal, IsLegalAnswer}
 use Rattle.tss_program.proofs.Texts.{one-for, some-for, match-exact, record-exact, lossy-exact}
 
 -- ---- numbers
@@ -134,7 +136,7 @@ match-status : (ws : List Behaviour) (P : Status → Type 0) (task : MatchTask) 
     → ((number lines : ℕ) → task ≡ Join number lines → P NoTickLeft) → P due.status
 match-status ws P Order m due is a b c = subst (λ (d : Due). P d.status) (sym is) a
 match-status ws P Play m due is a b c = subst (λ (d : Due). P d.status) (sym is) a
-match-status ws P Race m due (raced mirrors pace is of) a b c = subst P (sym is) a
+match-status ws P Race m due (raced mirrors pace is of fits) a b c = subst P (sym is) a
 match-status ws P Race m due (no_pace pace is) a b c = subst (λ (d : Due). P d.status) (sym is) b
 match-status ws P Lift m due is a b c = subst (λ (d : Due). P d.status) (sym is) a
 match-status ws P Score m due is a b c = subst (λ (d : Due). P d.status) (sym is) a
@@ -245,7 +247,7 @@ match-keeps : (ws : List Behaviour) (task : MatchTask) (input : List ℕ) (m : M
     → (KeepsNothing (OfMatch task) input due) ⊎ (KeepsLogs (OfMatch task) input due)
 match-keeps ws Order input m due text is = unkept (OfMatch Order) input due (ap (λ (d : Due). d.kept) is) (λ n plays. plays) refl
 match-keeps ws Play input m due text is = inr (record { m = m; plays = text; keeps = of-played m _ due text.0 is; keeping = refl; whole = ap (λ (d : Due). code d.status) is })
-match-keeps ws Race input m due text (raced mirrors pace is of) =
+match-keeps ws Race input m due text (raced mirrors pace is of fits) =
     inr (record { m = m; plays = (text, pace); keeps = (mirrors, of.raced, of.kept_is); keeping = refl; whole = ap code is })
 match-keeps ws Race input m due text (no_pace pace is) = refused-keeps (OfMatch Race) input _ due is (λ n plays.
     (let same : m ≡ n = match-exact.one m n input text plays.0 in let one = ap (λ (x : MatchData). x.pace) same in let more = plays.1 in absurd (omega arith)))
@@ -277,14 +279,42 @@ due-keeps ws (Soak n) input due is = inr (record {
 -- ---- what is due for a race
 
 pub race-refused : (m : MatchData) (due : Due) → m.pace ≡ 0 → IsRaced m due → due ≡ refusal_due (refused_at pace_line Number)
-race-refused m due none (raced mirrors pace is of) = absurd (omega (arith, none, pace))
+race-refused m due none (raced mirrors pace is of fits) = absurd (omega (arith, none, pace))
 race-refused m due none (no_pace pace is) = is
 
 pub race-raced :
     (m : MatchData) (due : Due) → 0 < m.pace → IsRaced m due
     → (due.status ≡ Complete) × ((mirrors : List (MirrorState World)) × IsRecordOfRace (arena_shown m) (opening_world m.layout) m mirrors due.text due.kept)
-race-raced m due some (raced mirrors pace is of) = (is, (mirrors, of))
+race-raced m due some (raced mirrors pace is of fits) = (is, (mirrors, of))
 race-raced m due some (no_pace pace is) = absurd (omega (arith, some, pace))
+
+pub race-legal : (m : MatchData) (due : Due) → 0 < m.pace → IsRaced m due → IsLegalAnswer m due
+race-legal m due some (raced mirrors pace is of fits) =
+    record {
+      r = record_of (arena_shown m) m mirrors;
+      text = (fits, of.text_is);
+      game = refl;
+      logs = sym of.kept_is;
+      legal = record_legal (arena_shown m) (opening_world m.layout) m mirrors of.raced;
+    }
+race-legal m due some (no_pace pace is) = absurd (omega (arith, some, pace))
+
+-- what is due for a text of a legal record
+audit-legal : (ws : List Behaviour) (m : MatchData) (due audited : Due) → IsLegalAnswer m due → IsAnswer ws Audit due.text audited → audited ≡ due_of_verdict (Legal (event_count due.kept))
+audit-legal ws m due audited p (refusal refused lacks is) = absurd (record-exact.apart p.r due.text refused p.text lacks)
+audit-legal ws m due audited p (answer r text is) =
+    let of = subst (λ (q : RaceRecord). IsAudited q audited) (record-exact.one r p.r due.text text p.text) is in
+    of.2
+    ∙ ap (λ (v : Verdict). due_of_verdict v) (one_verdict (arena_shown p.r.game) (opening_world p.r.game.layout) p.r of.0 (Legal (event_count p.r.logs)) of.1 (p.legal, refl))
+    ∙ ap (λ (logs : List MirrorLog). due_of_verdict (Legal (event_count logs))) p.logs
+
+pub race-audited : (ws : List Behaviour) (m : MatchData) (due audited : Due) → 0 < m.pace → IsRaced m due → IsAnswer ws Audit due.text audited → audited ≡ due_of_verdict (Legal (event_count due.kept))
+race-audited ws m due audited some is has = audit-legal ws m due audited (race-legal m due some is) has
+
+-- the pace of a match that was raced
+pub race-paced : (m : MatchData) (due : Due) → IsRaced m due → code due.status ≡ 0 → 0 < m.pace
+race-paced m due (raced mirrors pace is of fits) zero = pace
+race-paced m due (no_pace none is) zero = absurd (not 5 0 (code due.status) refl (ap (λ (d : Due). code d.status) is) zero)
 
 -- ---- what an audit says
 

@@ -16,16 +16,16 @@ use Rattle.soak.proofs.Whole.{text-whole, soaked-each, soaked-all}
 use Rattle.watch_board.specs.Behaviour.{Behaviour}
 use Rattle.tss_words.specs.declared.subcommand.Subcommand.{Subcommand}
 use Rattle.tss_words.specs.declared.subcommand.Subcommand.TheVariants.{OfMatch, Audit, Lossy, Soak}
-use Rattle.tss_words.specs.declared.subcommand.MatchTask.TheVariants.{Join}
+use Rattle.tss_words.specs.declared.subcommand.MatchTask.TheVariants.{Race, Join}
 use Rattle.tss_program.specs.declared.status.Status.{Status}
 use Rattle.tss_program.specs.declared.due.Due.{Due}
 use Rattle.tss_words.specs.Subcommands.{most_asked, races}
-use Rattle.tss_program.specs.Due.{IsDueFor, answer, refusal, IsMatchText, IsRecordText, IsLossyText, IsJoined, joined, no_mirror, arena_shown, due_of_lossy, IsDueOf, IsAnswer, due_of_number, code}
+use Rattle.tss_program.specs.Due.{IsDueFor, answer, refusal, IsMatchText, IsRecordText, IsLossyText, IsRaced, IsJoined, joined, no_mirror, arena_shown, due_of_lossy, IsDueOf, IsAnswer, due_of_number, code}
 use Rattle.tss_program.specs.Run.{IsInput, behind, OfInput, ReadsAtMost, IsSilent, IsPut, whole, front, Run, asked, Ends, no_memory, unread, answered, IsRun}
 use Rattle.tss_program.specs.Promises.{keeps_logs, PlaysMatch, KeepsLogsOf, KeepsAMatch, KeepsSome, KeepsNet, SoaksWhole, SaysIfLegal, AuditsARecord, EndsWith, IsComplete}
 use Rattle.tss_program.specs.Promises as promises
 use Rattle.tss_program.proofs.Texts.{match-exact, record-exact, lossy-exact}
-use Rattle.tss_program.proofs.AnswerLaws.{not, one-due, due-status, due-no, due-keeps, KeepsNothing, KeepsLogs, one-played, of-net, audit-says}
+use Rattle.tss_program.proofs.AnswerLaws.{not, one-due, due-status, due-no, due-keeps, KeepsNothing, KeepsLogs, one-played, of-net, audit-says, race-audited, race-paced}
 
 -- ---- by cases
 
@@ -302,6 +302,31 @@ pub run-audits-told :
     → IsRecordText q input → (r.status ≡ 0) ⊎ (r.status ≡ 6) → SaysIfLegal r.status q
 run-audits-told r input q run asks told text when = audit-by (SaysIfLegal r.status q) r run asks when (λ other p is its says.
     subst (λ (x : RaceRecord). SaysIfLegal r.status x) (record-exact.one p q other its (subst (λ (l : List ℕ). IsRecordText q l) (told-same r.source_old.left input other told is) text)) says)
+
+-- ---- a race, and an audit of what it printed
+
+-- what a race printed whole is what is due for some match
+race-printed : (P : Type 0) (r : Run) (text : List ℕ) → IsRun r → asked r ≡ Some (OfMatch Race) → r.status ≡ 0 → r.sink_old.bytes ≡ Some [] → r.sink_new.bytes ≡ Some text
+    → ((m : MatchData) (due : Due) → 0 < m.pace → IsRaced m due → text ≡ due.text → P) → P
+race-printed P r text run asks zero first then f = by-due P r 0 run refl refl refl zero (λ due has is kept gains.
+    by due has.input is (told-same r.sink_new.bytes text due.text then (put due gains)) (asked-due r (OfMatch Race) has.input due asks has.holds))
+  where
+    put : (due : Due) → Gains r.sink_old.bytes due.text r.sink_new.bytes → IsInput r.sink_new.bytes due.text
+    put due gains = subst (λ (o : Option (List ℕ)). IsInput o due.text) (sym (gained-told [] due.text r.sink_old.bytes r.sink_new.bytes first gains)) refl
+
+    by : (due : Due) (input : List ℕ) → code due.status ≡ 0 → text ≡ due.text → IsAnswer r.watchers (OfMatch Race) input due → P
+    by due input is same (answer m its raced) = f m due (race-paced m due raced is) raced same
+    by due input is same (refusal refused lacks its) = absurd (not 5 0 (code due.status) refl (ap (λ (d : Due). code d.status) its) is)
+
+pub race-audits :
+    (r s : Run) (text : List ℕ) → IsRun r → asked r ≡ Some (OfMatch Race) → r.status ≡ 0 → r.sink_old.bytes ≡ Some [] → r.sink_new.bytes ≡ Some text
+    → IsRun s → asked s ≡ Some Audit → s.source_old.left ≡ Some text → (s.status ≡ 0) ⊎ (s.status ≡ 1) ⊎ (s.status ≡ 3) ⊎ (s.status ≡ 4)
+race-audits r s text run asks zero first then audit_run audits told =
+    race-printed ((s.status ≡ 0) ⊎ (s.status ≡ 1) ⊎ (s.status ≡ 3) ⊎ (s.status ≡ 4)) r text run asks zero first then (λ m due some is same.
+    by-end ((s.status ≡ 0) ⊎ (s.status ≡ 1) ⊎ (s.status ≡ 3) ⊎ (s.status ≡ 4)) s audit_run.ends
+    (λ at a steady silent. inr (inl at)) (λ at a rose silent. inr (inr (inl at))) (λ audited has at rose kept. inr (inr (inr at)))
+    (λ audited has at steady kept gains. inl (at ∙ ap (λ (d : Due). code d.status)
+    (race-audited s.watchers m due audited some is (subst (λ (l : List ℕ). IsAnswer s.watchers Audit l audited) same (asked-due s Audit text audited audits (told-due s text audited told has)))))))
 
 -- ---- a mirror that joins late
 

@@ -19,6 +19,8 @@ ghost use Rattle.run_auditor.specs.Audit.{IsLegalRecord};
 ghost use Rattle.report_text.specs.Worlds.{Showing};
 ghost use Rattle.match_hall.specs.Report.{play_text};
 ghost use Rattle.run_recorder.specs.declared.race_record.RaceRecord.{RaceRecord};
+ghost use Rattle.run_auditor.specs.declared.verdict.Verdict.TheVariants.{Legal};
+ghost use Rattle.run_auditor.specs.Audit.{event_count};
 ghost use Rattle.tss_race.specs.Record.{IsRecordOfRace};
 ghost use Rattle.watch_board.specs.Behaviour.{Behaviour};
 ghost use Rattle.tss_words.specs.declared.subcommand.Subcommand.{Subcommand};
@@ -29,9 +31,9 @@ ghost use Rattle.match_join.specs.Join.{IsTooLate, TellsOfBoth};
 ghost use Rattle.tss_program.specs.declared.due.Due.{Due};
 ghost use Rattle.tss_words.specs.Subcommands.{subcommand_of, most_asked, races};
 ghost use Rattle.tss_program.specs.declared.status.Status.TheVariants.{Complete};
-ghost use Rattle.tss_program.specs.Due.{IsDue, IsMatchText, IsRecordText, IsLossyText, IsLegalOne, IsRaced, arena_shown, refusal_due, code, order_text};
+ghost use Rattle.tss_program.specs.Due.{IsAnswer, IsDue, IsMatchText, IsRecordText, IsLossyText, IsLegalOne, IsRaced, arena_shown, refusal_due, due_of_verdict, code, order_text};
 ghost use Rattle.tss_program.specs.Run.{Run, IsRun, IsPut, ReadsAtMost, behind, asked};
-ghost use Rattle.tss_program.specs.Promises.{keeps_logs, PlaysMatch, KeepsLogsOf, KeepsAMatch, KeepsSome, KeepsNet, SoaksWhole, AuditsARecord, EndsWith, IsComplete};
+ghost use Rattle.tss_program.specs.Promises.{keeps_logs, PlaysMatch, KeepsLogsOf, KeepsAMatch, KeepsSome, KeepsNet, SoaksWhole, AuditsARecord, IsLegalAnswer, EndsWith, IsComplete};
 
 use game_trait::Game;
 
@@ -107,6 +109,22 @@ pub fn a_run_wrote_all_or_a_front_or_nothing()
         ⊎ ((r.status ≡ 4) × (r.kept ≡ due.kept)
         × ((n : ℕ) × (n < length due.text)
         × (r.sink_new.bytes ≡ Some (bytes ++ take n due.text)))) }
+{}
+
+/// What `race` prints is legal for `audit`: it is the text of a record of the match, which has the
+/// logs that are kept, and what is due for it is the verdict that it is legal, with the number of
+/// its events. So an audit of what a whole race printed ends with status 0, if memory is found and
+/// no call fails.
+pub fn races_are_legal_for_audit()
+    ensures legal { (m : MatchData) (due : Due) → 0 < m.pace → IsRaced m due
+        → IsLegalAnswer m due }
+    ensures verdict { (watchers : List Behaviour) (m : MatchData) (due audited : Due)
+        → 0 < m.pace → IsRaced m due → IsAnswer watchers Audit due.text audited
+        → audited ≡ due_of_verdict (Legal (event_count due.kept)) }
+    ensures run { (r s : Run) (text : List ℕ) → IsRun r → asked r ≡ Some (OfMatch Race)
+        → r.status ≡ 0 → r.sink_old.bytes ≡ Some [] → r.sink_new.bytes ≡ Some text
+        → IsRun s → asked s ≡ Some Audit → s.source_old.left ≡ Some text
+        → (s.status ≡ 0) ⊎ (s.status ≡ 1) ⊎ (s.status ≡ 3) ⊎ (s.status ≡ 4) }
 {}
 
 /// Which statuses there are, and the cause of each.
