@@ -3,20 +3,17 @@
 
 mod arenas;
 mod commands;
-mod counting_game;
 mod limits;
-mod lines;
 mod links;
 mod locks;
-mod memory_post;
 mod mirrors;
 mod office;
-mod paints;
 mod program;
 mod races;
 mod rewinds;
 mod slow;
 mod soaks;
+mod stage;
 mod streams;
 mod tables;
 mod watchers;
