@@ -20,8 +20,10 @@ use Rattle.command_lines.specs.Faults.{fault_cause, Reads}
 acts_told : (version : ℕ) (a : Act) → has_act version a ≡ true → Chosen act_word (acts_of version) a
 unfolding is_word
 acts_told version Go h = elim (eqb version 1) as (λ t. Chosen act_word
-    (cond t (Go ∷ Left ∷ Right ∷ Shoot ∷ []) (Go ∷ Left ∷ Right ∷ Shoot ∷ Dash ∷ [])) Go) [ true ↦ (refl, refl)
-    | false ↦ (refl, refl) ]
+    (cond t (Go ∷ Left ∷ Right ∷ Shoot ∷ []) (Go ∷ Left ∷ Right ∷ Shoot ∷ Dash ∷ [])) Go) [
+      | true ↦ (refl, refl)
+      | false ↦ (refl, refl)
+    ]
 acts_told version Left h = elim (eqb version 1) as
     (λ t. Chosen act_word (cond t (Go ∷ Left ∷ Right ∷ Shoot ∷ []) (Go ∷ Left ∷ Right ∷ Shoot ∷ Dash ∷ [])) Left)
     [ true ↦ (refl, refl) | false ↦ (refl, refl) ]
@@ -33,8 +35,8 @@ acts_told version Shoot h = elim (eqb version 1) as
     [ true ↦ (refl, refl) | false ↦ (refl, refl) ]
 acts_told version Dash h =
     elim (eqb version 1) as (λ t. cond t false true ≡ true
-        → Chosen act_word (cond t (Go ∷ Left ∷ Right ∷ Shoot ∷ []) (Go ∷ Left ∷ Right ∷ Shoot ∷ Dash ∷ [])) Dash)
-        [ true ↦ λ e. absurd cc | false ↦ λ e. (refl, refl) ] h
+    → Chosen act_word (cond t (Go ∷ Left ∷ Right ∷ Shoot ∷ []) (Go ∷ Left ∷ Right ∷ Shoot ∷ Dash ∷ [])) Dash)
+    [ true ↦ λ e. absurd cc | false ↦ λ e. (refl, refl) ] h
 
 abbrev act_in : Bool → Act → Bool
 act_in t Go = true
@@ -46,8 +48,8 @@ act_in t Dash = cond t false true
 acts_fit : (version : ℕ) → AllByRecursion (λ a. has_act version a ≡ true) (acts_of version)
 acts_fit version =
     elim (eqb version 1) as (λ t. AllByRecursion (λ a. act_in t a ≡ true)
-        (cond t (Go ∷ Left ∷ Right ∷ Shoot ∷ []) (Go ∷ Left ∷ Right ∷ Shoot ∷ Dash ∷ [])))
-        [ true ↦ (refl, (refl, (refl, (refl, tt)))) | false ↦ (refl, (refl, (refl, (refl, (refl, tt))))) ]
+    (cond t (Go ∷ Left ∷ Right ∷ Shoot ∷ []) (Go ∷ Left ∷ Right ∷ Shoot ∷ Dash ∷ [])))
+    [ true ↦ (refl, (refl, (refl, (refl, tt)))) | false ↦ (refl, (refl, (refl, (refl, (refl, tt))))) ]
 
 acts_short : (a : Act) → length (act_word a) ≤ 5
 acts_short Go = lit≤ tt
@@ -61,9 +63,9 @@ pub command_form_exact : (version : ℕ) (ranges : CommandRanges) → ranges.las
 command_form_exact version ranges time from player =
     made_exact _ _ (λ _. refl) (λ _. refl)
     (then_exact (number_exact 0 ranges.last_time 4 (lit< tt) time (omega arith))
-        (then_exact (number_exact 0 ranges.last_mirror 1 (lit< tt) from (omega arith))
-        (then_exact (number_exact 0 999999 6 (lit< tt) (lit< tt) (lit< tt))
-        (then_exact (number_exact 0 ranges.last_player 2 (lit< tt) player (omega arith))
+    (then_exact (number_exact 0 ranges.last_mirror 1 (lit< tt) from (omega arith))
+    (then_exact (number_exact 0 999999 6 (lit< tt) (lit< tt) (lit< tt))
+    (then_exact (number_exact 0 ranges.last_player 2 (lit< tt) player (omega arith))
     (only_exact (choice_exact act_word (acts_of version) 5 (acts_fit version) (acts_told version) acts_short))))))
 
 pub last_small : (version : ℕ) → last_player version < 100

@@ -148,9 +148,10 @@ feeder-ends job end before after e =
       going = f.turns.going;
       ends = e.ends;
       fair = λ orderly few.
-          let fair : IsFair (task_of job) s.hearings = record
-              { orderly = all-back (IsOrderly job.stagger.length) s.hearings orderly;
-              few = (let a = total-got (λ got. length (commands_in got)) s.hearings in omega arith) } in
+          let fair : IsFair (task_of job) s.hearings = record {
+            orderly = all-back (IsOrderly job.stagger.length) s.hearings orderly;
+            few = (let a = total-got (λ got. length (commands_in got)) s.hearings in omega arith);
+          } in
           let keeps = e.fed.keeps fair in
           record {
             in_time = all-got (λ h. InTime s.asked job.pace 0 h.got) (ArriveInTime s.asked job.pace) s.hearings (λ h t. in_time-got s.asked job.pace h.got t) keeps.in_time;

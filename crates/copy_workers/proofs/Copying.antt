@@ -129,11 +129,11 @@ works-more job end count asked now next trail trail_now trail_next works one bel
     let f = asked_of job.copy in
     let turns = works.turns in
     let more : flat_map f (turns ++ one.turn ∷ []) ≡ flat_map f turns
-        ++ f one.turn = flat_map-append f turns (one.turn ∷ [])
-        ∙ ap (λ (l : List Asked). flat_map f turns ++ l) (append-nil (f one.turn)) in
+    ++ f one.turn = flat_map-append f turns (one.turn ∷ [])
+    ∙ ap (λ (l : List Asked). flat_map f turns ++ l) (append-nil (f one.turn)) in
     let sum : runs_in (flat_map f (turns ++ one.turn ∷ [])) ≡ runs_in (flat_map f turns)
-        + runs_in (f one.turn) = ap runs_in more ∙ times-append (λ p. is_ran p.reply) (flat_map f turns)
-        (f one.turn) in
+    + runs_in (f one.turn) = ap runs_in more ∙ times-append (λ p. is_ran p.reply) (flat_map f turns)
+    (f one.turn) in
     let ran = works.ran in
     let counts = one.counts in
     record {

@@ -147,8 +147,13 @@ hear-step job first asked_first s0 receives marks taken asked i new old mark tak
         advance job first asked_first s0 receives marks taken asked i new old mark taken_now asked_now h k back (heard f.state (f.done ++ k ∷ back)) f
         place (subst (AllByRecursion (λ g. g.tries ≡ length s0.turns)) rest f.rest_tries) (fed-missed job f.state f.done h back (length (waiting_of new)) place none f.fed) refl
         (outcome.2 ∙ f.asks) (outcome.0 ∙ f.count) (outcome.1 ∙ kept)
-        (λ a r. record { received = came.0 ∙ r.received; misses = (let x = came.1 in let y = r.misses in omega arith);
-            same = same-trans a old new r.same once.same; known = refl; promised = r.promised })
+        (λ a r. record {
+          received = came.0 ∙ r.received;
+          misses = (let x = came.1 in let y = r.misses in omega arith);
+          same = same-trans a old new r.same once.same;
+          known = refl;
+          promised = r.promised;
+        })
         is refl refl refl refl refl
     go (Some (Mark n)) came outcome h back rest =
         let place : f.state.hearings ≡ f.done ++ h ∷ back = f.parts ∙ ap (λ (l : List Hearing). f.done ++ l) rest in
@@ -179,8 +184,8 @@ hear-step job first asked_first s0 receives marks taken asked i new old mark tak
         let more = arrival x asks.1.reply ∷ [] in
         advance job first asked_first s0 receives marks taken asked i new old mark taken_now asked_now h k back (fed f.state (f.done ++ k ∷ back) x asks.1.reply) f
         place (subst (AllByRecursion (λ g. g.tries ≡ length s0.turns)) rest f.rest_tries)
-            (fed-command job f.state f.done h back x (length (waiting_of new)) asks.1.reply place fewer asks.1.still
-            f.fed) refl
+        (fed-command job f.state f.done h back x (length (waiting_of new)) asks.1.reply place fewer asks.1.still
+        f.fed) refl
         (asks.1.asked ∙ ap (λ (l : List Asked). l ++ more) f.asks ∙ append_assoc asked_first f.state.asked more) (let a = asks.0 in let b = f.count in omega arith) (same ∙ kept)
         (λ a r. record {
           received = came.0 ∙ ap (λ (l : List Message). l ++ Cmd x ∷ []) r.received ∙ append_assoc (received_of a) h.got (Cmd x ∷ []);

@@ -74,7 +74,7 @@ fed-issued job s pairs below unissued arrivals due f =
             counts = λ x.
                 let more = times-append (same_command x) (commands_in s.sent) (due_at job.plan s.clock) in
                 let both : times (same_command x) (commands_in (s.sent ++ tick_messages job.plan s.clock))
-                    ≡ times (same_command x) (commands_in s.sent) + times (same_command x) (due_at job.plan s.clock) =
+                ≡ times (same_command x) (commands_in s.sent) + times (same_command x) (due_at job.plan s.clock) =
                 ap (times (same_command x)) commands ∙ more in
                 omega (arith, arrivals-append x s.asked pairs, arrivals-count x (due_at job.plan s.clock) pairs arrivals, keeps.counts x);
             bounds = keeps.bounds;
@@ -237,8 +237,8 @@ fed-command job s front h back x known reply place fewer still f =
             in_time =
                 all-changed (λ g. InTime s.asked job.pace 0 g.got) (λ g. InTime (s.asked ++ more) job.pace 0 g.got) front h k back (λ g e. in_time-later s.asked more job.pace 0 g.got e)
                 (in_time-command (s.asked ++ more) job.pace 0 h.got x
-                    (in_time-later s.asked more job.pace 0 h.got (all-at (λ g. InTime s.asked job.pace 0 g.got) front
-                    h back keeps.in_time)) now) keeps.in_time;
+                (in_time-later s.asked more job.pace 0 h.got (all-at (λ g. InTime s.asked job.pace 0 g.got) front
+                h back keeps.in_time)) now) keeps.in_time;
             counts = λ y.
                 let a = total-at (λ g. times (same_command y) (commands_in g.got)) front h back in
                 let b = total-at (λ g. times (same_command y) (commands_in g.got)) front k back in

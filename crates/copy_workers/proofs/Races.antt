@@ -80,7 +80,7 @@ pub times-received : (p : Command → Bool) (plan : List Command) (n : ℕ) (got
     → times p (commands_in got) + times p (commands_in rest) ≡ times (λ x. p x && nat_lt x.time n) plan
 times-received p plan n got rest parts =
     sym (times-append p (commands_in got) (commands_in rest)) ∙ ap (times p) (sym (commands_in-append got rest))
-        ∙ ap (λ (l : List Message). times p (commands_in l)) (sym parts) ∙ times-messages p plan n
+    ∙ ap (λ (l : List Message). times p (commands_in l)) (sym parts) ∙ times-messages p plan n
 
 -- no more is received than the plan has
 pub few-received : (plan : List Command) (n : ℕ) (got rest : List Message) → messages plan n ≡ got ++ rest → length (commands_in got) ≤ length plan

@@ -81,8 +81,8 @@ issue-stands c f then asked asked_then calls calls_then grows grows_then below u
     let s = h.stands.state in
     let due : due_at f.plan.items f.clock ≡ due_at c.job.plan s.clock = ap (λ (l : List Command). due_at l f.clock) h.stands.plan ∙ ap (due_at c.job.plan) h.stands.clock in
     let sends : tick_messages f.plan.items f.clock ≡ tick_messages c.job.plan s.clock =
-        ap (λ (l : List Command). tick_messages l f.clock) h.stands.plan
-        ∙ ap (tick_messages c.job.plan) h.stands.clock in
+    ap (λ (l : List Command). tick_messages l f.clock) h.stands.plan
+    ∙ ap (tick_messages c.job.plan) h.stands.clock in
     let arrive = subst (λ (l : List Command). HasArrivals l asked asked_then) due arrivals in
     let pairs = arrive.pairs in
     let long = ap (λ (l : List Command). length l) due in

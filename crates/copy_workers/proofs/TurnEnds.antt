@@ -112,8 +112,8 @@ fed-ticked job s reply below free marked f =
                 all-weaker (λ h. (least_mark job.length s.hearings ≤ h.kept) × (h.kept ≤ job.length)) (IsBound job (s.clock + cond (is_moved reply) 1 0)) s.hearings
                 (λ h k. bound-tick job s.clock (cond (is_moved reply) 1 0) (least_mark job.length s.hearings) h (omega arith) free k)
                 (all-both (λ h. least_mark job.length s.hearings ≤ h.kept) (λ h. h.kept ≤ job.length)
-                    (λ h. (least_mark job.length s.hearings ≤ h.kept) × (h.kept ≤ job.length)) s.hearings
-                    (λ h a b. (a, b))
+                (λ h. (least_mark job.length s.hearings ≤ h.kept) × (h.kept ≤ job.length)) s.hearings
+                (λ h a b. (a, b))
                 (least-all job.length s.hearings)
                 (all-both Hears (λ h. IsOrderly job.length h.got) (λ h. h.kept ≤ job.length) s.hearings (λ h a b. kept-most job h a b) f.feeds.hears fair.orderly));
             few = (let a = keeps.few in let b = ticks-append s.asked more in let c = length-append s.turns ((s.here ++ more) ∷ []) in omega arith);

@@ -48,9 +48,9 @@ found-push [] x from number new = rw (turned x from number) refl
 found-push (y ∷ ys) x from number new =
     let parts = or_parts (is_named x.from x.number y) (has_command ys x.from x.number) new in
     elim (is_named from number y) as (λ v. is_named from number y ≡ v
-        → cond v (Some y) (command_named (ys ++ x ∷ []) from number)
-        ≡ cond (same_pair (x.from, x.number) (from, number)) (Some x)
-        (cond v (Some y) (command_named ys from number))) [
+    → cond v (Some y) (command_named (ys ++ x ∷ []) from number)
+    ≡ cond (same_pair (x.from, x.number) (from, number)) (Some x)
+    (cond v (Some y) (command_named ys from number))) [
       | true ↦ λ here. rw (turned x from number, other-name x y from number parts.0 here) refl
       | false ↦ λ other. found-push ys x from number parts.1
     ]

@@ -207,8 +207,8 @@ row-whole m n from to (l ∷ row) h a b stand zero below =
     let n1 = links_after m.commands n (link_lines from to l) in
     let here : to ≡ to + 0 = omega arith in
     subst (λ (e : NetLinks). length (link_at n.rows from (to + 0)).sent ≤ length
-        (link_at e.rows from (to + 0)).received) (sym
-        (links-append m.commands n (link_lines from to l) (row_lines from (to + 1) row)))
+    (link_at e.rows from (to + 0)).received) (sym
+    (links-append m.commands n (link_lines from to l) (row_lines from (to + 1) row)))
     (subst (λ (t : ℕ). length (link_at n.rows from t).sent ≤ length (link_at (links_after m.commands n1 (row_lines from (to + 1) row)).rows from t).received) here
     (let first = head.first in let further = head.more.received from to in omega arith))
 row-whole m n from to (l ∷ row) h a b stand (suc j) below =
@@ -218,14 +218,14 @@ row-whole m n from to (l ∷ row) h a b stand (suc j) below =
     let moved : Stand n1 from (to + 1) row =
     λ k under. (let same : to + suc k ≡ (to + 1) + k = omega arith in
     let before = subst (λ (t : ℕ). ((link_at n.rows from t).sent ≡ (get_or row k (new_link 0)).sent)
-        × (length (get_or row k (new_link 0)).received ≤ length (link_at n.rows from t).received)) same
-        (stand (suc k) (omega arith)) in
+    × (length (get_or row k (new_link 0)).received ≤ length (link_at n.rows from t).received)) same
+    (stand (suc k) (omega arith)) in
     (head.grown.sent from ((to + 1) + k) ∙ before.0, (let more_there = head.grown.received from ((to + 1) + k) in let was = before.1 in omega arith))) in
     let tail = row-whole m n1 from (to + 1) row head.links a (omega arith) moved j (omega arith) in
     let same_sent = ap (λ (xs : List Command). length xs) (head.grown.sent from ((to + 1) + j)) in
     subst (λ (e : NetLinks). length (link_at n.rows from (to + suc j)).sent ≤ length
-        (link_at e.rows from (to + suc j)).received) (sym
-        (links-append m.commands n (link_lines from to l) (row_lines from (to + 1) row)))
+    (link_at e.rows from (to + suc j)).received) (sym
+    (links-append m.commands n (link_lines from to l) (row_lines from (to + 1) row)))
     (subst (λ (t : ℕ). length (link_at n.rows from t).sent ≤ length (link_at (links_after m.commands n1 (row_lines from (to + 1) row)).rows from t).received) here (omega arith))
 
 rows-move : (mirrors from : ℕ) (rows : List (List LinkState)) → from + length rows ≤ mirrors

@@ -202,23 +202,43 @@ unfolding take_words issue_exact send_exact carry_exact ack_exact hear_exact tur
 item m is t (Issue from number) due fit =
     let f = fit.0 in
     kind_item m (issue_exact m is) t (from, number) (Issue from number)
-        (record { stands = due; fits = ((omega arith, omega arith), (omega arith, fit.1)); room = refl;
-        tests = (fit.2, tt) }) refl refl (lit≤ tt) refl
+    (record {
+      stands = due;
+      fits = ((omega arith, omega arith), (omega arith, fit.1));
+      room = refl;
+      tests = (fit.2, tt);
+    }) refl refl (lit≤ tt) refl
 item m is t (Send from to packet) due fit =
     kind_item m (send_exact m is) t (from, (to, packet)) (Send from to packet)
-        (record { stands = due; fits = packet_fits m t from to packet fit.0 fit.1; room = refl;
-        tests = (differ_again (eqb from to) fit.0.differ, tt) }) refl refl (lit≤ tt) refl
+    (record {
+      stands = due;
+      fits = packet_fits m t from to packet fit.0 fit.1;
+      room = refl;
+      tests = (differ_again (eqb from to) fit.0.differ, tt);
+    }) refl refl (lit≤ tt) refl
 item m is t (Carry from to packet) due fit =
     kind_item m (carry_exact m is) t (from, (to, packet)) (Carry from to packet)
-        (record { stands = due; fits = packet_fits m t from to packet fit.0 fit.1; room = refl;
-        tests = (differ_again (eqb from to) fit.0.differ, tt) }) refl refl (lit≤ tt) refl
+    (record {
+      stands = due;
+      fits = packet_fits m t from to packet fit.0 fit.1;
+      room = refl;
+      tests = (differ_again (eqb from to) fit.0.differ, tt);
+    }) refl refl (lit≤ tt) refl
 item m is t (Ack from to) due fit =
-    kind_item m (ack_exact m is) t (from, to) (Ack from to) (record { stands = due; fits = link_fits m t from to fit;
-        room = refl; tests = (differ_again (eqb from to) fit.differ, tt) }) refl refl (lit≤ tt) refl
+    kind_item m (ack_exact m is) t (from, to) (Ack from to) (record {
+      stands = due;
+      fits = link_fits m t from to fit;
+      room = refl;
+      tests = (differ_again (eqb from to) fit.differ, tt);
+    }) refl refl (lit≤ tt) refl
 item m is t (Hear from to count) due fit =
     kind_item m (hear_exact m is) t (from, (to, count)) (Hear from to count)
-        (record { stands = due; fits = packet_fits m t from to count fit.0 fit.1; room = refl;
-        tests = (differ_again (eqb from to) fit.0.differ, tt) }) refl refl (lit≤ tt) refl
+    (record {
+      stands = due;
+      fits = packet_fits m t from to count fit.0 fit.1;
+      room = refl;
+      tests = (differ_again (eqb from to) fit.0.differ, tt);
+    }) refl refl (lit≤ tt) refl
 item m is t (Turn mirror) due fit =
     let f : mirror < m.mirrors = fit in
     kind_item m (turn_exact m is) t mirror (Turn mirror) (record { stands = due; fits = (omega arith, omega arith); room = refl; tests = tt }) refl refl (lit≤ tt) refl
@@ -237,8 +257,8 @@ events_follow m is t (x ∷ lines) stage count fit =
     let one = item m is t x due fit.0 in
     let rest = events_follow m is (with_line t x) lines stage (omega (arith, count)) fit.1 in
     let same : record (with_line t x) { lines = (t.lines ++ x ∷ []) ++ lines; left = 0 }
-        ≡ record t { lines = t.lines ++ x ∷ lines; left = 0 } =
-        λ i. record t { lines = append_assoc t.lines (x ∷ []) lines i; left = 0 } in (
+    ≡ record t { lines = t.lines ++ x ∷ lines; left = 0 } =
+    λ i. record t { lines = append_assoc t.lines (x ∷ []) lines i; left = 0 } in (
       rw stage refl,
       not_long (net_line x) 16 one.short (lit≤ tt),
       with_line t x,
@@ -301,7 +321,13 @@ unfolding lines_text
 net_short m is lines few fit =
     let first = (net_taken m (length lines) few).3 in
     let all = section_length net_line lines 16 262144 (items_lack m is lines fit).1 few in
-    omega (arith, first, all, length-append (as_line (count_line (length lines)))
-        (lines_text (map net_line lines ++ last_line ∷ [])), length-append (count_line (length lines)) (10 ∷ []),
-        ap length (lines_text-append (map net_line lines) (last_line ∷ [])),
-        length-append (lines_text (map net_line lines)) (lines_text (last_line ∷ [])))
+    omega (
+      arith,
+      first,
+      all,
+      length-append (as_line (count_line (length lines)))
+          (lines_text (map net_line lines ++ last_line ∷ [])),
+      length-append (count_line (length lines)) (10 ∷ []),
+      ap length (lines_text-append (map net_line lines) (last_line ∷ [])),
+      length-append (lines_text (map net_line lines)) (lines_text (last_line ∷ [])),
+    )

@@ -38,11 +38,12 @@ unfolding lines_text
 whole_found text x e = through _ _ _ e (λ (y : MatchData × Tail) y_is e.
     let f = around_found LONGEST_LOSSY_TEXT lossy_head net_tail text y y_is in
     let w = said_whole y.0 y.1 f.is f.last in
-    let found : IsLossy (lossy_with y) × (text ≡ lossy_text (lossy_with y)) =
-    (record { game = f.game; count = w.1; lines = f.is.each },
-        f.whole ∙ ap (λ (v : List ℕ). as_line lossy_head ++ v)
-        (ap (λ (ls : List (List ℕ)). match_text y.0 ++ lines_text ls) w.0
-        ∙ sym (lines_text-append (match_lines y.0) (net_lines y.1.lines)))) in
+    let found : IsLossy (lossy_with y) × (text ≡ lossy_text (lossy_with y)) = (
+      record { game = f.game; count = w.1; lines = f.is.each },
+      f.whole ∙ ap (λ (v : List ℕ). as_line lossy_head ++ v)
+          (ap (λ (ls : List (List ℕ)). match_text y.0 ++ lines_text ls) w.0
+          ∙ sym (lines_text-append (match_lines y.0) (net_lines y.1.lines))),
+    ) in
     subst (λ (k : LossyData). IsLossy k × (text ≡ lossy_text k)) (same_text (lossy_with y) x e) found)
 
 head_lacks : Lacks 10 lossy_head

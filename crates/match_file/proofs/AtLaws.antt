@@ -85,8 +85,15 @@ at_says (delays_due version length sides mirrors) l b is short e =
     (λ ds s. (refl, (is.0, is.1, is.2, is.3, s))) e
 at_says (pace_due version length sides mirrors delays) l b is short e =
     once_says (pace_exact delays) (pace_due version length sides mirrors delays)
-        (λ p. in_body (record { version = version; length = length; width = sides.0; height = sides.1;
-        mirrors = mirrors; delays = delays; pace = p }) no_body) l b
+    (λ p. in_body (record {
+      version = version;
+      length = length;
+      width = sides.0;
+      height = sides.1;
+      mirrors = mirrors;
+      delays = delays;
+      pace = p;
+    }) no_body) l b
     (λ p s. (refl, (record { version = is.0; length = is.1; grid = is.2; mirrors = is.3; delays = is.4; pace = s }, no_body_is _))) e
 at_says (in_body o b) l c is short e = through _ _ _ e (λ d d_is e.
     let k = take_says o (opening_small o is.0) b l d is.1 short d_is in
@@ -151,11 +158,25 @@ opening_is n lines =
     ∙ chain _ _ _ _ (λ x2. once_run mirrors_kind (n + 2 + 1) (n + 3) (mirrors_due x0.0 x1.0 x2.0) (delays_due x0.0 x1.0 x2.0) x2.1 (omega arith) refl (λ _. refl)
     ∙ chain _ _ _ _ (λ x3. once_run delays_kind (n + 3 + 1) (n + 4) (delays_due x0.0 x1.0 x2.0 x3.0) (pace_due x0.0 x1.0 x2.0 x3.0) x3.1 (omega arith) refl (λ _. refl)
     ∙ chain _ _ _ _ (λ x4. once_run (pace_kind x4.0) (n + 4 + 1) (n + 5) (pace_due x0.0 x1.0 x2.0 x3.0 x4.0)
-        (λ p. in_body (record { version = x0.0; length = x1.0; width = x2.0.0; height = x2.0.1; mirrors = x3.0;
-        delays = x4.0; pace = p }) no_body) x4.1 (omega arith) refl (λ _. refl)
+    (λ p. in_body (record {
+      version = x0.0;
+      length = x1.0;
+      width = x2.0.0;
+      height = x2.0.1;
+      mirrors = x3.0;
+      delays = x4.0;
+      pace = p;
+    }) no_body) x4.1 (omega arith) refl (λ _. refl)
     ∙ chain _ _ _ _ (λ x5. let e : n + 5 + 1 ≡ n + 6 = omega arith in
-        ap (λ (i : ℕ). run i (in_body (record { version = x0.0; length = x1.0; width = x2.0.0; height = x2.0.1;
-        mirrors = x3.0; delays = x4.0; pace = x5.0 }) no_body) x5.1) e))))))
+    ap (λ (i : ℕ). run i (in_body (record {
+      version = x0.0;
+      length = x1.0;
+      width = x2.0.0;
+      height = x2.0.1;
+      mirrors = x3.0;
+      delays = x4.0;
+      pace = x5.0;
+    }) no_body) x5.1) e))))))
 
 -- a match is read by its machine
 pub match_is : (n : ℕ) (lines : Lines) → run n head_due lines ≡ (match_at n lines >>= λ (x : Opening × Stop Body). Ok (stopped (in_body x.0 x.1.state) x.1.next x.1.rest))
@@ -164,5 +185,5 @@ match_is n lines =
     opening_is n lines
     ∙ chain (opening_at n lines) _ _ _ (λ x. run_as (take x.0) is_last take_line at_last (in_body x.0) (λ _. refl) (λ s l. refl) (n + 6) no_body x.1
     ∙ chain {A = Stop Body} {B = Opening × Stop Body} (run_to (take x.0) is_last (n + 6) no_body x.1)
-        (λ stop. Ok (x.0, stop)) (λ (y : Opening × Stop Body). Ok (stopped (in_body y.0 y.1.state) y.1.next y.1.rest))
-        _ (λ stop. refl))
+    (λ stop. Ok (x.0, stop)) (λ (y : Opening × Stop Body). Ok (stopped (in_body y.0 y.1.state) y.1.next y.1.rest))
+    _ (λ stop. refl))

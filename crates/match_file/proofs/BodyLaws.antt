@@ -125,9 +125,16 @@ plan_says o b a is s =
     let none = none_is b.commands players.1 in
     let right : PlanRight o b.plans a = record { stands = refl; fits = s.fits; room = s.room; tests = s.tests } in (
       said_plan b a (open_is b.stage at.0) (none_is b.walls walls.0) (none_is b.pickups pickups.0) (none_is b.players players.0) none,
-      record { plans = each_push (PlanRight o) [] b.plans a is.plans right; walls = is.walls; pickups = is.pickups;
-          players = is.players; commands = is.commands; script = none_each _ b.script (is.closed at.0);
-          closed = is.closed; begun = is.begun },
+      record {
+        plans = each_push (PlanRight o) [] b.plans a is.plans right;
+        walls = is.walls;
+        pickups = is.pickups;
+        players = is.players;
+        commands = is.commands;
+        script = none_each _ b.script (is.closed at.0);
+        closed = is.closed;
+        begun = is.begun;
+      },
     )
 
 wall_says : (o : Opening) (b : Body) (a : Cell) → IsBody o b → Sound (wall_kind o) WallFits b a → Says o b (line_text (wall_kind o) b a) ((wall_kind o).put b a)
@@ -137,10 +144,16 @@ wall_says o b a is s =
     let players = and_parts (is_none b.players) _ pickups.1 in
     let right : WallRight o b.walls a = record { stands = refl; fits = s.fits; room = s.room; tests = s.tests } in (
       said_wall b a (open_is b.stage at.0) (none_is b.pickups pickups.0) (none_is b.players players.0) (none_is b.commands players.1),
-      record { plans = is.plans; walls = each_push (WallRight o) [] b.walls a is.walls right;
-          pickups = none_each _ b.pickups (none_is b.pickups pickups.0);
-          players = none_each _ b.players (none_is b.players players.0); commands = is.commands; script = is.script;
-          closed = is.closed; begun = is.begun },
+      record {
+        plans = is.plans;
+        walls = each_push (WallRight o) [] b.walls a is.walls right;
+        pickups = none_each _ b.pickups (none_is b.pickups pickups.0);
+        players = none_each _ b.players (none_is b.players players.0);
+        commands = is.commands;
+        script = is.script;
+        closed = is.closed;
+        begun = is.begun;
+      },
     )
 
 pickup_says : (o : Opening) (b : Body) (a : PickupSpot) → IsBody o b → Sound (pickup_kind o) PickupFits b a → Says o b (line_text (pickup_kind o) b a) ((pickup_kind o).put b a)
@@ -149,9 +162,17 @@ pickup_says o b a is s =
     let players = and_parts (is_none b.players) _ at.1 in
     let right : PickupRight o b.walls b.pickups a = record { stands = refl; fits = s.fits; room = s.room; tests = s.tests } in (
       said_pickup b a (open_is b.stage at.0) (none_is b.players players.0) (none_is b.commands players.1),
-      record { plans = is.plans; walls = is.walls; pickups = each_push (PickupRight o b.walls) [] b.pickups a
-          is.pickups right; players = none_each _ b.players (none_is b.players players.0); commands = is.commands;
-          script = is.script; closed = is.closed; begun = is.begun },
+      record {
+        plans = is.plans;
+        walls = is.walls;
+        pickups = each_push (PickupRight o b.walls) [] b.pickups a
+            is.pickups right;
+        players = none_each _ b.players (none_is b.players players.0);
+        commands = is.commands;
+        script = is.script;
+        closed = is.closed;
+        begun = is.begun;
+      },
     )
 
 player_says : (o : Opening) (b : Body) (a : Player) → IsBody o b → Sound (player_kind o) PlayerFits b a → Says o b (line_text (player_kind o) b a) ((player_kind o).put b a)
@@ -159,10 +180,16 @@ player_says o b a is s =
     let at = and_parts (is_open b.stage) _ s.stands in
     let right : PlayerRight o b.walls b.pickups b.players a = record { stands = refl; fits = s.fits; room = s.room; tests = s.tests } in (
       said_player b a (open_is b.stage at.0) (none_is b.commands at.1),
-      record { plans = is.plans; walls = is.walls; pickups = is.pickups;
-          players = each_push (PlayerRight o b.walls b.pickups) [] b.players a is.players right;
-          commands = none_each _ b.commands (none_is b.commands at.1); script = is.script; closed = is.closed;
-          begun = λ k. open_clash b.stage at.0 k },
+      record {
+        plans = is.plans;
+        walls = is.walls;
+        pickups = is.pickups;
+        players = each_push (PlayerRight o b.walls b.pickups) [] b.players a is.players right;
+        commands = none_each _ b.commands (none_is b.commands at.1);
+        script = is.script;
+        closed = is.closed;
+        begun = λ k. open_clash b.stage at.0 k;
+      },
     )
 
 command_says : (o : Opening) (b : Body) (a : Command) → IsBody o b → Sound (command_kind o) (OrderFits o) b a → Says o b (line_text (command_kind o) b a) ((command_kind o).put b a)
@@ -170,9 +197,16 @@ command_says o b a is s =
     let at = and_parts (is_open b.stage) _ s.stands in
     let right : CommandRight o b.players b.commands a = record { stands = at.1; fits = s.fits; room = s.room; tests = s.tests } in (
       said_command b a (open_is b.stage at.0),
-      record { plans = is.plans; walls = is.walls; pickups = is.pickups; players = is.players;
-          commands = each_push (CommandRight o b.players) [] b.commands a is.commands right;
-          script = none_each _ b.script (is.closed at.0); closed = is.closed; begun = is.begun },
+      record {
+        plans = is.plans;
+        walls = is.walls;
+        pickups = is.pickups;
+        players = is.players;
+        commands = each_push (CommandRight o b.players) [] b.commands a is.commands right;
+        script = none_each _ b.script (is.closed at.0);
+        closed = is.closed;
+        begun = is.begun;
+      },
     )
 
 script_says : (o : Opening) (b : Body) (x : ScriptLine) → IsBody o b → is_script b.stage ≡ true
@@ -180,9 +214,16 @@ script_says : (o : Opening) (b : Body) (x : ScriptLine) → IsBody o b → is_sc
     → Says o b (script_line x) (record b { script = b.script ++ x ∷ [] })
 script_says o b x is stands right = (
   said_script b x (script_is b.stage stands),
-  record { plans = is.plans; walls = is.walls; pickups = is.pickups; players = is.players; commands = is.commands;
-      script = each_push (ScriptRight o b.plans b.commands) [] b.script x is.script right;
-      closed = λ h. absurd (not_open b.stage stands h); begun = is.begun },
+  record {
+    plans = is.plans;
+    walls = is.walls;
+    pickups = is.pickups;
+    players = is.players;
+    commands = is.commands;
+    script = each_push (ScriptRight o b.plans b.commands) [] b.script x is.script right;
+    closed = λ h. absurd (not_open b.stage stands h);
+    begun = is.begun;
+  },
 )
 
 ended_said : (o : Opening) (b : Body) → IsBody o b → may_end b ≡ true → body_lines (record b { stage = Ended }) ≡ body_lines b ++ codes "end" ∷ []
@@ -200,17 +241,33 @@ ended_begun o b is h = elim (or_cases (may_open b) (is_script b.stage && not (is
 -- what the end of a text says
 end_says : (o : Opening) (b : Body) → IsBody o b → may_end b ≡ true → Says o b (codes "end") (record b { stage = Ended })
 end_says o b is h =
-    let closes : IsBody o (record b { stage = Ended }) = record { plans = is.plans; walls = is.walls;
-        pickups = is.pickups; players = is.players; commands = is.commands; script = is.script;
-        closed = λ k. absurd cc; begun = λ _. ended_begun o b is h } in
+    let closes : IsBody o (record b { stage = Ended }) = record {
+      plans = is.plans;
+      walls = is.walls;
+      pickups = is.pickups;
+      players = is.players;
+      commands = is.commands;
+      script = is.script;
+      closed = λ k. absurd cc;
+      begun = λ _. ended_begun o b is h;
+    } in
     (ended_said o b is h, closes)
 
 opens_says : (o : Opening) (b : Body) → IsBody o b → may_open b ≡ true → Says o b (codes "script") (record b { stage = InScript })
 opens_says o b is h =
-    let at = and_parts (is_open b.stage) _ h in
-    (said_opened b (open_is b.stage at.0) (is.closed at.0), record { plans = is.plans; walls = is.walls;
-        pickups = is.pickups; players = is.players; commands = is.commands; script = is.script;
-        closed = λ k. absurd cc; begun = λ _. some_is b.players at.1 })
+    let at = and_parts (is_open b.stage) _ h in (
+      said_opened b (open_is b.stage at.0) (is.closed at.0),
+      record {
+        plans = is.plans;
+        walls = is.walls;
+        pickups = is.pickups;
+        players = is.players;
+        commands = is.commands;
+        script = is.script;
+        closed = λ k. absurd cc;
+        begun = λ _. some_is b.players at.1;
+      },
+    )
 
 -- each kind says its line
 pub body_exact : (o : Opening) → IsSmall o → ExactTable (IsBody o) (Says o) (body_table o)
@@ -277,8 +334,8 @@ plans_follow : (o : Opening) → IsSmall o → (b : Body) → EachAfter (PlanRig
 unfolding take_words body_entries
 plans_follow o small b h =
     items_follow (take o) is_last (PlanRight o) plan_line (λ xs. record no_body { plans = xs })
-        (λ before a r. kind_again o (plan_exact o small) (record no_body { plans = before }) a r refl refl) [] b.plans
-        h
+    (λ before a r. kind_again o (plan_exact o small) (record no_body { plans = before }) a r refl refl) [] b.plans
+    h
 
 walls_follow : (o : Opening) (b : Body) → EachAfter (WallRight o) [] b.walls
     → Follows (take o) is_last (record no_body { plans = b.plans }) (map wall_line b.walls)
@@ -294,20 +351,35 @@ pickups_follow : (o : Opening) (b : Body) → EachAfter (PickupRight o b.walls) 
 unfolding take_words body_entries
 pickups_follow o b h =
     items_follow (take o) is_last (PickupRight o b.walls) pickup_line (λ xs. record no_body { plans = b.plans; walls = b.walls; pickups = xs })
-    (λ before a r. kind_again o (pickup_exact o) (record no_body { plans = b.plans; walls = b.walls;
-        pickups = before }) a (record { stands = refl; fits = r.fits; room = r.room; tests = r.tests }) refl refl) []
-        b.pickups h
+    (λ before a r. kind_again o (pickup_exact o) (record no_body {
+      plans = b.plans;
+      walls = b.walls;
+      pickups = before;
+    }) a (record { stands = refl; fits = r.fits; room = r.room; tests = r.tests }) refl refl) []
+    b.pickups h
 
 players_follow : (o : Opening) (b : Body) → EachAfter (PlayerRight o b.walls b.pickups) [] b.players
     → Follows (take o) is_last (record no_body { plans = b.plans; walls = b.walls; pickups = b.pickups })
-        (map home_line b.players) (record no_body { plans = b.plans; walls = b.walls; pickups = b.pickups;
-        players = b.players })
+    (map home_line b.players) (record no_body {
+      plans = b.plans;
+      walls = b.walls;
+      pickups = b.pickups;
+      players = b.players;
+    })
 unfolding take_words body_entries
 players_follow o b h =
     items_follow (take o) is_last (PlayerRight o b.walls b.pickups) home_line (λ xs. record no_body { plans = b.plans; walls = b.walls; pickups = b.pickups; players = xs })
-    (λ before a r. kind_again o (player_exact o) (record no_body { plans = b.plans; walls = b.walls;
-        pickups = b.pickups; players = before }) a (record { stands = refl; fits = r.fits; room = r.room;
-        tests = r.tests }) refl refl) [] b.players h
+    (λ before a r. kind_again o (player_exact o) (record no_body {
+      plans = b.plans;
+      walls = b.walls;
+      pickups = b.pickups;
+      players = before;
+    }) a (record {
+      stands = refl;
+      fits = r.fits;
+      room = r.room;
+      tests = r.tests;
+    }) refl refl) [] b.players h
 
 abbrev opened : Body → Body
 opened b = record no_body { plans = b.plans; walls = b.walls; pickups = b.pickups; players = b.players; commands = b.commands }
@@ -317,9 +389,14 @@ commands_follow : (o : Opening) → IsSmall o → (b : Body) → EachAfter (Comm
 unfolding take_words body_entries
 commands_follow o small b h =
     items_follow (take o) is_last (CommandRight o b.players) command_line (λ xs. record no_body { plans = b.plans; walls = b.walls; pickups = b.pickups; players = b.players; commands = xs })
-    (λ before a r. kind_again o (command_exact o small) (record no_body { plans = b.plans; walls = b.walls;
-        pickups = b.pickups; players = b.players; commands = before }) a
-        (record { stands = r.stands; fits = r.fits; room = r.room; tests = r.tests }) refl refl) [] b.commands h
+    (λ before a r. kind_again o (command_exact o small) (record no_body {
+      plans = b.plans;
+      walls = b.walls;
+      pickups = b.pickups;
+      players = b.players;
+      commands = before;
+    }) a
+    (record { stands = r.stands; fits = r.fits; room = r.room; tests = r.tests }) refl refl) [] b.commands h
 
 abbrev scripted : Body → List ScriptLine → Body
 scripted b script = record b { stage = InScript; script = script }
@@ -361,10 +438,18 @@ ended_follows o small b stage is =
     follows_more (take o) is_last no_body (map plan_line b.plans) (record no_body { plans = b.plans }) _ _ (plans_follow o small b is.plans)
     (follows_more (take o) is_last (record no_body { plans = b.plans }) (map wall_line b.walls) (record no_body { plans = b.plans; walls = b.walls }) _ _ (walls_follow o b is.walls)
     (follows_more (take o) is_last (record no_body { plans = b.plans; walls = b.walls }) (map pickup_line b.pickups)
-        (record no_body { plans = b.plans; walls = b.walls; pickups = b.pickups }) _ _ (pickups_follow o b is.pickups)
+    (record no_body { plans = b.plans; walls = b.walls; pickups = b.pickups }) _ _ (pickups_follow o b is.pickups)
     (follows_more (take o) is_last (record no_body { plans = b.plans; walls = b.walls; pickups = b.pickups })
-        (map home_line b.players) (record no_body { plans = b.plans; walls = b.walls; pickups = b.pickups;
-        players = b.players }) _ _ (players_follow o b is.players)
-    (follows_more (take o) is_last (record no_body { plans = b.plans; walls = b.walls; pickups = b.pickups;
-        players = b.players }) (map command_line b.commands) (opened b) _ _ (commands_follow o small b is.commands)
-        close))))
+    (map home_line b.players) (record no_body {
+      plans = b.plans;
+      walls = b.walls;
+      pickups = b.pickups;
+      players = b.players;
+    }) _ _ (players_follow o b is.players)
+    (follows_more (take o) is_last (record no_body {
+      plans = b.plans;
+      walls = b.walls;
+      pickups = b.pickups;
+      players = b.players;
+    }) (map command_line b.commands) (opened b) _ _ (commands_follow o small b is.commands)
+    close))))

@@ -155,13 +155,13 @@ small_cell m x y is h =
 free_pickup : (m : MatchData) → IsMatch m → (front : List PickupSpot) (p : PickupSpot) (more : List PickupSpot) → m.layout.pickups ≡ front ++ p ∷ more → is_open m.layout.grid p.x p.y ≡ true
 free_pickup m is front p more e =
     let all = all-first (λ c. is_open m.layout.grid c.x c.y ≡ true) (map pickup_cell m.layout.pickups)
-        (map spot_cell m.layout.players) (of_list_all (λ c. is_open m.layout.grid c.x c.y) _ is.layout.free) in
+    (map spot_cell m.layout.players) (of_list_all (λ c. is_open m.layout.grid c.x c.y) _ is.layout.free) in
     all_at (λ p. is_open m.layout.grid p.x p.y ≡ true) front p more (rw e at (all_unmap (λ c. is_open m.layout.grid c.x c.y ≡ true) pickup_cell m.layout.pickups all))
 
 free_home : (m : MatchData) → IsMatch m → (front : List Spot) (s : Spot) (more : List Spot) → m.layout.players ≡ front ++ s ∷ more → is_open m.layout.grid s.x s.y ≡ true
 free_home m is front s more e =
     let all = all-second (λ c. is_open m.layout.grid c.x c.y ≡ true) (map pickup_cell m.layout.pickups)
-        (map spot_cell m.layout.players) (of_list_all (λ c. is_open m.layout.grid c.x c.y) _ is.layout.free) in
+    (map spot_cell m.layout.players) (of_list_all (λ c. is_open m.layout.grid c.x c.y) _ is.layout.free) in
     all_at (λ s. is_open m.layout.grid s.x s.y ≡ true) front s more (rw e at (all_unmap (λ c. is_open m.layout.grid c.x c.y ≡ true) spot_cell m.layout.players all))
 
 apart_pickup : (m : MatchData) → IsMatch m → (front : List PickupSpot) (p : PickupSpot) (more : List PickupSpot) → m.layout.pickups ≡ front ++ p ∷ more → has_pickup p.x p.y front ≡ false
@@ -190,15 +190,15 @@ apart_home : (m : MatchData) → IsMatch m → (front : List Player) (p : Player
 unfolding has_pickup has_home
 apart_home m is front p more e =
     let cells : map pickup_cell m.layout.pickups ++ map spot_cell m.layout.players
-        ≡ (map pickup_cell m.layout.pickups ++ map spot_cell (map (λ p. p.home) front)) ++ spot_cell p.home
-        ∷ map spot_cell (map (λ p. p.home) more) =
+    ≡ (map pickup_cell m.layout.pickups ++ map spot_cell (map (λ p. p.home) front)) ++ spot_cell p.home
+    ∷ map spot_cell (map (λ p. p.home) more) =
     rw (e, map-append spot_cell (map (λ p. p.home) front) (p.home ∷ map (λ p. p.home) more)) (sym (append_assoc (map pickup_cell m.layout.pickups) (map spot_cell (map (λ p. p.home) front)) _)) in
     let none : list_any (λ c. same_cell c (spot_cell p.home))
-        (map pickup_cell m.layout.pickups ++ map spot_cell (map (λ p. p.home) front))
-        ≡ false = distinct_at same_cell _ (spot_cell p.home) _ (rw cells at is.layout.apart) in
+    (map pickup_cell m.layout.pickups ++ map spot_cell (map (λ p. p.home) front))
+    ≡ false = distinct_at same_cell _ (spot_cell p.home) _ (rw cells at is.layout.apart) in
     let parts = or_parts (list_any (λ c. same_cell c (spot_cell p.home)) (map pickup_cell m.layout.pickups))
-        (list_any (λ c. same_cell c (spot_cell p.home)) (map spot_cell (map (λ p. p.home) front)))
-        (sym (any_append _ (map pickup_cell m.layout.pickups) _) ∙ none) in (
+    (list_any (λ c. same_cell c (spot_cell p.home)) (map spot_cell (map (λ p. p.home) front)))
+    (sym (any_append _ (map pickup_cell m.layout.pickups) _) ∙ none) in (
       sym (any_map (λ c. same_cell c (spot_cell p.home)) pickup_cell m.layout.pickups) ∙ parts.0,
       sym (any_map (λ s. same_cell (spot_cell s) (spot_cell p.home)) (λ p. p.home) front) ∙ sym (any_map (λ c. same_cell c (spot_cell p.home)) spot_cell (map (λ p. p.home) front)) ∙ parts.1,
     )
@@ -224,19 +224,21 @@ name_is_word [] h = absurd cc
 name_is_word (b ∷ bytes) h =
     let first = and_parts (is_letter b) _ h in
     let rest = and_parts (nat_le (length bytes) 11) (list_all is_name_byte bytes) first.1 in
-    word_of (b ∷ bytes) (omega arith) (list_all_of _ (b ∷ bytes)
-        (letter_fits b first.0, all_to (λ c. is_name_byte c ≡ true) _ (λ c k. name_byte_fits c k) bytes
-        (of_list_all is_name_byte bytes rest.1)))
+    word_of (b ∷ bytes) (omega arith) (list_all_of _ (b ∷ bytes) (
+      letter_fits b first.0,
+      all_to (λ c. is_name_byte c ≡ true) _ (λ c k. name_byte_fits c k) bytes
+          (of_list_all is_name_byte bytes rest.1),
+    ))
 
 player_right : (m : MatchData) → IsMatch m → (front : List Player) (p : Player) (more : List Player) → players_of m.names m.layout.players ≡ front ++ p ∷ more
     → PlayerRight (opening_of m) (walls_of m.layout.grid m.layout.grid.width m.layout.grid.height) m.layout.pickups front p
 player_right m is front p more e =
     let names : m.names ≡ map (λ p. p.name) front ++ p.name
-        ∷ map (λ p. p.name) more = sym (names_of m.names m.layout.players is.players)
-        ∙ ap (λ (ps : List Player). map (λ p. p.name) ps) e ∙ map-append (λ p. p.name) front (p ∷ more) in
+    ∷ map (λ p. p.name) more = sym (names_of m.names m.layout.players is.players)
+    ∙ ap (λ (ps : List Player). map (λ p. p.name) ps) e ∙ map-append (λ p. p.name) front (p ∷ more) in
     let homes : m.layout.players ≡ map (λ p. p.home) front ++ p.home
-        ∷ map (λ p. p.home) more = sym (homes_of m.names m.layout.players is.players)
-        ∙ ap (λ (ps : List Player). map (λ p. p.home) ps) e ∙ map-append (λ p. p.home) front (p ∷ more) in
+    ∷ map (λ p. p.home) more = sym (homes_of m.names m.layout.players is.players)
+    ∙ ap (λ (ps : List Player). map (λ p. p.home) ps) e ∙ map-append (λ p. p.home) front (p ∷ more) in
     let free = open_cell m p.home.x p.home.y is (free_home m is (map (λ p. p.home) front) p.home (map (λ p. p.home) more) homes) in
     let range = small_cell m p.home.x p.home.y is free.0 in
     let apart = apart_home m is front p more homes in
@@ -299,9 +301,9 @@ one_of x more = elim (shows x) as (λ t. cond t 1 0 ≤ length (cond {A = List S
 count_front : (front : List ScriptLine) (x : ScriptLine) (more : List ScriptLine) → count_by shows front + cond (shows x) 1 0 ≤ count_by shows (front ++ x ∷ more)
 count_front front x more =
     let whole : count_by shows (front ++ x ∷ more) ≡ length (filter shows front)
-        + length (filter shows (x ∷ more)) = sym (length-filter shows (front ++ x ∷ more))
-        ∙ ap length (filter-append shows front (x ∷ more))
-        ∙ length-append (filter shows front) (filter shows (x ∷ more)) in
+    + length (filter shows (x ∷ more)) = sym (length-filter shows (front ++ x ∷ more))
+    ∙ ap length (filter-append shows front (x ∷ more))
+    ∙ length-append (filter shows front) (filter shows (x ∷ more)) in
     let kept = one_of x more in
     omega (arith, whole, length-filter shows front, kept)
 
@@ -323,14 +325,26 @@ script_one m is front (Arrive k f n) more e h =
     let mirror = h.0 in let from = h.1 in
     record { stands = refl; fits = ((omega arith, omega arith), ((omega arith, omega arith), (omega arith, h.2))); room = room_of m is front (Arrive k f n) more e; tests = (h.3, tt) }
 script_one m is front (Step k c) more e h = let mirror = h.0 in
-    let copy = h.1 in record { stands = refl; fits = ((omega arith, omega arith), (omega arith, omega arith));
-    room = room_of m is front (Step k c) more e; tests = tt }
+    let copy = h.1 in record {
+      stands = refl;
+      fits = ((omega arith, omega arith), (omega arith, omega arith));
+      room = room_of m is front (Step k c) more e;
+      tests = tt;
+    }
 script_one m is front (World k c) more e h = let mirror = h.0 in
-    let copy = h.1 in record { stands = refl; fits = ((omega arith, omega arith), (omega arith, omega arith));
-    room = showing_room m is front (World k c) more e refl; tests = tt }
+    let copy = h.1 in record {
+      stands = refl;
+      fits = ((omega arith, omega arith), (omega arith, omega arith));
+      room = showing_room m is front (World k c) more e refl;
+      tests = tt;
+    }
 script_one m is front (Run k c) more e h = let mirror = h.0 in
-    let copy = h.1 in record { stands = refl; fits = ((omega arith, omega arith), (omega arith, omega arith));
-    room = showing_room m is front (Run k c) more e refl; tests = tt }
+    let copy = h.1 in record {
+      stands = refl;
+      fits = ((omega arith, omega arith), (omega arith, omega arith));
+      room = showing_room m is front (Run k c) more e refl;
+      tests = tt;
+    }
 script_one m is front (Restagger k p) more e h =
     let mirror = h.0 in let plan = h.1 in let few = is.plan_count in
     record { stands = refl; fits = ((omega arith, omega arith), (omega arith, omega arith)); room = room_of m is front (Restagger k p) more e; tests = (le-leb _ _ plan, tt) }
@@ -361,9 +375,12 @@ opening_is m is =
       length = record { stands = refl; fits = is.ticks; room = refl; tests = tt };
       grid = record { stands = refl; fits = (grid.width, grid.height); room = refl; tests = tt };
       mirrors = record { stands = refl; fits = is.mirrors; room = refl; tests = tt };
-      delays = record { stands = refl; fits = record { each = in_range m.delays d.short_delays; some = d.some_copy };
-          room = le-leb _ _ (subst (λ (k : ℕ). k ≤ MOST_COPIES) (sym (length-map m.delays decimal)) d.few_copies);
-          tests = (rising m.delays d.delays_rise, tt) };
+      delays = record {
+        stands = refl;
+        fits = record { each = in_range m.delays d.short_delays; some = d.some_copy };
+        room = le-leb _ _ (subst (λ (k : ℕ). k ≤ MOST_COPIES) (sym (length-map m.delays decimal)) d.few_copies);
+        tests = (rising m.delays d.delays_rise, tt);
+      };
       pace = record { stands = refl; fits = (omega arith, pace_small m is); room = refl; tests = (le-leb _ _ is.pace, tt) };
     }
 
@@ -387,8 +404,8 @@ is_read m is = record {
 pub match_is : (m : MatchData) → IsMatch m → match_of (opening_of m) (body_of m) ≡ m
 match_is m is =
     let grid : walled (open_grid m.layout.grid.width m.layout.grid.height)
-        (walls_of m.layout.grid m.layout.grid.width m.layout.grid.height)
-        ≡ m.layout.grid = grid_again m.layout.grid is.layout.grid in
+    (walls_of m.layout.grid m.layout.grid.width m.layout.grid.height)
+    ≡ m.layout.grid = grid_again m.layout.grid is.layout.grid in
     let names = names_of m.names m.layout.players is.players in
     let homes = homes_of m.names m.layout.players is.players in
     λ i. record m { layout = record { grid = grid i; pickups = m.layout.pickups; players = homes i }; names = names i }

@@ -73,10 +73,17 @@ opening_takes n lines x e =
     let w3 : r2.1 ≡ line (line_text mirrors_kind tt r3.0) r3.1 = rw t3.put t3.whole in
     let w4 : r3.1 ≡ line (line_text delays_kind tt r4.0) r4.1 = rw t4.put t4.whole in
     let w5 : r4.1 ≡ line (line_text (pace_kind r4.0) tt r5.0) r5.1 = rw t5.put t5.whole in
-    subst (λ (p : Opening × Lines). (lines ≡ ahead (front_lines p.0) p.1) × IsOpening p.0) same
-    (t0.0 ∙ rw (w1, w2, w3, w4, w5) refl, record { version = t0.1; length = rw t1.put t1.sound;
-        grid = rw t2.put t2.sound; mirrors = rw t3.put t3.sound; delays = rw t4.put t4.sound;
-        pace = rw t5.put t5.sound })))))))
+    subst (λ (p : Opening × Lines). (lines ≡ ahead (front_lines p.0) p.1) × IsOpening p.0) same (
+      t0.0 ∙ rw (w1, w2, w3, w4, w5) refl,
+      record {
+        version = t0.1;
+        length = rw t1.put t1.sound;
+        grid = rw t2.put t2.sound;
+        mirrors = rw t3.put t3.sound;
+        delays = rw t4.put t4.sound;
+        pace = rw t5.put t5.sound;
+      },
+    )))))))
 
 pub opening_again : (n : ℕ) (o : Opening) (rest : Lines) → IsOpening o → opening_at n (ahead (front_lines o) rest) ≡ Ok (o, rest)
 unfolding opening_at ahead

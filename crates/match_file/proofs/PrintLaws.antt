@@ -85,8 +85,8 @@ pub players_next : (names : List (List ℕ)) (homes : List Spot) (i : ℕ) (d : 
 players_next names homes i d old mid new within same so_far next =
     let e : i + 1 ≡ suc i = omega arith in
     rw (e, players_push names homes i d within same) (puts (player_lines (take i names) (take i homes))
-        (player_line (unwrap_or (slice_get names i) []) (get_or homes i d) ∷ []) old mid new so_far
-        (puts_one _ mid new next))
+    (player_line (unwrap_or (slice_get names i) []) (get_or homes i d) ∷ []) old mid new so_far
+    (puts_one _ mid new next))
 
 pub players_none : (names : List (List ℕ)) (homes : List Spot) (old : List ℕ) → old ≡ old ++ lines_text (player_lines (take 0 names) (take 0 homes))
 unfolding player_lines
@@ -108,7 +108,7 @@ pub opening_puts : (m : MatchData) (old a b c d e f : List ℕ) → a ≡ old ++
     ++ as_line (number_line (codes "length") m.length) → c ≡ b
     ++ as_line (grid_line m.layout.grid.width m.layout.grid.height)
     → d ≡ c ++ as_line (number_line (codes "mirrors") m.mirrors) → e ≡ d ++ as_line (delays_line m.delays) → f ≡ e
-        ++ as_line (number_line (codes "pace") m.pace) → f ≡ old ++ lines_text (opening_lines m)
+    ++ as_line (number_line (codes "pace") m.pace) → f ≡ old ++ lines_text (opening_lines m)
 opening_puts m old a b c d e f ea eb ec ed ee ef =
     puts (head_line m.version ∷ []) _ old a f (puts_one _ old a ea)
     (puts (number_line (codes "length") m.length ∷ []) _ a b f (puts_one _ a b eb)
@@ -123,7 +123,7 @@ pub match_puts : (m : MatchData) (a b c d e f g new : List ℕ) → a ≡ lines_
     ++ lines_text (map wall_line (walls_of m.layout.grid m.layout.grid.width m.layout.grid.height)) → d ≡ c
     ++ lines_text (map pickup_line m.layout.pickups)
     → e ≡ d ++ lines_text (player_lines m.names m.layout.players) → f ≡ e ++ lines_text (map command_line m.commands)
-        → g ≡ f ++ lines_text (script_lines m.script) → new ≡ g ++ as_line (codes "end") → new ≡ match_text m
+    → g ≡ f ++ lines_text (script_lines m.script) → new ≡ g ++ as_line (codes "end") → new ≡ match_text m
 unfolding match_lines
 match_puts m a b c d e f g new ea eb ec ed ee ef eg en =
     puts (opening_lines m) _ [] a new ea

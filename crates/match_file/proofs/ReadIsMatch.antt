@@ -151,9 +151,14 @@ free_cell : (o : Opening) (walls : List Cell) (x y : ℕ) → IsGrid (open_grid 
 unfolding is_open is_walled
 free_cell o walls x y is within inside free =
     let parts = and_parts (ltb x o.width) (ltb y o.height) inside in
-    rw (walled_width (open_grid o.width o.height) walls, walled_height (open_grid o.width o.height) walls, parts.0,
-        parts.1, walled_has (open_grid o.width o.height) walls x y is within,
-        is_walled-open_grid o.width o.height x y)
+    rw (
+      walled_width (open_grid o.width o.height) walls,
+      walled_height (open_grid o.width o.height) walls,
+      parts.0,
+      parts.1,
+      walled_has (open_grid o.width o.height) walls x y is within,
+      is_walled-open_grid o.width o.height x y,
+    )
     (no_wall (has_wall x y walls) free)
 
 pickups_free : (o : Opening) (walls : List Cell) (pickups : List PickupSpot) → IsGrid (open_grid o.width o.height) → InGrid o.width o.height walls → EachAfter (PickupRight o walls) [] pickups
@@ -173,15 +178,15 @@ all_free : (g : Grid) (pickups : List PickupSpot) (players : List Player) → Al
     → list_all (λ c. is_open g c.x c.y) (map pickup_cell pickups ++ map spot_cell (homes players)) ≡ true
 all_free g pickups players h k =
     list_all_of _ _ (all_append (λ c. is_open g c.x c.y ≡ true) (map pickup_cell pickups)
-        (map spot_cell (homes players)) (all_map _ pickup_cell pickups h)
-        (all_map _ spot_cell (homes players) (all_map _ (λ p. p.home) players k)))
+    (map spot_cell (homes players)) (all_map _ pickup_cell pickups h)
+    (all_map _ spot_cell (homes players) (all_map _ (λ p. p.home) players k)))
 
 pickups_apart : (o : Opening) (walls : List Cell) (pickups : List PickupSpot) → EachAfter (PickupRight o walls) [] pickups → IsDistinct same_cell (map pickup_cell pickups)
 pickups_apart o walls pickups h =
     each_keeps (PickupRight o walls) (λ before. IsDistinct same_cell (map pickup_cell before))
     (λ before p inv r. rw (map-append pickup_cell before (p ∷ []))
-        (distinct_push same_cell (map pickup_cell before) (pickup_cell p) inv
-        (any_map _ pickup_cell before ∙ no_pickup p.x p.y before r.tests.1.1.0)))
+    (distinct_push same_cell (map pickup_cell before) (pickup_cell p) inv
+    (any_map _ pickup_cell before ∙ no_pickup p.x p.y before r.tests.1.1.0)))
     [] pickups no_cells h
 
 cells_apart : (o : Opening) (walls : List Cell) (pickups : List PickupSpot) (players : List Player)
@@ -191,16 +196,18 @@ cells_apart o walls pickups players first h =
     each_keeps (PlayerRight o walls pickups) (λ before. IsDistinct same_cell (map pickup_cell pickups ++ map spot_cell (homes before)))
     (λ before p inv r.
     let e : map pickup_cell pickups ++ map spot_cell (homes (before ++ p ∷ []))
-        ≡ (map pickup_cell pickups ++ map spot_cell (homes before)) ++ spot_cell p.home
-        ∷ [] = rw (map-append (λ p. p.home) before (p ∷ []), map-append spot_cell (homes before) (p.home ∷ []))
-        (sym (append_assoc (map pickup_cell pickups) (map spot_cell (homes before)) (spot_cell p.home ∷ []))) in
+    ≡ (map pickup_cell pickups ++ map spot_cell (homes before)) ++ spot_cell p.home
+    ∷ [] = rw (map-append (λ p. p.home) before (p ∷ []), map-append spot_cell (homes before) (p.home ∷ []))
+    (sym (append_assoc (map pickup_cell pickups) (map spot_cell (homes before)) (spot_cell p.home ∷ []))) in
     rw e (distinct_push same_cell (map pickup_cell pickups ++ map spot_cell (homes before)) (spot_cell p.home) inv
     (any_append _ (map pickup_cell pickups) (map spot_cell (homes before))
-    ∙ rw (any_map (λ c. same_cell c (spot_cell p.home)) pickup_cell pickups,
-        no_pickup p.home.x p.home.y pickups r.tests.1.1.1.1.0,
-        any_map (λ c. same_cell c (spot_cell p.home)) spot_cell (homes before),
-        any_map (λ s. same_cell (spot_cell s) (spot_cell p.home)) (λ p. p.home) before)
-        (no_home p.home.x p.home.y before r.tests.1.1.1.1.1.0))))
+    ∙ rw (
+      any_map (λ c. same_cell c (spot_cell p.home)) pickup_cell pickups,
+      no_pickup p.home.x p.home.y pickups r.tests.1.1.1.1.0,
+      any_map (λ c. same_cell c (spot_cell p.home)) spot_cell (homes before),
+      any_map (λ s. same_cell (spot_cell s) (spot_cell p.home)) (λ p. p.home) before,
+    )
+    (no_home p.home.x p.home.y before r.tests.1.1.1.1.1.0))))
     [] players (rw (append-nil (map pickup_cell pickups)) first) h
 
 -- ---- names
@@ -210,8 +217,8 @@ names_apart : (o : Opening) (walls : List Cell) (pickups : List PickupSpot) (pla
 names_apart o walls pickups players h =
     each_keeps (PlayerRight o walls pickups) (λ before. IsDistinct bytes_eq (map (λ p. p.name) before))
     (λ before p inv r. rw (map-append (λ p. p.name) before (p ∷ []))
-        (distinct_push bytes_eq (map (λ p. p.name) before) p.name inv
-        (any_map (λ n. bytes_eq n p.name) (λ p. p.name) before ∙ no_name p.name before r.tests.1.0)))
+    (distinct_push bytes_eq (map (λ p. p.name) before) p.name inv
+    (any_map (λ n. bytes_eq n p.name) (λ p. p.name) before ∙ no_name p.name before r.tests.1.0)))
     [] players no_names h
 
 commands_apart : (o : Opening) (players : List Player) (commands : List Command) → EachAfter (CommandRight o players) [] commands → NamesDiffer commands
@@ -244,8 +251,8 @@ one_kept x n = elim (shows x) as (λ t. n + length (cond {A = List ScriptLine} t
 pub count_push : (xs : List ScriptLine) (x : ScriptLine) → count_by shows (xs ++ x ∷ []) ≡ count_by shows xs + cond (shows x) 1 0
 count_push xs x =
     sym (length-filter shows (xs ++ x ∷ [])) ∙ ap length (filter-append shows xs (x ∷ []))
-        ∙ length-append (filter shows xs) (filter shows (x ∷ []))
-        ∙ rw (length-filter shows xs) (one_kept x (count_by shows xs))
+    ∙ length-append (filter shows xs) (filter shows (x ∷ []))
+    ∙ rw (length-filter shows xs) (one_kept x (count_by shows xs))
 
 script_shown : (o : Opening) (plans commands before : _) (x : ScriptLine) → count_by shows before ≤ MOST_SHOWING_LINES
     → ScriptRight o plans commands before x → count_by shows before + cond (shows x) 1 0 ≤ MOST_SHOWING_LINES
@@ -296,8 +303,11 @@ is_match_of o b read =
       mirrors = is.mirrors.fits;
       delays = is_schedule o.length o.delays is.length.fits is.delays.fits small.copies is.delays.tests.0;
       plan_count = omega arith;
-      plans = each_of (PlanRight o) _ (λ before p r. (is_schedule o.length p is.length.fits r.fits.0
-          (let wide = r.fits.1 in let cs = small.copies in omega arith) r.tests.0, r.fits.1)) [] b.plans h.plans;
+      plans = each_of (PlanRight o) _ (λ before p r. (
+        is_schedule o.length p is.length.fits r.fits.0
+            (let wide = r.fits.1 in let cs = small.copies in omega arith) r.tests.0,
+        r.fits.1,
+      )) [] b.plans h.plans;
       pace = leb-true _ _ is.pace.tests.0;
       layout = record {
         grid = walled_grid (open_grid o.width o.height) b.walls open_is within;

@@ -32,9 +32,9 @@ pub roster_next : (players : List Player) (i : ℕ) (d : Player) (old new : List
 roster_next players i d old new within apart so_far next =
     let cut : players ≡ take i players ++ get_or players i d ∷ drop (suc i) players = cut_at_item players i d within in
     let names : map (λ p. p.name) players ≡ map (λ p. p.name) (take i players) ++ (get_or players i d).name
-        ∷ map (λ p. p.name) (drop (suc i) players) = ap (λ (ps : List Player). map (λ p. p.name) ps) cut
-        ∙ map-append (λ p. p.name) (take i players) (get_or players i d ∷ drop (suc i) players) in
+    ∷ map (λ p. p.name) (drop (suc i) players) = ap (λ (ps : List Player). map (λ p. p.name) ps) cut
+    ∙ map-append (λ p. p.name) (take i players) (get_or players i d ∷ drop (suc i) players) in
     let unknown = not_known (get_or players i d).name (map (λ p. p.name) (take i players))
-        (distinct_at bytes_eq (map (λ p. p.name) (take i players)) (get_or players i d).name _
-        (subst (IsDistinct bytes_eq) names apart)) in
+    (distinct_at bytes_eq (map (λ p. p.name) (take i players)) (get_or players i d).name _
+    (subst (IsDistinct bytes_eq) names apart)) in
     next ∙ rw (so_far, unknown, (take_at_read players i d within).1, map-append) refl

@@ -119,8 +119,14 @@ unfolding read_match
 match_reads n m rest is =
     rw (match_said m is)
     (then _ _ _ _ (match_again n (opening_of m) (body_of m) rest (is_read m is))
-        (ap (λ (k : MatchData). Ok (k, record { state = tt; next = n + 6 + length (body_lines (body_of m));
-        rest = rest })) (made_again m is)))
+    (ap (λ (k : MatchData). Ok (
+      k,
+      record {
+        state = tt;
+        next = n + 6 + length (body_lines (body_of m));
+        rest = rest;
+      },
+    )) (made_again m is)))
 
 -- lines without newlines, in front of a text
 front_lines_of : (lines : List (List ℕ)) (rest : List ℕ) → AllByRecursion (Lacks 10) lines → lines_of (lines_text lines ++ rest) ≡ ahead lines (lines_of rest)
@@ -195,9 +201,12 @@ refused_first text (Err text_faults.NoMemory) h = tt
 refused_first text (Err (text_faults.Refused refused)) h =
     either (ltb LONGEST_MATCH_TEXT (length text)) _ _ _
     (λ long e. inl (ltb-true _ _ long, same_refusal _ _ e))
-    (λ short e. inr (ltb-false _ _ short, run_first (in_text at_exact) 1 head_due (lines_of text) refused tt
-        (ap (λ (r : Result (Stop At) Refused). r >>= ended) (match_is 1 (lines_of text))
-        ∙ same_err (match_at 1 (lines_of text)) refused e))) h
+    (λ short e. inr (
+      ltb-false _ _ short,
+      run_first (in_text at_exact) 1 head_due (lines_of text) refused tt
+          (ap (λ (r : Result (Stop At) Refused). r >>= ended) (match_is 1 (lines_of text))
+          ∙ same_err (match_at 1 (lines_of text)) refused e),
+    )) h
 
 -- ---- a match inside a longer text
 

@@ -48,20 +48,32 @@ closing_length Open script n le = omega arith
 closing_length InScript script n le = omega (arith, length-append (as_line (codes "script")) (lines_text (map script_line script)))
 closing_length Ended [] n le = omega arith
 closing_length Ended (x ∷ script) n le =
-    omega (arith, length-append (as_line (codes "script"))
-        (lines_text (map script_line (x ∷ script) ++ codes "end" ∷ [])),
-        ap length (lines_text-append (map script_line (x ∷ script)) (codes "end" ∷ [])),
-        length-append (lines_text (map script_line (x ∷ script))) (lines_text (codes "end" ∷ [])))
+    omega (
+      arith,
+      length-append (as_line (codes "script"))
+          (lines_text (map script_line (x ∷ script) ++ codes "end" ∷ [])),
+      ap length (lines_text-append (map script_line (x ∷ script)) (codes "end" ∷ [])),
+      length-append (lines_text (map script_line (x ∷ script))) (lines_text (codes "end" ∷ [])),
+    )
 
 head_length : (o : Opening) → IsOpening o → length (lines_text (front_lines o)) ≤ 726
 head_length o is =
-    lines_length LONGEST_LINE (front_lines o)
-    (ltb-false _ _ (head_short o.version is.version),
-        (ltb-false _ _ (line_short length_exact tt o.length is.length),
-        (ltb-false _ _ (line_short grid_exact tt (o.width, o.height) is.grid),
-        (ltb-false _ _ (line_short mirrors_exact tt o.mirrors is.mirrors),
-        (ltb-false _ _ (line_short delays_exact tt o.delays is.delays),
-        (ltb-false _ _ (line_short (pace_exact o.delays) tt o.pace is.pace), tt))))))
+    lines_length LONGEST_LINE (front_lines o) (
+      ltb-false _ _ (head_short o.version is.version),
+      (
+        ltb-false _ _ (line_short length_exact tt o.length is.length),
+        (
+          ltb-false _ _ (line_short grid_exact tt (o.width, o.height) is.grid),
+          (
+            ltb-false _ _ (line_short mirrors_exact tt o.mirrors is.mirrors),
+            (
+              ltb-false _ _ (line_short delays_exact tt o.delays is.delays),
+              (ltb-false _ _ (line_short (pace_exact o.delays) tt o.pace is.pace), tt),
+            ),
+          ),
+        ),
+      ),
+    )
 
 pub read_length : (o : Opening) (b : Body) → IsRead o b → length (lines_text (front_lines o ++ body_lines b)) ≤ LONGEST_MATCH_TEXT
 unfolding wall_exact pickup_exact command_exact
@@ -72,21 +84,21 @@ read_length o b read =
     let c = counts_of o b is h in
     let front = head_length o is in
     let plans = section_length plan_line b.plans LONGEST_LINE 7
-        (each_all (PlanRight o) plan_line (λ l. length l ≤ LONGEST_LINE)
-        (λ before a r. ltb-false _ _ (line_short (plan_exact o small) _ a r)) [] b.plans h.plans) c.plans in
+    (each_all (PlanRight o) plan_line (λ l. length l ≤ LONGEST_LINE)
+    (λ before a r. ltb-false _ _ (line_short (plan_exact o small) _ a r)) [] b.plans h.plans) c.plans in
     let walls = section_length wall_line b.walls 26 4096 (each_all (WallRight o) wall_line (λ l. length l ≤ 26) (λ before a r. line_length (wall_exact o) _ a r) [] b.walls h.walls) c.walls in
     let pickups = section_length pickup_line b.pickups 33 32
-        (each_all (PickupRight o b.walls) pickup_line (λ l. length l ≤ 33)
-        (λ before a r. line_length (pickup_exact o) _ a r) [] b.pickups h.pickups) c.pickups in
+    (each_all (PickupRight o b.walls) pickup_line (λ l. length l ≤ 33)
+    (λ before a r. line_length (pickup_exact o) _ a r) [] b.pickups h.pickups) c.pickups in
     let players = section_length home_line b.players 60 32
-        (each_all (PlayerRight o b.walls b.pickups) home_line (λ l. length l ≤ 60) (player_short o b.walls b.pickups)
-        [] b.players h.players) c.players in
+    (each_all (PlayerRight o b.walls b.pickups) home_line (λ l. length l ≤ 60) (player_short o b.walls b.pickups)
+    [] b.players h.players) c.players in
     let commands = section_length command_line b.commands 26 32768
-        (each_all (CommandRight o b.players) command_line (λ l. length l ≤ 26)
-        (λ before a r. line_length (command_exact o small) _ a r) [] b.commands h.commands) c.commands in
+    (each_all (CommandRight o b.players) command_line (λ l. length l ≤ 26)
+    (λ before a r. line_length (command_exact o small) _ a r) [] b.commands h.commands) c.commands in
     let script = section_length script_line b.script 17 262144
-        (each_all (ScriptRight o b.plans b.commands) script_line (λ l. length l ≤ 17)
-        (script_short o small b.plans b.commands) [] b.script h.script) c.script in
+    (each_all (ScriptRight o b.plans b.commands) script_line (λ l. length l ≤ 17)
+    (script_short o small b.plans b.commands) [] b.script h.script) c.script in
     let closing = closing_length b.stage b.script 4718592 script in
     let s5 = map command_line b.commands ++ closing_lines b.stage b.script in
     let s4 = map home_line b.players ++ s5 in

@@ -77,8 +77,8 @@ unique (x ∷ xs) (y ∷ ys) h g same =
         | inr also ↦
             let equal : x ≡ y = omega arith in
             let rest : xs ≡ ys = unique xs ys h.1 g.1 (λ n. tail_same x n xs ys h.0
-                (subst (λ (k : ℕ). AllByRecursion (λ z. k < z) ys) (sym equal) g.0)
-                (same n ∙ ap (λ (k : ℕ). eqb k n || mem n ys) (sym equal))) in
+            (subst (λ (k : ℕ). AllByRecursion (λ z. k < z) ys) (sym equal) g.0)
+            (same n ∙ ap (λ (k : ℕ). eqb k n || mem n ys) (sym equal))) in
             rw (equal, rest) refl
       ]
     ]
@@ -221,16 +221,16 @@ unfolding has_wall walls_in_row
 row_has g r x y zero = row_none x y r (is_walled g x r)
 row_has g r x y (suc n) =
     any_append _ (walls_in_row g r n) _ ∙ rw (row_has g r x y n)
-        (ap (λ b. (eqb y r && (ltb x n && is_walled g x r)) || b) (pick_has (is_walled g n r) x y n r)
-        ∙ row_last 0 x n y r (is_walled g x r) (is_walled g n r) (λ e. ap (λ k. is_walled g k r) e))
+    (ap (λ b. (eqb y r && (ltb x n && is_walled g x r)) || b) (pick_has (is_walled g n r) x y n r)
+    ∙ row_last 0 x n y r (is_walled g x r) (is_walled g n r) (λ e. ap (λ k. is_walled g k r) e))
 
 pub walls_has : (g : Grid) (w x y n : ℕ) → has_wall x y (walls_of g w n) ≡ (ltb y n && (ltb x w && is_walled g x y))
 unfolding has_wall walls_of
 walls_has g w x y zero = column_none y (ltb x w && is_walled g x y)
 walls_has g w x y (suc n) =
     any_append _ (walls_of g w n) (walls_in_row g n w)
-        ∙ rw (walls_has g w x y n) (ap (λ b. (ltb y n && (ltb x w && is_walled g x y)) || b) (row_has g n x y w)
-        ∙ column_last y n (ltb x w) (is_walled g x y) (is_walled g x n) (λ e. ap (λ k. is_walled g x k) e))
+    ∙ rw (walls_has g w x y n) (ap (λ b. (ltb y n && (ltb x w && is_walled g x y)) || b) (row_has g n x y w)
+    ∙ column_last y n (ltb x w) (is_walled g x y) (is_walled g x n) (λ e. ap (λ k. is_walled g x k) e))
 
 -- ---- the walls of a grid rise, and are in it
 
@@ -269,8 +269,8 @@ row_rises g r width (suc n) le =
     let e : r * 64 + n + 1 ≡ r * 64 + suc n = omega arith in
     subst (λ (k : ℕ). Rising width (r * 64) k (walls_in_row g r n ++ cond {A = List Cell} (is_walled g n r) (record { x = n; y = r } ∷ []) [])) e
     (rising_append width (r * 64) (r * 64 + n) (r * 64 + n) (r * 64 + n + 1) (walls_in_row g r n) _ (omega arith)
-        (omega arith) (omega arith) (row_rises g r width n (omega arith))
-        (rising_one width (record { x = n; y = r }) (is_walled g n r) (omega arith)))
+    (omega arith) (omega arith) (row_rises g r width n (omega arith))
+    (rising_one width (record { x = n; y = r }) (is_walled g n r) (omega arith)))
 
 pub walls_rise : (g : Grid) (width n : ℕ) → width ≤ 64 → Rising width 0 (n * 64) (walls_of g width n)
 unfolding walls_of

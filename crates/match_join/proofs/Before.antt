@@ -204,8 +204,8 @@ told-both {W} show opening m number n clock script later t s head new text all c
       lines =
           is ∙ both.lines
           ∙ ap (λ (front : List ℕ). front ++ (joiner_text m.commands (lines_after m number n)
-              (joiner_before show.rules opening m number n)
-              ++ ends_text show number m.length (mirror_end opening m number n)
-              (joiner_end show.rules opening m number n) both.same))
+          (joiner_before show.rules opening m number n)
+          ++ ends_text show number m.length (mirror_end opening m number n)
+          (joiner_end show.rules opening m number n) both.same))
           (put ∙ ap (join_head number n) (at ∙ ap (λ (u : MirrorState W). last_clock u.runs) begun));
     }

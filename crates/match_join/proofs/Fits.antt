@@ -152,8 +152,8 @@ pub lines-first :
 unfolding joiner_lines
 lines-first commands number l ls s =
     elim (eqb (mirror_of l) number) as (λ v. joiner_lines commands
-        (cond v (l ∷ filter (names number) ls) (filter (names number) ls)) s
-        ≡ joiner_lines commands (filter (names number) ls) (joiner_lines commands (cond v (l ∷ []) []) s))
+    (cond v (l ∷ filter (names number) ls) (filter (names number) ls)) s
+    ≡ joiner_lines commands (filter (names number) ls) (joiner_lines commands (cond v (l ∷ []) []) s))
     [ true ↦ refl | false ↦ refl ]
 
 pub text-first :
@@ -164,9 +164,9 @@ pub text-first :
 unfolding joiner_lines joiner_text
 text-first commands number l ls s =
     elim (eqb (mirror_of l) number) as (λ v. joiner_text commands
-        (cond v (l ∷ filter (names number) ls) (filter (names number) ls)) s
-        ≡ joiner_text commands (cond v (l ∷ []) []) s
-        ++ joiner_text commands (filter (names number) ls) (joiner_lines commands (cond v (l ∷ []) []) s))
+    (cond v (l ∷ filter (names number) ls) (filter (names number) ls)) s
+    ≡ joiner_text commands (cond v (l ∷ []) []) s
+    ++ joiner_text commands (filter (names number) ls) (joiner_lines commands (cond v (l ∷ []) []) s))
     [ true ↦ ap (λ (text : List ℕ). text ++ joiner_text commands (filter (names number) ls) (joiner_line commands l s)) (sym (append-nil (joiner_line_text commands l s))) | false ↦ refl ]
 
 -- ---- the lines, one after another

@@ -48,8 +48,8 @@ pub after_lines-first :
 unfolding after_lines
 after_lines-first commands number l ls s =
     elim (eqb (mirror_of l) number) as (λ v. after_lines commands
-        (cond v (l ∷ filter (names number) ls) (filter (names number) ls)) s
-        ≡ after_lines commands (filter (names number) ls) (after_lines commands (cond v (l ∷ []) []) s))
+    (cond v (l ∷ filter (names number) ls) (filter (names number) ls)) s
+    ≡ after_lines commands (filter (names number) ls) (after_lines commands (cond v (l ∷ []) []) s))
     [ true ↦ refl | false ↦ refl ]
 
 pub way-lines :

@@ -40,8 +40,8 @@ module _ {W : Type 0} (game : GameRules W) where
   drafted_fits : (s : MirrorState W) (c : ℕ) → IsReached s → c < length s.runs → IfDraft (drafted game s c) (λ d. FitsLocked game s (Commit (ready_of game d)))
   drafted_fits s c here there =
       elim (is_idle s c) as (λ v. is_idle s c ≡ v → IfDraft
-          (cond v Idle (cond (nat_lt MOST_DRAFTED (due_len s c)) (Wide (due_len s c)) (ADraft (draft_of game s c))))
-          (λ d. FitsLocked game s (Commit (ready_of game d)))) [
+      (cond v Idle (cond (nat_lt MOST_DRAFTED (due_len s c)) (Wide (due_len s c)) (ADraft (draft_of game s c))))
+      (λ d. FitsLocked game s (Commit (ready_of game d)))) [
         | true ↦ λ idle. tt
         | false ↦ λ more.
             elim (nat_lt MOST_DRAFTED (due_len s c)) as (λ v. IfDraft (cond v (Wide (due_len s c)) (ADraft (draft_of game s c))) (λ d. FitsLocked game s (Commit (ready_of game d))))

@@ -34,8 +34,8 @@ module _ {W : Type 0} (game : GameRules W) where
   after_call s (Commit t) r es told =
       subst (λ (reply : LockReply W). after s (events_of_call (Commit t) reply ++ es) ≡ after (committed_to s t) es) (sym told)
       (elim (is_current s t) as (λ v. after s (events_of_call (Commit t)
-          (ToCommit (cond v (Ran (repaired s.accepted (proposed_by_step s.accepted s.runs t.copy)))
-          (Stale t.epoch (epoch s t.copy)))) ++ es) ≡ after (cond v (next s (Step t.copy)) s) es)
+      (ToCommit (cond v (Ran (repaired s.accepted (proposed_by_step s.accepted s.runs t.copy)))
+      (Stale t.epoch (epoch s t.copy)))) ++ es) ≡ after (cond v (next s (Step t.copy)) s) es)
       [ true ↦ refl | false ↦ refl ])
 
   -- the value after a history is the state after its events

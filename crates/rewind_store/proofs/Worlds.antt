@@ -99,9 +99,12 @@ module _ {W : Type 0} (rules : Rules W) where
   kept-case true kept h = h refl
   kept-case false kept h = refl
 
-  one-look : (r : Rewound W) (look : Look W) → MayAnswer rules r look → look ≡ record { tick = look.tick;
-      world = world_at rules r look.tick; hit = is_cached look.tick r.cached;
-      kept = is_cached look.tick r.cached || look.kept }
+  one-look : (r : Rewound W) (look : Look W) → MayAnswer rules r look → look ≡ record {
+    tick = look.tick;
+    world = world_at rules r look.tick;
+    hit = is_cached look.tick r.cached;
+    kept = is_cached look.tick r.cached || look.kept;
+  }
   one-look r look h = (let kept : look.kept ≡ is_cached look.tick r.cached || look.kept = kept-case (is_cached look.tick r.cached) look.kept (λ e. h.kept (h.hit ∙ e)) in
       λ i. record { tick = look.tick; world = h.world i; hit = h.hit i; kept = kept i })
 

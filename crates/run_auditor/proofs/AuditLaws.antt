@@ -70,7 +70,7 @@ pub stuck_stays : {W : Type 0} (w v : LogWalk W) (left : List Event) (place : �
 stuck_stays w v [] place why here e on = absurd cc
 stuck_stays w v (x ∷ xs) place why here e on =
     elim (why_of (said v.mirror x)) as (λ o. why_of (said v.mirror x) ≡ o → told_of_event v x o ≡ Stuck place why
-        → WentOn w (moved v x xs o) × Stopped (moved v x xs o) (Some (record { place = place; why = why }))) [
+    → WentOn w (moved v x xs o) × Stopped (moved v x xs o) (Some (record { place = place; why = why }))) [
       | None ↦ λ none e. absurd cc
       | Some cause ↦ λ some e. let same = same_stuck (length v.mirror.history) place cause why e in (on, (x, xs, here, same.0, some ∙ ap Some same.1))
     ] refl e
@@ -153,8 +153,8 @@ stated_alike show opening m number log s is begun whole =
 
 pub found_false : {W : Type 0} (show : Showing W) (opening : W) (m : MatchData) (number : ℕ) (log : List Event) (blocks : List (List ℕ)) (w : LogWalk W) (copy : ℕ) → AllByRecursion (IsEventOf m) log
     → IsConsistent w.mirror → WentOn (walk_of opening m number log) w → Stopped w None
-        → FoundFalse show number w.mirror blocks (Some copy)
-        → Found show opening m number log blocks (Some (record { place = copy; why = whys.World }))
+    → FoundFalse show number w.mirror blocks (Some copy)
+    → Found show opening m number log blocks (Some (record { place = copy; why = whys.World }))
 found_false show opening m number log blocks w copy events is on stopped wrong =
     let legal = legal_log opening m number log w events is on stopped in
     inr (record { legal = legal.1; cause = refl; world = subst (λ Is. IsFirstWrong Is 0 blocks copy) (stated_alike show opening m number log w.mirror is on.begun legal.0) wrong })
@@ -190,9 +190,16 @@ mirrors_begin show opening r is =
     let few = few_events r.game 0 r.logs is.logs in
     let count = is.log_count in
     let most = is.game.mirrors.1 in
-    record { number = 0; right = λ h. h; fault = λ mirror place why h. h; counted = omega arith;
-        few = omega (arith, few, count, most); level = is.world_count ∙ sym is.log_count; are = is.logs;
-        stated = is.worlds }
+    record {
+      number = 0;
+      right = λ h. h;
+      fault = λ mirror place why h. h;
+      counted = omega arith;
+      few = omega (arith, few, count, most);
+      level = is.world_count ∙ sym is.log_count;
+      are = is.logs;
+      stated = is.worlds;
+    }
 
 -- the next mirror's log and worlds are those of the record
 pub record NextIs (m : MatchData) (n : ℕ) (log : MirrorLog) (blocks : List (List ℕ)) : Type 0 where
@@ -211,8 +218,8 @@ pub mirrors_next : {W : Type 0} (show : Showing W) (opening : W) (m : MatchData)
     (worlds further : List (List (List ℕ))) (log : MirrorLog) (blocks : List (List ℕ)) (all_logs : List MirrorLog)
     (all_worlds : List (List (List ℕ))) (events : ℕ)
     → logs ≡ log ∷ others → worlds ≡ blocks ∷ further → Found show opening m log.mirror log.events blocks None
-        → MirrorsOn show opening m logs worlds all_logs all_worlds events
-        → MirrorsOn show opening m others further all_logs all_worlds (events + length log.events)
+    → MirrorsOn show opening m logs worlds all_logs all_worlds events
+    → MirrorsOn show opening m others further all_logs all_worlds (events + length log.events)
 unfolding EachNumbered AllRight IsFirstFault event_count
 mirrors_next show opening m logs others worlds further log blocks all_logs all_worlds events some shown found on =
     let next = mirrors_there show opening m logs others worlds further log blocks all_logs all_worlds events some shown on in
@@ -237,8 +244,8 @@ pub mirrors_fault : {W : Type 0} (show : Showing W) (opening : W) (m : MatchData
     (worlds further : List (List (List ℕ))) (log : MirrorLog) (blocks : List (List ℕ)) (all_logs : List MirrorLog)
     (all_worlds : List (List (List ℕ))) (events : ℕ) (fault : Fault)
     → logs ≡ log ∷ others → worlds ≡ blocks ∷ further → Found show opening m log.mirror log.events blocks (Some fault)
-        → MirrorsOn show opening m logs worlds all_logs all_worlds events
-        → IsFirstFault show opening m 0 all_logs all_worlds log.mirror fault.place fault.why
+    → MirrorsOn show opening m logs worlds all_logs all_worlds events
+    → IsFirstFault show opening m 0 all_logs all_worlds log.mirror fault.place fault.why
 unfolding IsFirstFault
 mirrors_fault show opening m logs others worlds further log blocks all_logs all_worlds events fault some shown found on =
     let next = mirrors_there show opening m logs others worlds further log blocks all_logs all_worlds events some shown on in

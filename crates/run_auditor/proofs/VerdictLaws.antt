@@ -243,7 +243,7 @@ verdict_tells show opening m n before [] worlds are = (tt, refl)
 verdict_tells show opening m n before (log ∷ logs) [] are = (tt, refl)
 verdict_tells {W} show opening m n before (log ∷ logs) (blocks ∷ worlds) are =
     by_fault (verdict_tells show opening m (n + 1) (before + length log.events) logs worlds are.1)
-        (fault_of show opening m n log.events blocks) (mirror_found show opening m n log.events blocks are.0.events)
+    (fault_of show opening m n log.events blocks) (mirror_found show opening m n log.events blocks are.0.events)
   where
     by_fault : TellsFrom show opening m (n + 1) (before + length log.events) logs worlds (verdict_from show opening m (n + 1) (before + length log.events) logs worlds)
         → (o : Option Fault) → Found show opening m n log.events blocks o

@@ -71,8 +71,8 @@ walk_moves s left rest e whole changed is =
     let spare : s.spare ≡ cond (is_arrival e) 1 0 + times is_arrival rest = is.spare ∙ ap (times is_arrival) whole in
     let plan_spare : s.plan_spare ≡ cond (is_restagger e) 1 0 + times is_restagger rest = is.plan_spare ∙ ap (times is_restagger) whole in
     let after : (next s e).spare ≡ s.spare - cond (is_arrival e) 1 0 = spare-next s e
-        ∙ ap (λ (b : Bool). s.spare - cond (is_arrival e && b) 1 0) changed
-        ∙ ap (λ (b : Bool). s.spare - cond b 1 0) (and-true (is_arrival e)) in
+    ∙ ap (λ (b : Bool). s.spare - cond (is_arrival e && b) 1 0) changed
+    ∙ ap (λ (b : Bool). s.spare - cond b 1 0) (and-true (is_arrival e)) in
     let plan_after = plan_spare-next s e in
     let history : (next s e).history ≡ s.history ++ e ∷ [] = history-next s e ∙ rw changed refl in
     let few = is.few in

@@ -57,5 +57,5 @@ pub soaked : {W : Type 0} (rules : Rules W) (opening : W) (seed mirror spare pla
     → IsSoaked rules opening seed (drain (after (opening_state opening 512 (the_delays ∷ []) spare plan_spare) (events_until seed mirror 544)))
 soaked rules opening seed mirror spare plan_spare =
     fed-soaked rules opening seed mirror _ (after-fixed (events_until seed mirror 544)
-        (opening_state opening 512 (the_delays ∷ []) spare plan_spare)).opening
-        (IsFed-script opening seed mirror spare plan_spare)
+    (opening_state opening 512 (the_delays ∷ []) spare plan_spare)).opening
+    (IsFed-script opening seed mirror spare plan_spare)

@@ -25,11 +25,28 @@ use Rattle.sync_model.proofs.Computing.{computing}
 pub staggered-parts : {W : Type 0} (s : MirrorState W) → (IsStaggered s → AllHold (parts_of_staggered s)) × (AllHold (parts_of_staggered s) → IsStaggered s)
 unfolding AllHold
 staggered-parts s = (
-  λ h.
-      (h.trailing.chained, (h.trailing.complete, (h.trailing.last_ordered,
-          (h.trailing.never_early, (h.in_bounds.within_match,
-          (h.in_bounds.behind_clock, (h.in_bounds.before_end,
-          (h.in_bounds.behind_delays, (h.in_bounds.names, (h.in_bounds.due, (h.in_bounds.bounds, tt))))))))))),
+  λ h. (
+    h.trailing.chained,
+    (
+      h.trailing.complete,
+      (
+        h.trailing.last_ordered,
+        (
+          h.trailing.never_early,
+          (
+            h.in_bounds.within_match,
+            (
+              h.in_bounds.behind_clock,
+              (
+                h.in_bounds.before_end,
+                (h.in_bounds.behind_delays, (h.in_bounds.names, (h.in_bounds.due, (h.in_bounds.bounds, tt)))),
+              ),
+            ),
+          ),
+        ),
+      ),
+    ),
+  ),
   λ h.
       record {
         trailing = record { chained = h.0; complete = h.1.0; last_ordered = h.1.1.0; never_early = h.1.1.1.0 };
@@ -60,134 +77,405 @@ front-fails front = (let e = (begins_with-Decides (Beat ∷ Cmd (go_at 0) ∷ []
 
 pub unchained-alone : {W : Type 0} (o : W) → (IsStaggered (unchained o) → ⊥) × AllHoldBut 0 (parts_of_staggered (unchained o))
 unfolding computing AllHold AllHoldBut IsChained IsAhead IsComplete IsNeverEarly NamesDiffer greatest_delay
-unchained-alone o = (λ h. front-fails h.trailing.chained.0,
-    ((λ test. (let a = past (test (go_at 0)) in omega arith),
-    (λ test. (let a = past (test (go_at 0)) in omega arith), tt)),
-    (refl, (((omega arith, tt), ((omega arith, tt), tt)),
-    ((omega arith, (omega arith, tt)), ((omega arith, (omega arith, tt)),
-    (omega arith, (λ same. (omega arith, (omega arith, tt)), ((tt, tt), ((omega arith, tt), (tt, tt)))))))))))
+unchained-alone o = (
+  λ h. front-fails h.trailing.chained.0,
+  (
+    (
+      λ test. (let a = past (test (go_at 0)) in omega arith),
+      (λ test. (let a = past (test (go_at 0)) in omega arith), tt),
+    ),
+    (
+      refl,
+      (
+        ((omega arith, tt), ((omega arith, tt), tt)),
+        (
+          (omega arith, (omega arith, tt)),
+          (
+            (omega arith, (omega arith, tt)),
+            (omega arith, (λ same. (omega arith, (omega arith, tt)), ((tt, tt), ((omega arith, tt), (tt, tt))))),
+          ),
+        ),
+      ),
+    ),
+  ),
+)
 
 pub lacking-alone : {W : Type 0} (o : W) → (IsStaggered (lacking o) → ⊥) × AllHoldBut 1 (parts_of_staggered (lacking o))
 unfolding computing AllHold AllHoldBut IsChained IsAhead IsComplete IsNeverEarly NamesDiffer greatest_delay
-lacking-alone o = (λ h. (let e = h.trailing.complete.0 (λ _. true) in absurd (omega arith)),
-    (((Beat ∷ [], refl), (tt, tt)), (refl, ((tt, (tt, tt)),
-    ((omega arith, (omega arith, tt)), ((omega arith, (omega arith, tt)),
-    (omega arith, (λ same. (omega arith, (omega arith, tt)), ((tt, tt), ((omega arith, tt), (tt, tt)))))))))))
+lacking-alone o = (
+  λ h. (let e = h.trailing.complete.0 (λ _. true) in absurd (omega arith)),
+  (
+    ((Beat ∷ [], refl), (tt, tt)),
+    (
+      refl,
+      (
+        (tt, (tt, tt)),
+        (
+          (omega arith, (omega arith, tt)),
+          (
+            (omega arith, (omega arith, tt)),
+            (omega arith, (λ same. (omega arith, (omega arith, tt)), ((tt, tt), ((omega arith, tt), (tt, tt))))),
+          ),
+        ),
+      ),
+    ),
+  ),
+)
 
 pub doubled-alone : {W : Type 0} (o : W) → (IsStaggered (doubled o) → ⊥) × AllHoldBut 1 (parts_of_staggered (doubled o))
 unfolding computing AllHold AllHoldBut IsChained IsAhead IsComplete IsNeverEarly NamesDiffer greatest_delay
-doubled-alone o = (λ h. (let e = h.trailing.complete.0 (λ _. true) in absurd (omega arith)),
-    (((Cmd (go_at 0) ∷ Cmd (go_at 0) ∷ Beat ∷ [], refl), (tt, tt)),
-    (refl, (((omega arith, (omega arith, tt)), (tt, tt)),
-    ((omega arith, (omega arith, tt)), ((omega arith, (omega arith, tt)),
-    (omega arith, (λ same. (omega arith, (omega arith, tt)), ((tt, tt), ((omega arith, tt), (tt, tt)))))))))))
+doubled-alone o = (
+  λ h. (let e = h.trailing.complete.0 (λ _. true) in absurd (omega arith)),
+  (
+    ((Cmd (go_at 0) ∷ Cmd (go_at 0) ∷ Beat ∷ [], refl), (tt, tt)),
+    (
+      refl,
+      (
+        ((omega arith, (omega arith, tt)), (tt, tt)),
+        (
+          (omega arith, (omega arith, tt)),
+          (
+            (omega arith, (omega arith, tt)),
+            (omega arith, (λ same. (omega arith, (omega arith, tt)), ((tt, tt), ((omega arith, tt), (tt, tt))))),
+          ),
+        ),
+      ),
+    ),
+  ),
+)
 
 pub strange-alone : {W : Type 0} (o : W) → (IsStaggered (strange o) → ⊥) × AllHoldBut 1 (parts_of_staggered (strange o))
 unfolding computing AllHold AllHoldBut IsChained IsAhead IsComplete IsNeverEarly NamesDiffer greatest_delay
-strange-alone o = (λ h. (let e = h.trailing.complete.0 (λ _. true) in absurd (omega arith)),
-    (((Cmd (go_at 0) ∷ Beat ∷ [], refl), (tt, tt)),
-    (refl, (((omega arith, tt), (tt, tt)), ((omega arith, (omega arith, tt)),
-    ((omega arith, (omega arith, tt)), (omega arith,
-    (λ same. (omega arith, (omega arith, tt)), (tt, (tt, (tt, tt)))))))))))
+strange-alone o = (
+  λ h. (let e = h.trailing.complete.0 (λ _. true) in absurd (omega arith)),
+  (
+    ((Cmd (go_at 0) ∷ Beat ∷ [], refl), (tt, tt)),
+    (
+      refl,
+      (
+        ((omega arith, tt), (tt, tt)),
+        (
+          (omega arith, (omega arith, tt)),
+          (
+            (omega arith, (omega arith, tt)),
+            (
+              omega arith,
+              (λ same. (omega arith, (omega arith, tt)), (tt, (tt, (tt, tt)))),
+            ),
+          ),
+        ),
+      ),
+    ),
+  ),
+)
 
 pub hasty-alone : {W : Type 0} (o : W) → (IsStaggered (hasty o) → ⊥) × AllHoldBut 1 (parts_of_staggered (hasty o))
 unfolding computing AllHold AllHoldBut IsChained IsAhead IsComplete IsNeverEarly NamesDiffer greatest_delay
-hasty-alone o = (λ h. (let e = h.trailing.complete.0 (λ _. true) in absurd (omega arith)),
-    (((Cmd (go_at 0) ∷ [], refl), (tt, tt)), (refl,
-    (((omega arith, tt), (tt, tt)), ((omega arith, (omega arith, tt)),
-    ((omega arith, (omega arith, tt)), (omega arith,
-    (λ same. (omega arith, (omega arith, tt)), ((tt, tt), ((omega arith, tt), (tt, tt)))))))))))
+hasty-alone o = (
+  λ h. (let e = h.trailing.complete.0 (λ _. true) in absurd (omega arith)),
+  (
+    ((Cmd (go_at 0) ∷ [], refl), (tt, tt)),
+    (
+      refl,
+      (
+        ((omega arith, tt), (tt, tt)),
+        (
+          (omega arith, (omega arith, tt)),
+          (
+            (omega arith, (omega arith, tt)),
+            (
+              omega arith,
+              (λ same. (omega arith, (omega arith, tt)), ((tt, tt), ((omega arith, tt), (tt, tt)))),
+            ),
+          ),
+        ),
+      ),
+    ),
+  ),
+)
 
 pub last_too_late-alone : {W : Type 0} (o : W) → (IsStaggered (last_too_late o) → ⊥) × AllHoldBut 2 (parts_of_staggered (last_too_late o))
 unfolding computing AllHold AllHoldBut IsChained IsAhead IsComplete IsNeverEarly NamesDiffer greatest_delay
-last_too_late-alone o = (λ h. (let e = h.trailing.last_ordered in absurd cc),
-    ((([], refl), (tt, tt)), ((λ test. (let a = past (test (go_at 0)) in omega arith),
-    (λ test. (let a = past (test (go_at 0)) in omega arith), tt)),
-    (((omega arith, tt), ((omega arith, tt), tt)),
-    ((omega arith, (omega arith, tt)), ((omega arith, (omega arith, tt)),
-    (omega arith, (λ same. (omega arith, (omega arith, tt)), ((tt, tt), ((omega arith, tt), (tt, tt)))))))))))
+last_too_late-alone o = (
+  λ h. (let e = h.trailing.last_ordered in absurd cc),
+  (
+    (([], refl), (tt, tt)),
+    (
+      (
+        λ test. (let a = past (test (go_at 0)) in omega arith),
+        (λ test. (let a = past (test (go_at 0)) in omega arith), tt),
+      ),
+      (
+        ((omega arith, tt), ((omega arith, tt), tt)),
+        (
+          (omega arith, (omega arith, tt)),
+          (
+            (omega arith, (omega arith, tt)),
+            (omega arith, (λ same. (omega arith, (omega arith, tt)), ((tt, tt), ((omega arith, tt), (tt, tt))))),
+          ),
+        ),
+      ),
+    ),
+  ),
+)
 
 pub last_unsorted-alone : {W : Type 0} (o : W) → (IsStaggered (last_unsorted o) → ⊥) × AllHoldBut 2 (parts_of_staggered (last_unsorted o))
 unfolding computing AllHold AllHoldBut IsChained IsAhead IsComplete IsNeverEarly NamesDiffer greatest_delay
-last_unsorted-alone o = (λ h. (let e = h.trailing.last_ordered in absurd cc),
-    ((([], refl), (tt, tt)), ((λ test. (let a = past (test (go_first 0)) in
-    let b = past (test (go_first 1)) in omega arith),
-    (λ test. (let a = past (test (go_first 0)) in let b = past (test (go_first 1)) in omega arith), tt)),
-    (((omega arith, (omega arith, tt)), ((omega arith, (omega arith, tt)), tt)),
-    ((omega arith, (omega arith, tt)), ((omega arith, (omega arith, tt)),
-    (omega arith, (λ same. (omega arith, (omega arith, tt)),
-    (((refl, tt), (tt, tt)), ((omega arith, (omega arith, tt)), (tt, tt)))))))))))
+last_unsorted-alone o = (
+  λ h. (let e = h.trailing.last_ordered in absurd cc),
+  (
+    (([], refl), (tt, tt)),
+    (
+      (
+        λ test. (let a = past (test (go_first 0)) in
+            let b = past (test (go_first 1)) in omega arith),
+        (λ test. (let a = past (test (go_first 0)) in let b = past (test (go_first 1)) in omega arith), tt),
+      ),
+      (
+        ((omega arith, (omega arith, tt)), ((omega arith, (omega arith, tt)), tt)),
+        (
+          (omega arith, (omega arith, tt)),
+          (
+            (omega arith, (omega arith, tt)),
+            (
+              omega arith,
+              (
+                λ same. (omega arith, (omega arith, tt)),
+                (((refl, tt), (tt, tt)), ((omega arith, (omega arith, tt)), (tt, tt))),
+              ),
+            ),
+          ),
+        ),
+      ),
+    ),
+  ),
+)
 
 pub too_early-alone : {W : Type 0} (o : W) → (IsStaggered (too_early o) → ⊥) × AllHoldBut 3 (parts_of_staggered (too_early o))
 unfolding computing AllHold AllHoldBut IsChained IsAhead IsComplete IsNeverEarly NamesDiffer greatest_delay
-too_early-alone o = (λ h. (let e = h.trailing.never_early.0.0 in absurd (omega arith)),
-    (((Cmd (go_at 1) ∷ Beat ∷ Beat ∷ [], refl), (tt, tt)),
-    ((λ test. (let a = past (test (go_at 1)) in omega arith),
-    (λ test. (let a = ahead (test (go_at 1)) in omega arith), tt)),
-    (refl, ((omega arith, (omega arith, tt)), ((omega arith, (omega arith, tt)),
-    (omega arith, (λ same. (omega arith, (omega arith, tt)), ((tt, tt), ((omega arith, tt), (tt, tt)))))))))))
+too_early-alone o = (
+  λ h. (let e = h.trailing.never_early.0.0 in absurd (omega arith)),
+  (
+    ((Cmd (go_at 1) ∷ Beat ∷ Beat ∷ [], refl), (tt, tt)),
+    (
+      (
+        λ test. (let a = past (test (go_at 1)) in omega arith),
+        (λ test. (let a = ahead (test (go_at 1)) in omega arith), tt),
+      ),
+      (
+        refl,
+        (
+          (omega arith, (omega arith, tt)),
+          (
+            (omega arith, (omega arith, tt)),
+            (omega arith, (λ same. (omega arith, (omega arith, tt)), ((tt, tt), ((omega arith, tt), (tt, tt))))),
+          ),
+        ),
+      ),
+    ),
+  ),
+)
 
 pub past_match-alone : {W : Type 0} (o : W) → (IsStaggered (past_match o) → ⊥) × AllHoldBut 4 (parts_of_staggered (past_match o))
 unfolding computing AllHold AllHoldBut IsChained IsAhead IsComplete IsNeverEarly NamesDiffer greatest_delay
-past_match-alone o = (λ h. (let e = h.in_bounds.within_match.0 in absurd (omega arith)),
-    (((beat 5, refl), (tt, tt)), ((λ test. refl, (λ test. refl, tt)),
-    (refl, ((tt, (tt, tt)), ((omega arith, (omega arith, tt)),
-    (omega arith, (λ same. (omega arith, (omega arith, tt)), (tt, (tt, (tt, tt)))))))))))
+past_match-alone o = (
+  λ h. (let e = h.in_bounds.within_match.0 in absurd (omega arith)),
+  (
+    ((beat 5, refl), (tt, tt)),
+    (
+      (λ test. refl, (λ test. refl, tt)),
+      (
+        refl,
+        (
+          (tt, (tt, tt)),
+          (
+            (omega arith, (omega arith, tt)),
+            (omega arith, (λ same. (omega arith, (omega arith, tt)), (tt, (tt, (tt, tt))))),
+          ),
+        ),
+      ),
+    ),
+  ),
+)
 
 pub past_clock-alone : {W : Type 0} (o : W) → (IsStaggered (past_clock o) → ⊥) × AllHoldBut 5 (parts_of_staggered (past_clock o))
 unfolding computing AllHold AllHoldBut IsChained IsAhead IsComplete IsNeverEarly NamesDiffer greatest_delay
-past_clock-alone o = (λ h. (let e = h.in_bounds.behind_clock.0 in absurd (omega arith)),
-    (((beat 2, refl), (tt, tt)), ((λ test. refl, (λ test. refl, tt)),
-    (refl, ((tt, (tt, tt)), ((omega arith, (omega arith, tt)),
-    (omega arith, (λ same. absurd cc, (tt, (tt, (tt, tt)))))))))))
+past_clock-alone o = (
+  λ h. (let e = h.in_bounds.behind_clock.0 in absurd (omega arith)),
+  (
+    ((beat 2, refl), (tt, tt)),
+    (
+      (λ test. refl, (λ test. refl, tt)),
+      (
+        refl,
+        (
+          (tt, (tt, tt)),
+          (
+            (omega arith, (omega arith, tt)),
+            (omega arith, (λ same. absurd cc, (tt, (tt, (tt, tt))))),
+          ),
+        ),
+      ),
+    ),
+  ),
+)
 
 pub past_end-alone : {W : Type 0} (o : W) → (IsStaggered (past_end o) → ⊥) × AllHoldBut 6 (parts_of_staggered (past_end o))
 unfolding computing AllHold AllHoldBut IsChained IsAhead IsComplete IsNeverEarly NamesDiffer greatest_delay
-past_end-alone o = (λ h. (let e = h.in_bounds.before_end in absurd (omega arith)),
-    ((([], refl), (tt, tt)), ((λ test. refl, (λ test. refl, tt)),
-    (refl, ((tt, (tt, tt)), ((omega arith, (omega arith, tt)),
-    ((omega arith, (omega arith, tt)), (λ same. (omega arith, (omega arith, tt)), (tt, (tt, (tt, tt)))))))))))
+past_end-alone o = (
+  λ h. (let e = h.in_bounds.before_end in absurd (omega arith)),
+  (
+    (([], refl), (tt, tt)),
+    (
+      (λ test. refl, (λ test. refl, tt)),
+      (
+        refl,
+        (
+          (tt, (tt, tt)),
+          (
+            (omega arith, (omega arith, tt)),
+            ((omega arith, (omega arith, tt)), (λ same. (omega arith, (omega arith, tt)), (tt, (tt, (tt, tt))))),
+          ),
+        ),
+      ),
+    ),
+  ),
+)
 
 pub past_delay-alone : {W : Type 0} (o : W) → (IsStaggered (past_delay o) → ⊥) × AllHoldBut 7 (parts_of_staggered (past_delay o))
 unfolding computing AllHold AllHoldBut IsChained IsAhead IsComplete IsNeverEarly NamesDiffer greatest_delay
-past_delay-alone o = (λ h. (let e = (h.in_bounds.behind_delays refl).1.0 in absurd (omega arith)),
-    ((([], refl), (tt, tt)), ((λ test. refl, (λ test. refl, tt)),
-    (refl, ((tt, (tt, tt)), ((omega arith, (omega arith, tt)),
-    ((omega arith, (omega arith, tt)), (omega arith, (tt, (tt, (tt, tt)))))))))))
+past_delay-alone o = (
+  λ h. (let e = (h.in_bounds.behind_delays refl).1.0 in absurd (omega arith)),
+  (
+    (([], refl), (tt, tt)),
+    (
+      (λ test. refl, (λ test. refl, tt)),
+      (
+        refl,
+        (
+          (tt, (tt, tt)),
+          (
+            (omega arith, (omega arith, tt)),
+            ((omega arith, (omega arith, tt)), (omega arith, (tt, (tt, (tt, tt))))),
+          ),
+        ),
+      ),
+    ),
+  ),
+)
 
 pub third_copy-alone : {W : Type 0} (o : W) → (IsStaggered (third_copy o) → ⊥) × AllHoldBut 7 (parts_of_staggered (third_copy o))
 unfolding computing AllHold AllHoldBut IsChained IsAhead IsComplete IsNeverEarly NamesDiffer greatest_delay
-third_copy-alone o = (λ h. (let e = (h.in_bounds.behind_delays refl).1.1 in absurd e),
-    ((([], refl), (([], refl), (tt, tt))), ((λ test. refl, (λ test. refl, (λ test. refl, tt))),
-    (refl, ((tt, (tt, (tt, tt))), ((omega arith, (omega arith, (omega arith, tt))),
-    ((omega arith, (omega arith, (omega arith, tt))), (omega arith, (tt, (tt, (tt, tt)))))))))))
+third_copy-alone o = (
+  λ h. (let e = (h.in_bounds.behind_delays refl).1.1 in absurd e),
+  (
+    (([], refl), (([], refl), (tt, tt))),
+    (
+      (λ test. refl, (λ test. refl, (λ test. refl, tt))),
+      (
+        refl,
+        (
+          (tt, (tt, (tt, tt))),
+          (
+            (omega arith, (omega arith, (omega arith, tt))),
+            ((omega arith, (omega arith, (omega arith, tt))), (omega arith, (tt, (tt, (tt, tt))))),
+          ),
+        ),
+      ),
+    ),
+  ),
+)
 
 pub same_names-alone : {W : Type 0} (o : W) → (IsStaggered (same_names o) → ⊥) × AllHoldBut 8 (parts_of_staggered (same_names o))
 unfolding computing AllHold AllHoldBut IsChained IsAhead IsComplete IsNeverEarly NamesDiffer greatest_delay
-same_names-alone o = (λ h. (let e = h.in_bounds.names.0.0 in absurd cc),
-    ((([], refl), (tt, tt)), ((λ test. (let a = ahead (test (go_at 1)) in
-    let b = ahead (test (go_at 2)) in omega arith),
-    (λ test. (let a = ahead (test (go_at 1)) in let b = ahead (test (go_at 2)) in omega arith), tt)),
-    (refl, ((tt, (tt, tt)), ((omega arith, (omega arith, tt)),
-    ((omega arith, (omega arith, tt)), (omega arith,
-    (λ same. (omega arith, (omega arith, tt)), ((omega arith, (omega arith, tt)), (tt, tt)))))))))))
+same_names-alone o = (
+  λ h. (let e = h.in_bounds.names.0.0 in absurd cc),
+  (
+    (([], refl), (tt, tt)),
+    (
+      (
+        λ test. (let a = ahead (test (go_at 1)) in
+            let b = ahead (test (go_at 2)) in omega arith),
+        (λ test. (let a = ahead (test (go_at 1)) in let b = ahead (test (go_at 2)) in omega arith), tt),
+      ),
+      (
+        refl,
+        (
+          (tt, (tt, tt)),
+          (
+            (omega arith, (omega arith, tt)),
+            (
+              (omega arith, (omega arith, tt)),
+              (
+                omega arith,
+                (λ same. (omega arith, (omega arith, tt)), ((omega arith, (omega arith, tt)), (tt, tt))),
+              ),
+            ),
+          ),
+        ),
+      ),
+    ),
+  ),
+)
 
 pub never_due-alone : {W : Type 0} (o : W) → (IsStaggered (never_due o) → ⊥) × AllHoldBut 9 (parts_of_staggered (never_due o))
 unfolding computing AllHold AllHoldBut IsChained IsAhead IsComplete IsNeverEarly NamesDiffer greatest_delay
-never_due-alone o = (λ h. (let e = h.in_bounds.due.0 in absurd (omega arith)),
-    ((([], refl), (tt, tt)), ((λ test. (let a = ahead (test (go_at 4)) in omega arith),
-    (λ test. (let a = ahead (test (go_at 4)) in omega arith), tt)),
-    (refl, ((tt, (tt, tt)), ((omega arith, (omega arith, tt)),
-    ((omega arith, (omega arith, tt)), (omega arith,
-    (λ same. (omega arith, (omega arith, tt)), ((tt, tt), (tt, tt)))))))))))
+never_due-alone o = (
+  λ h. (let e = h.in_bounds.due.0 in absurd (omega arith)),
+  (
+    (([], refl), (tt, tt)),
+    (
+      (
+        λ test. (let a = ahead (test (go_at 4)) in omega arith),
+        (λ test. (let a = ahead (test (go_at 4)) in omega arith), tt),
+      ),
+      (
+        refl,
+        (
+          (tt, (tt, tt)),
+          (
+            (omega arith, (omega arith, tt)),
+            (
+              (omega arith, (omega arith, tt)),
+              (
+                omega arith,
+                (λ same. (omega arith, (omega arith, tt)), ((tt, tt), (tt, tt))),
+              ),
+            ),
+          ),
+        ),
+      ),
+    ),
+  ),
+)
 
 pub wrong_bound-alone : {W : Type 0} (o : W) → (IsStaggered (wrong_bound o) → ⊥) × AllHoldBut 10 (parts_of_staggered (wrong_bound o))
 unfolding computing AllHold AllHoldBut IsChained IsAhead IsComplete IsNeverEarly NamesDiffer greatest_delay
-wrong_bound-alone o = (λ h. (let e = h.in_bounds.bounds.0 in absurd (omega arith)),
-    (((beat 1, refl), (tt, tt)), ((λ test. refl, (λ test. refl, tt)),
-    (refl, ((tt, (tt, tt)), ((omega arith, (omega arith, tt)),
-    ((omega arith, (omega arith, tt)), (omega arith,
-    (λ same. (omega arith, (omega arith, tt)), (tt, (tt, tt)))))))))))
+wrong_bound-alone o = (
+  λ h. (let e = h.in_bounds.bounds.0 in absurd (omega arith)),
+  (
+    ((beat 1, refl), (tt, tt)),
+    (
+      (λ test. refl, (λ test. refl, tt)),
+      (
+        refl,
+        (
+          (tt, (tt, tt)),
+          (
+            (omega arith, (omega arith, tt)),
+            (
+              (omega arith, (omega arith, tt)),
+              (
+                omega arith,
+                (λ same. (omega arith, (omega arith, tt)), (tt, (tt, tt))),
+              ),
+            ),
+          ),
+        ),
+      ),
+    ),
+  ),
+)
 
 -- ---- schedules and plans
 
@@ -200,8 +488,8 @@ schedule-parts s = (
 
 pub plans-parts :
     (plans : List (List ℕ)) (ticks copies : ℕ) → (ArePlans plans ticks copies
-        → AllHold (parts_of_plans plans ticks copies))
-        × (AllHold (parts_of_plans plans ticks copies) → ArePlans plans ticks copies)
+    → AllHold (parts_of_plans plans ticks copies))
+    × (AllHold (parts_of_plans plans ticks copies) → ArePlans plans ticks copies)
 unfolding AllHold
 plans-parts plans ticks copies = (
   λ h. (h.some_plan, (h.few_plans, (h.schedules, (h.equal_copies, tt)))),
@@ -218,18 +506,58 @@ no_copy-alone = (λ h. (let e = h.some_copy in absurd (omega arith)), (omega ari
 
 pub nine_copies-alone : (IsSchedule (schedule nine_delays 4) → ⊥) × AllHoldBut 1 (parts_of_schedule (schedule nine_delays 4))
 unfolding AllHold AllHoldBut DelaysRise
-nine_copies-alone = (λ h. (let e = h.few_copies in absurd (omega arith)),
-    (omega arith, (((omega arith, (omega arith, (omega arith,
-    (omega arith, (omega arith, (omega arith, (omega arith, (omega arith, tt)))))))),
-    ((omega arith, (omega arith, (omega arith, (omega arith, (omega arith, (omega arith, (omega arith, tt))))))),
-    ((omega arith, (omega arith, (omega arith, (omega arith, (omega arith, (omega arith, tt)))))),
-    ((omega arith, (omega arith, (omega arith, (omega arith, (omega arith, tt))))),
-    ((omega arith, (omega arith, (omega arith, (omega arith, tt)))),
-    ((omega arith, (omega arith, (omega arith, tt))),
-    ((omega arith, (omega arith, tt)), ((omega arith, tt), (tt, tt))))))))),
-    ((omega arith, (omega arith, (omega arith, (omega arith,
-    (omega arith, (omega arith, (omega arith, (omega arith, (omega arith, tt))))))))),
-    (omega arith, (omega arith, tt))))))
+nine_copies-alone = (
+  λ h. (let e = h.few_copies in absurd (omega arith)),
+  (
+    omega arith,
+    (
+      (
+        (
+          omega arith,
+          (
+            omega arith,
+            (
+              omega arith,
+              (omega arith, (omega arith, (omega arith, (omega arith, (omega arith, tt))))),
+            ),
+          ),
+        ),
+        (
+          (omega arith, (omega arith, (omega arith, (omega arith, (omega arith, (omega arith, (omega arith, tt))))))),
+          (
+            (omega arith, (omega arith, (omega arith, (omega arith, (omega arith, (omega arith, tt)))))),
+            (
+              (omega arith, (omega arith, (omega arith, (omega arith, (omega arith, tt))))),
+              (
+                (omega arith, (omega arith, (omega arith, (omega arith, tt)))),
+                (
+                  (omega arith, (omega arith, (omega arith, tt))),
+                  ((omega arith, (omega arith, tt)), ((omega arith, tt), (tt, tt))),
+                ),
+              ),
+            ),
+          ),
+        ),
+      ),
+      (
+        (
+          omega arith,
+          (
+            omega arith,
+            (
+              omega arith,
+              (
+                omega arith,
+                (omega arith, (omega arith, (omega arith, (omega arith, (omega arith, tt))))),
+              ),
+            ),
+          ),
+        ),
+        (omega arith, (omega arith, tt)),
+      ),
+    ),
+  ),
+)
 
 pub equal_delays-alone : (IsSchedule (schedule (1 ∷ 1 ∷ []) 4) → ⊥) × AllHoldBut 2 (parts_of_schedule (schedule (1 ∷ 1 ∷ []) 4))
 unfolding AllHold AllHoldBut DelaysRise
@@ -254,15 +582,26 @@ long_match-alone = (λ h. (let e = h.few_ticks in absurd (omega arith)), (omega 
 -- the longest match, with the longest delay
 pub longest-schedule : IsSchedule (schedule (0 ∷ 1024 ∷ []) 8192)
 unfolding DelaysRise
-longest-schedule = record { some_copy = omega arith; few_copies = omega arith;
-    delays_rise = ((omega arith, tt), (tt, tt)); short_delays = (omega arith, (omega arith, tt));
-    some_tick = omega arith; few_ticks = omega arith }
+longest-schedule = record {
+  some_copy = omega arith;
+  few_copies = omega arith;
+  delays_rise = ((omega arith, tt), (tt, tt));
+  short_delays = (omega arith, (omega arith, tt));
+  some_tick = omega arith;
+  few_ticks = omega arith;
+}
 
 -- two copies, one tick apart, over four ticks
 apart : IsSchedule (schedule (0 ∷ 1 ∷ []) 4)
 unfolding DelaysRise
-apart = record { some_copy = omega arith; few_copies = omega arith; delays_rise = ((omega arith, tt), (tt, tt));
-    short_delays = (omega arith, (omega arith, tt)); some_tick = omega arith; few_ticks = omega arith }
+apart = record {
+  some_copy = omega arith;
+  few_copies = omega arith;
+  delays_rise = ((omega arith, tt), (tt, tt));
+  short_delays = (omega arith, (omega arith, tt));
+  some_tick = omega arith;
+  few_ticks = omega arith;
+}
 
 alone : IsSchedule (schedule (0 ∷ []) 4)
 unfolding DelaysRise
@@ -274,9 +613,16 @@ no_plan-alone = (λ h. (let e = h.some_plan in absurd (omega arith)), (omega ari
 
 pub nine_plans-alone : (ArePlans (replicate 9 (0 ∷ 1 ∷ [])) 4 2 → ⊥) × AllHoldBut 1 (parts_of_plans (replicate 9 (0 ∷ 1 ∷ [])) 4 2)
 unfolding AllHold AllHoldBut
-nine_plans-alone = (λ h. (let e = h.few_plans in absurd (omega arith)),
-    (omega arith, ((apart, (apart, (apart, (apart, (apart, (apart, (apart, (apart, (apart, tt))))))))),
-    ((refl, (refl, (refl, (refl, (refl, (refl, (refl, (refl, (refl, tt))))))))), tt))))
+nine_plans-alone = (
+  λ h. (let e = h.few_plans in absurd (omega arith)),
+  (
+    omega arith,
+    (
+      (apart, (apart, (apart, (apart, (apart, (apart, (apart, (apart, (apart, tt))))))))),
+      ((refl, (refl, (refl, (refl, (refl, (refl, (refl, (refl, (refl, tt))))))))), tt),
+    ),
+  ),
+)
 
 pub no_schedule-alone : (ArePlans ((0 ∷ 1 ∷ []) ∷ (1 ∷ 1 ∷ []) ∷ []) 4 2 → ⊥) × AllHoldBut 2 (parts_of_plans ((0 ∷ 1 ∷ []) ∷ (1 ∷ 1 ∷ []) ∷ []) 4 2)
 unfolding AllHold AllHoldBut
@@ -293,8 +639,14 @@ other_copies-alone = (λ h. (let e = h.equal_copies.0 in absurd (omega arith)), 
 -- two copies, two ticks apart
 further : IsSchedule (schedule (0 ∷ 2 ∷ []) 4)
 unfolding DelaysRise
-further = record { some_copy = omega arith; few_copies = omega arith; delays_rise = ((omega arith, tt), (tt, tt));
-    short_delays = (omega arith, (omega arith, tt)); some_tick = omega arith; few_ticks = omega arith }
+further = record {
+  some_copy = omega arith;
+  few_copies = omega arith;
+  delays_rise = ((omega arith, tt), (tt, tt));
+  short_delays = (omega arith, (omega arith, tt));
+  some_tick = omega arith;
+  few_ticks = omega arith;
+}
 
 pub third_copy-ill : {W : Type 0} (o : W) → (IsWellFormed (third_copy o) → ⊥) × AllHoldBut 0 (parts_of_well_formed (third_copy o))
 unfolding AllHold AllHoldBut

@@ -74,8 +74,8 @@ there-past accepted x run complete past =
 front-without : (x : Command) (front run : List Item) → times (same_command x) (commands_of run) ≡ 0 → IsPrefix front run → 0 < times (same_command x) (commands_of front) → ⊥
 front-without x front run none prefix there =
     let e = ap (λ (l : List Item). times (same_command x) (commands_of l)) prefix.1
-        ∙ ap (times (same_command x)) (commands_of-append front prefix.0)
-        ∙ times-append (same_command x) (commands_of front) (commands_of prefix.0) in
+    ∙ ap (times (same_command x)) (commands_of-append front prefix.0)
+    ∙ times-append (same_command x) (commands_of front) (commands_of prefix.0) in
     omega arith
 
 -- where the command is late at two copies, no other front of the run ahead could be the run behind
@@ -204,11 +204,11 @@ head-mark accepted x a r rs n new chained complete late most behind =
     let same = late-beats x (r ∷ rs) in
     let falls = subst NeverRises (sym same) (chained-falls (r ∷ rs) chained.1) in
     let each = settle-each all (IsComplete all) (complete-rebuilt all) (map (with_late x) rs) falls.1
-        (all-map (IsComplete accepted) (IsComplete all) (with_late x) (complete-late accepted x) rs complete.1.1) in
+    (all-map (IsComplete accepted) (IsComplete all) (with_late x) (complete-late accepted x) rs complete.1.1) in
     let first = subst (IsFirstAtMost (beats (with_late x r))) (sym (settle-beats all (map (with_late x) rs) falls.1)) falls.0 in
     elim (ltb n (beats r)) as (λ v. ltb n (beats r) ≡ v
-        → is_repaired (with_late x a) (settle_one (accepted ++ x ∷ []) (with_late x r)
-        (settle (accepted ++ x ∷ []) (map (with_late x) rs))) ≡ ltb n (beats a)) [
+    → is_repaired (with_late x a) (settle_one (accepted ++ x ∷ []) (with_late x r)
+    (settle (accepted ++ x ∷ []) (map (with_late x) rs))) ≡ ltb n (beats a)) [
       | true ↦ λ further.
           let only : (s : List Item) → IsComplete (accepted ++ x ∷ []) s → beats s ≡ beats (with_late x r) → IsPrefix s (with_late x a) → s ≡ with_late x r =
           rw (ahead, own) (only-late accepted x r a new complete.1.0 complete.0 chained.0 late) in
@@ -261,8 +261,8 @@ arrival-marks accepted x (a ∷ rest) new chained complete late =
     let falls = falls-all a rest chained in
     let here = head-late x a rest falls late in
     elim (list_any (is_late_at x) rest) as (λ v. list_any (is_late_at x) rest ≡ v
-        → which_repaired (accepted ++ x ∷ []) (map (with_late x) (a ∷ rest))
-        ≡ map (λ run. ltb (last_late_clock x (a ∷ rest)) (beats run)) (a ∷ rest)) [
+    → which_repaired (accepted ++ x ∷ []) (map (with_late x) (a ∷ rest))
+    ≡ map (λ run. ltb (last_late_clock x (a ∷ rest)) (beats run)) (a ∷ rest)) [
       | true ↦ λ some. further accepted x a rest new chained complete some here (arrival-marks accepted x rest new chained.1 complete.1 some)
       | false ↦ λ none. alone accepted x a rest chained here none
     ]
@@ -284,10 +284,15 @@ further-first n (run ∷ behind) h =
     (λ (past : n < beats run).
     let more = further-first n behind h.1 in
     (suc more.0, more.1, rw (lt-ltb n (beats run) past) (ap (λ (marks : List Bool). true ∷ marks) more.2)))
-    (λ (most : beats run ≤ n).
-    (0, length (run ∷ behind), none-further n (run ∷ behind)
-        (most, all-weaker (λ r. beats r ≤ beats run) (λ r. beats r ≤ n) behind (λ r l. omega arith)
-        (falls-all run behind h)) ∙ none-marked (run ∷ behind)))
+    (λ (most : beats run ≤ n). (
+      0,
+      length (run ∷ behind),
+      none-further n (run ∷ behind) (
+        most,
+        all-weaker (λ r. beats r ≤ beats run) (λ r. beats r ≤ n) behind (λ r l. omega arith)
+            (falls-all run behind h),
+      ) ∙ none-marked (run ∷ behind),
+    ))
     (cases_lt n (beats run))
 
 -- which copies an arrival repairs: the first, as many as are told
@@ -298,10 +303,11 @@ late-marks :
     × AreFirst (which_repaired (accepted ++ x ∷ []) (proposed_by_arrival x runs))
 late-marks accepted x runs new chained complete late =
     let marks = arrival-marks accepted x runs new chained complete late in
-    let first = further-first (last_late_clock x runs) runs chained in
-    (ap (times (λ (b : Bool). b)) marks ∙ count-marks (λ run. ltb (last_late_clock x runs) (beats run)) runs,
-        marks-first (which_repaired (accepted ++ x ∷ []) (proposed_by_arrival x runs)) first.0 first.1
-        (marks ∙ first.2))
+    let first = further-first (last_late_clock x runs) runs chained in (
+      ap (times (λ (b : Bool). b)) marks ∙ count-marks (λ run. ltb (last_late_clock x runs) (beats run)) runs,
+      marks-first (which_repaired (accepted ++ x ∷ []) (proposed_by_arrival x runs)) first.0 first.1
+          (marks ∙ first.2),
+    )
 
 early-marks :
     (accepted : List Command) (x : Command) (runs : List (List Item)) → IsChained runs → list_any (is_late_at x) runs ≡ false
@@ -318,9 +324,9 @@ both-marks :
     × AreFirst (which_repaired (accepted ++ x ∷ []) (proposed_by_arrival x runs))
 both-marks accepted x runs new chained complete =
     elim (list_any (is_late_at x) runs) as (λ v. list_any (is_late_at x) runs ≡ v
-        → (repaired (accepted ++ x ∷ []) (proposed_by_arrival x runs)
-        ≡ cond v (times (λ run. ltb (last_late_clock x runs) (beats run)) runs) 0)
-        × AreFirst (which_repaired (accepted ++ x ∷ []) (proposed_by_arrival x runs)))
+    → (repaired (accepted ++ x ∷ []) (proposed_by_arrival x runs)
+    ≡ cond v (times (λ run. ltb (last_late_clock x runs) (beats run)) runs) 0)
+    × AreFirst (which_repaired (accepted ++ x ∷ []) (proposed_by_arrival x runs)))
     [ true ↦ λ late. late-marks accepted x runs new chained complete late | false ↦ λ none. early-marks accepted x runs chained none ]
     refl
 

@@ -121,9 +121,13 @@ next-fixed s e =
     (record { opening = refl; length = refl; plans = refl; copies = refl })
     (λ x h. record { opening = refl; length = refl; plans = refl; copies = refl })
     (λ x h. record { opening = refl; length = refl; plans = refl; copies = settle-length (s.accepted ++ x ∷ []) (proposed_by_arrival x s.runs) ∙ length-map s.runs (with_late x) })
-    (λ c h. record { opening = refl; length = refl; plans = refl;
-        copies = settle-length s.accepted (proposed_by_step s.accepted s.runs c)
-        ∙ length-set s.runs c (with_tick s.accepted (get_or s.runs c [])) })
+    (λ c h. record {
+      opening = refl;
+      length = refl;
+      plans = refl;
+      copies = settle-length s.accepted (proposed_by_step s.accepted s.runs c)
+          ∙ length-set s.runs c (with_tick s.accepted (get_or s.runs c []));
+    })
     (λ p h. record { opening = refl; length = refl; plans = refl; copies = refl })
 
 pub after-fixed : {W : Type 0} (es : List Event) (s : MirrorState W) → SameParts s (after s es)

@@ -44,8 +44,8 @@ equal_clocks accepted front whole less more prefix same =
     let rest = prefix.0 in
     let clock = ap beats prefix.1 ∙ beats-append front rest in
     let count = ap (λ (run : List Item). times (λ (x : Command). true) (commands_of run)) prefix.1
-        ∙ ap (times (λ (x : Command). true)) (commands_of-append front rest)
-        ∙ times-append (λ (x : Command). true) (commands_of front) (commands_of rest) in
+    ∙ ap (times (λ (x : Command). true)) (commands_of-append front rest)
+    ∙ times-append (λ (x : Command). true) (commands_of front) (commands_of rest) in
     let left = less (λ x. true) in
     let right = more (λ x. true) ∙ ap (λ (n : ℕ). times (λ (x : Command). true && ltb x.time n) accepted) (sym same) in
     prefix.1 ∙ ap (λ (run : List Item). front ++ run) (nothing-left rest (omega arith) (omega arith)) ∙ append-nil front
@@ -284,9 +284,14 @@ drain_within-ends :
     → (k m j : ℕ) (s : MirrorState W) → k ≡ m + j → IsNear l ds n m j s → IsDrained (drain_within k s)
 unfolding drain_within
 drain_within-ends l ds n rise zero m j s sum h = near-drained l ds n s
-    (record { length_is = h.length_is; delays_are = h.delays_are; copies_are = h.copies_are;
-    clock = (let c = h.clock in omega arith); staggered = h.staggered;
-    near = λ i there. (let a = h.near i there in omega arith) })
+    (record {
+      length_is = h.length_is;
+      delays_are = h.delays_are;
+      copies_are = h.copies_are;
+      clock = (let c = h.clock in omega arith);
+      staggered = h.staggered;
+      near = λ i there. (let a = h.near i there in omega arith);
+    })
 drain_within-ends l ds n rise (suc k) zero zero s sum h = absurd (omega arith)
 drain_within-ends l ds n rise (suc k) zero (suc j) s sum h =
     elim (is_drained s) as (λ v. is_drained s ≡ v → IsDrained (cond v s (drain_within k (turn s))))
@@ -360,10 +365,13 @@ drain_within-turns {W} (suc k) s =
       | true ↦ (0, omega arith, refl)
       | false ↦
           let more = drain_within-turns k (turn s) in
-          let same = (after-fixed (turn_events (length s.runs)) s).copies in
-          (suc more.0, (let most = more.1 in omega arith), more.2
-              ∙ ap (λ (c : ℕ). after (turn s) (turns_of c more.0)) same
-              ∙ sym (after-joined (turn_events (length s.runs)) (turns_of (length s.runs) more.0) s))
+          let same = (after-fixed (turn_events (length s.runs)) s).copies in (
+            suc more.0,
+            (let most = more.1 in omega arith),
+            more.2
+                ∙ ap (λ (c : ℕ). after (turn s) (turns_of c more.0)) same
+                ∙ sym (after-joined (turn_events (length s.runs)) (turns_of (length s.runs) more.0) s),
+          )
     ]
 
 pub draining_is_turns : {W : Type 0} (s : MirrorState W) → (n : ℕ) × (n ≤ drain_bound s) × (drain s ≡ after s (turns_of (length s.runs) n))

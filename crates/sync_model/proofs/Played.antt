@@ -29,7 +29,9 @@ pub played :
 played opening length plans spare plan_spare es rise fit =
     let start = opening_state opening length plans spare plan_spare in
     let here = staggered_along es (opening_state opening length plans spare plan_spare) fit (opening_staggered opening length plans spare plan_spare) in
-    let fixed = after-fixed es (opening_state opening length plans spare plan_spare) in
-    (here, ends_in_order (after (opening_state opening length plans spare plan_spare) es)
-        (rise-each (after start es).plans (after start es).plan
-        (subst (AllByRecursion DelaysRise) (sym fixed.plans) rise)) here)
+    let fixed = after-fixed es (opening_state opening length plans spare plan_spare) in (
+      here,
+      ends_in_order (after (opening_state opening length plans spare plan_spare) es)
+          (rise-each (after start es).plans (after start es).plan
+          (subst (AllByRecursion DelaysRise) (sym fixed.plans) rise)) here,
+    )

@@ -106,9 +106,14 @@ unfolding IsComplete
 complete-past accepted x run past complete test =
     ap (times test) (commands_of-append run (Cmd x ∷ []))
     ∙ times-append test (commands_of run) (commands_of (Cmd x ∷ []))
-    ∙ omega (arith, complete test, one-command test x,
-        times-append (λ (y : Command). test y && ltb y.time (beats run)) accepted (x ∷ []),
-        one-accepted test x (beats run), past-counts test x (beats run) past)
+    ∙ omega (
+      arith,
+      complete test,
+      one-command test x,
+      times-append (λ (y : Command). test y && ltb y.time (beats run)) accepted (x ∷ []),
+      one-accepted test x (beats run),
+      past-counts test x (beats run) past,
+    )
     ∙ ap (λ (n : ℕ). times (λ (y : Command). test y && ltb y.time n) (accepted ++ x ∷ [])) (sym (beats-command x run))
 
 complete-due :

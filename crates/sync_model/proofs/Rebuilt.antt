@@ -215,8 +215,8 @@ late-rebuilt accepted x (a ∷ r ∷ rs) (suc m) new chained complete h =
     let late_here : x.time < beats a = (let late = h.late in omega arith) in
     let own = with_late-past x a late_here in
     let behind : settle (accepted ++ x ∷ []) (map (with_late x) (r ∷ rs))
-        ≡ rebuilt (accepted ++ x ∷ []) r (get_or (r ∷ rs) m [] ++ Cmd x ∷ [])
-        ∷ rebuild (accepted ++ x ∷ []) (get_or (r ∷ rs) m [] ++ Cmd x ∷ []) m rs =
+    ≡ rebuilt (accepted ++ x ∷ []) r (get_or (r ∷ rs) m [] ++ Cmd x ∷ [])
+    ∷ rebuild (accepted ++ x ∷ []) (get_or (r ∷ rs) m [] ++ Cmd x ∷ []) m rs =
     late-rebuilt accepted x (r ∷ rs) m new chained.1 complete.1 more in
     let marks = arrival-marks accepted x (a ∷ r ∷ rs) new chained complete (late-any x (a ∷ r ∷ rs) (suc m) h) in
     let clock = last_late-at x (a ∷ r ∷ rs) (suc m) chained h in
@@ -230,14 +230,14 @@ late-rebuilt accepted x (a ∷ r ∷ rs) (suc m) new chained complete h =
     let high = beats-front r a chained.0 in
     let clock_kept = beats-with_late x a in
     elim (ltb (beats (get_or (r ∷ rs) m [])) (beats a)) as (λ v. ltb (beats (get_or (r ∷ rs) m [])) (beats a) ≡ v
-        → settle_one (accepted ++ x ∷ []) (with_late x a) (settle (accepted ++ x ∷ []) (map (with_late x) (r ∷ rs)))
-        ≡ rebuilt (accepted ++ x ∷ []) a b ∷ rebuilt (accepted ++ x ∷ []) r b ∷ rebuild (accepted ++ x ∷ []) b m rs) [
+    → settle_one (accepted ++ x ∷ []) (with_late x a) (settle (accepted ++ x ∷ []) (map (with_late x) (r ∷ rs)))
+    ≡ rebuilt (accepted ++ x ∷ []) a b ∷ rebuilt (accepted ++ x ∷ []) r b ∷ rebuild (accepted ++ x ∷ []) b m rs) [
       | true ↦ λ further.
           let head_at : is_repaired (with_late x a) (rebuilt (accepted ++ x ∷ []) r b ∷ rebuild (accepted ++ x ∷ []) b m rs) ≡ true = ap (is_repaired (with_late x a)) (sym behind) ∙ mark ∙ further in
           ap (settle_one (accepted ++ x ∷ []) (with_late x a)) behind
           ∙ settle_one-repaired (accepted ++ x ∷ []) (with_late x a) second tail head_at
           ∙ ap (λ (l : List Item). l ∷ second ∷ tail) (rebuilt_twice (accepted ++ x ∷ []) (with_late x a) r b
-              (omega arith) (omega arith) ∙ ap (λ (k : ℕ). b ++ ordered (accepted ++ x ∷ []) (beats b) k) clock_kept)
+          (omega arith) (omega arith) ∙ ap (λ (k : ℕ). b ++ ordered (accepted ++ x ∷ []) (beats b) k) clock_kept)
       | false ↦ λ level.
           let le = ltb-false (beats (get_or (r ∷ rs) m [])) (beats a) level in
           let equal : a ≡ get_or (r ∷ rs) m [] = equal_clocks accepted (get_or (r ∷ rs) m []) a (all-at (IsComplete accepted) (r ∷ rs) m [] complete.1 in_rest) complete.0 front (omega arith) in

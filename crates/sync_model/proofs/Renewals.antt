@@ -200,8 +200,8 @@ repaired-differs accepted runs b c chained complete there room apart settled ord
     (λ (h : IsPrefix (get_or runs b []) q).
     let up = beats-front (get_or runs b []) q h in
     let equal = equal_clocks accepted (get_or runs b []) q (complete-at accepted runs b complete)
-        (complete-tick accepted (get_or runs (suc b) []) (complete-at accepted runs (suc b) complete)) h
-        (omega arith) in
+    (complete-tick accepted (get_or runs (suc b) []) (complete-at accepted runs (suc b) complete)) h
+    (omega arith) in
     both_ways (begins_with (get_or runs b []) q) apart ((begins_with-Decides (get_or runs b []) q).1 ([], sym equal ∙ sym (append-nil q))))
     (fronts-compare q (get_or runs b []) (get_or runs c []) front_new front_old)
   where
@@ -218,8 +218,8 @@ stepped accepted runs zero chained complete room there = stepped-alone accepted 
 stepped accepted runs (suc b) chained complete room there =
     let q = with_tick accepted (get_or runs (suc b) []) in
     elim (begins_with (get_or runs b []) (with_tick accepted (get_or runs (suc b) []))) as
-        (λ v. begins_with (get_or runs b []) (with_tick accepted (get_or runs (suc b) [])) ≡ v
-        → IsStepped accepted runs (suc b)) [
+    (λ v. begins_with (get_or runs b []) (with_tick accepted (get_or runs (suc b) [])) ≡ v
+    → IsStepped accepted runs (suc b)) [
       | true ↦ λ front. stepped-alone accepted runs (suc b) (step_front accepted runs b chained front)
       | false ↦ λ apart.
           let closed = step_apart accepted runs b chained complete room there apart in

@@ -166,7 +166,7 @@ step-marks accepted (a ∷ r ∷ rs) (suc c) chained complete room there apart =
     let falls = subst NeverRises (sym (step-beats accepted (r ∷ rs) (suc c))) (set-falls (r ∷ rs) (suc c) (chained-falls (r ∷ rs) chained.1) room) in
     let behind = set rs c q in
     let each = settle-each accepted (IsComplete accepted) (complete-rebuilt accepted) (set rs c q) falls.1
-        (all-set (IsComplete accepted) (with_tick accepted) [] (complete-tick accepted) rs c complete.1.1) in
+    (all-set (IsComplete accepted) (with_tick accepted) [] (complete-tick accepted) rs c complete.1.1) in
     let first = subst (IsFirstAtMost (beats r)) (sym (settle-beats accepted (set rs c q) falls.1)) falls.0 in
     let head : is_repaired r (settle accepted (set rs c q)) ≡ true = cc in
     let here = repaired-goes_on accepted r a (settle accepted (set rs c q)) (only-front accepted r a complete.1.0 chained.0) each first head in
@@ -229,9 +229,9 @@ set-marks accepted runs (suc c) chained complete room there =
     let q = with_tick accepted (get_or runs (suc c) []) in
     let qs = proposed_by_step accepted runs (suc c) in
     elim (begins_with (get_or runs c []) (with_tick accepted (get_or runs (suc c) []))) as
-        (λ v. begins_with (get_or runs c []) (with_tick accepted (get_or runs (suc c) [])) ≡ v → (m : ℕ)
-        × (which_repaired accepted (proposed_by_step accepted runs (suc c)) ≡ replicate (cond v 0 (suc c)) true
-        ++ replicate m false)) [
+    (λ v. begins_with (get_or runs c []) (with_tick accepted (get_or runs (suc c) [])) ≡ v → (m : ℕ)
+    × (which_repaired accepted (proposed_by_step accepted runs (suc c)) ≡ replicate (cond v 0 (suc c)) true
+    ++ replicate m false)) [
       | true ↦ λ front. (length (proposed_by_step accepted runs (suc c)), front-marks accepted qs (front-chained accepted runs c chained front))
       | false ↦ λ apart.
           (length (drop (suc c) runs), step-marks accepted runs c chained complete room there apart ∙ ap (λ (l : List Bool). replicate (suc c) true ++ l) (none-marked (drop (suc c) runs)))

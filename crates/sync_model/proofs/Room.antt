@@ -36,8 +36,8 @@ next-room s n m Tick =
     elim (is_over s) as (λ v. without_room (cond v (with_room s n m) (moved (with_room s n m))) ≡ without_room (cond v s (moved s))) [ true ↦ refl | false ↦ refl ]
 next-room s n m (Arrive x) =
     elim (is_repeat s x) as (λ v. without_room (cond v (with_room s n m)
-        (cond (is_late s x) (away (with_room s n m) x) (taken (with_room s n m) x)))
-        ≡ without_room (cond v s (cond (is_late s x) (away s x) (taken s x)))) [
+    (cond (is_late s x) (away (with_room s n m) x) (taken (with_room s n m) x)))
+    ≡ without_room (cond v s (cond (is_late s x) (away s x) (taken s x)))) [
       | true ↦ refl
       | false ↦
           elim (is_late s x) as (λ v. without_room (cond v (away (with_room s n m) x) (taken (with_room s n m) x)) ≡ without_room (cond v (away s x) (taken s x)))
@@ -201,8 +201,8 @@ from_history_kept {W} s e room here =
     ∙ sym (after-append (opening_of s) s.history (e ∷ []))
     ∙ ap (λ (t : MirrorState W). after t (s.history ++ e ∷ [])) (sym (opening_of-next s e room h))
     ∙ ap (λ (es : List Event). after (opening_state (next s e).opening (next s e).length (next s e).plans
-        ((next s e).spare + times is_arrival es) ((next s e).plan_spare + times is_restagger es))
-        (s.history ++ e ∷ [])) grown)
+    ((next s e).spare + times is_arrival es) ((next s e).plan_spare + times is_restagger es))
+    (s.history ++ e ∷ [])) grown)
     here
 
 pub from_history-after : {W : Type 0} (es : List Event) (s : MirrorState W) → HasRoomAlong s es → IsFromHistory s → IsFromHistory (after s es)

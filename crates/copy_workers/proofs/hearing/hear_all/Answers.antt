@@ -29,7 +29,7 @@ loop-i-preserved g c = record {
       c.args.limit c.args.foreign low few (let long = c.loop-i.auto.receives in omega arith) c.index-receives-i.is c.hear_one.ensures.heard (c.loop-i.invariant.heard job first asked s low few f);
   others =
       up_to-more (λ a b. Unit {0}) c.loop-i.i c.args.receives.now c.loop-i.receives c.index-receives-i.result
-          c.hear_one.new.receive (let long = c.loop-i.auto.receives in omega arith) tt c.loop-i.invariant.others;
+      c.hear_one.new.receive (let long = c.loop-i.auto.receives in omega arith) tt c.loop-i.invariant.others;
   calls = (let a = c.hear_one.ensures.calls in let b = c.loop-i.invariant.calls in omega arith);
   grows = (let a = c.hear_one.ensures.grows in let b = c.loop-i.invariant.grows in omega arith);
   within = λ few. c.hear_one.ensures.within (c.loop-i.invariant.within few);

@@ -14,8 +14,8 @@ pub returns-in_err-rest-clause-read : goal.returns-in_err-rest-clause-read
 returns-in_err-rest-clause-read c =
     let p = err_from_is_err_and c.from_residual.result c.from_residual.ensures.1 in
     rw (p.1, p.2) (to_stop (take_by (net_table c.args.game.now)) is_last c.loop-tail.line c.loop-tail.tail
-        (lines_of c.loop-tail.rest.now) _ c.in_err-rest.field-0.0 (sym c.is_done.ensures ∙ c.loop-tail-test.true)
-        c.in_err-rest.ensures.read c.loop-tail.invariant.0)
+    (lines_of c.loop-tail.rest.now) _ c.in_err-rest.field-0.0 (sym c.is_done.ensures ∙ c.loop-tail-test.true)
+    c.in_err-rest.ensures.read c.loop-tail.invariant.0)
 
 pub loop-tail-preserved : goal.loop-tail-preserved
 loop-tail-preserved c =
@@ -33,5 +33,5 @@ returns-clause-read c = to_end (take_by (net_table c.args.game.now)) is_last c.l
 pub returns-clause-sound : goal.returns-clause-sound
 returns-clause-sound c =
     read_lossy_lines c.args.game.now c.requires.game _ _ _
-        (to_end (take_by (net_table c.args.game.now)) is_last c.loop-tail.line c.loop-tail.tail
-        (lines_of c.loop-tail.rest.now) _ (sym c.is_done.ensures ∙ c.loop-tail-test.false) c.loop-tail.invariant.0)
+    (to_end (take_by (net_table c.args.game.now)) is_last c.loop-tail.line c.loop-tail.tail
+    (lines_of c.loop-tail.rest.now) _ (sym c.is_done.ensures ∙ c.loop-tail-test.false) c.loop-tail.invariant.0)

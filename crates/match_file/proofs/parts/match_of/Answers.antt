@@ -16,6 +16,16 @@ homes_of-requires c = rw c.as_slice-4.ensures (counts_of c.args.opening c.args.b
 
 pub invariant_of-result : goal.invariant_of-result
 invariant_of-result c =
-    rw (c.ground_of.ensures, c.as_slice-2.ensures, c.pickups_of.ensures, c.as_slice-3.ensures, c.homes_of.ensures,
-        c.as_slice-4.ensures, c.in_ok-roster.ensures, c.as_slice.ensures, c.into_list.ensures, c.into_seq.ensures)
-        (is_match_of c.args.opening c.args.body c.requires)
+    rw (
+      c.ground_of.ensures,
+      c.as_slice-2.ensures,
+      c.pickups_of.ensures,
+      c.as_slice-3.ensures,
+      c.homes_of.ensures,
+      c.as_slice-4.ensures,
+      c.in_ok-roster.ensures,
+      c.as_slice.ensures,
+      c.into_list.ensures,
+      c.into_seq.ensures,
+    )
+    (is_match_of c.args.opening c.args.body c.requires)

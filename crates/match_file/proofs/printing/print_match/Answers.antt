@@ -18,8 +18,8 @@ returns c =
       script = c.m.inside.script;
     } in
     rw (← c.m.view_is) (match_puts m _ _ _ _ _ _ _ _ (rw (← c.m.view_is, c.new-out.ensures.items) at
-        c.in_ok-push_opening.ensures) (rw c.as_slice.ensures at c.in_ok-push_plans.ensures) c.in_ok-push_walls.ensures
-        (rw c.as_slice-2.ensures.value at c.in_ok-push_pickups.ensures)
-        (rw c.as_slice-3.ensures.value at c.in_ok-push_players.ensures)
-        (rw c.as_slice-4.ensures.commands at c.in_ok-push_commands.ensures)
-        (rw c.as_slice-5.ensures at c.in_ok-push_script.ensures) c.in_ok-push_whole.ensures)
+    c.in_ok-push_opening.ensures) (rw c.as_slice.ensures at c.in_ok-push_plans.ensures) c.in_ok-push_walls.ensures
+    (rw c.as_slice-2.ensures.value at c.in_ok-push_pickups.ensures)
+    (rw c.as_slice-3.ensures.value at c.in_ok-push_players.ensures)
+    (rw c.as_slice-4.ensures.commands at c.in_ok-push_commands.ensures)
+    (rw c.as_slice-5.ensures at c.in_ok-push_script.ensures) c.in_ok-push_whole.ensures)

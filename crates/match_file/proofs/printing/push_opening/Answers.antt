@@ -18,5 +18,5 @@ returns c =
       script = c.m.inside.script;
     } in
     rw (← c.m.view_is) (opening_puts m _ _ _ _ _ _ _ c.in_ok-push_head.ensures c.in_ok-push_number.ensures
-        c.in_ok-push_grid.ensures (rw c.from.ensures at c.in_ok-push_number-2.ensures)
-        (rw c.as_slice.ensures at c.in_ok-push_numbers.ensures) c.in_ok-push_number-3.ensures)
+    c.in_ok-push_grid.ensures (rw c.from.ensures at c.in_ok-push_number-2.ensures)
+    (rw c.as_slice.ensures at c.in_ok-push_numbers.ensures) c.in_ok-push_number-3.ensures)

@@ -23,15 +23,15 @@ pub returns-clause-stands : goal.returns-clause-stands
 returns-clause-stands g c s h =
     let then = with_items_is c.args.self.now.receives c.hear_all-self.new.receives (c.hear_all-self.auto.receives ∙ c.deref_mut.ensures.len) in
     let begins = subst (λ (l : List LinkReceive). HeardTo s.job s.receives s.asked h.stands.state l
-        c.args.self.now.marks c.args.self.now.taken (g.P.Post.asked c.args.post.now) 0)
-        (sym c.deref_mut.ensures.value)
+    c.args.self.now.marks c.args.self.now.taken (g.P.Post.asked c.args.post.now) 0)
+    (sym c.deref_mut.ensures.value)
     (hear-begins s c.args.self.now _ _ _ h) in
     let ends = c.hear_all-self.ensures.heard s.job s.receives s.asked h.stands.state (sym h.stands.limit) (sym h.stands.foreign) begins in
     let seven = hear-seven s c.args.self.now _ _ _ _ h.stands in
     hear-ends s c.args.self.now _ _ _ _ _ _ _ (length c.hear_all-self.new.receives) h
     (subst (λ (l : List LinkReceive). HeardTo s.job s.receives s.asked h.stands.state l c.hear_all-self.new.marks
-        c.hear_all-self.result (g.P.Post.asked c.hear_all-self.new.post) (length c.hear_all-self.new.receives))
-        (sym then) ends)
+    c.hear_all-self.result (g.P.Post.asked c.hear_all-self.new.post) (length c.hear_all-self.new.receives))
+    (sym then) ends)
     (ap (λ (l : List LinkReceive). length l) (sym then))
     (let a = c.hear_all-self.ensures.calls in let b = ap (λ (l : List LinkReceive). length l) c.deref_mut.ensures.value in omega arith)
     c.hear_all-self.ensures.grows c.hear_all-self.ensures.within refl refl refl refl refl refl refl

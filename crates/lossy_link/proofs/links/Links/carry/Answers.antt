@@ -16,8 +16,8 @@ returns-clause-state c =
     let below : c.args.from < length n.rows.items = subst (λ (s : NetLinks). c.args.from < length s.rows) (sym c.self.view_is) c.requires.0 in
     ap (λ (rows : List (List LinkState)). record { room = n.issued.room; issued = n.issued.items; rows = rows })
     (row-set (λ row. changed_at (after_carry c.args.packet) c.args.to row) n.rows.items n.rows.items c.args.from
-        c.from.result c.index_mut.result.now c.carry.new.self c.from.ensures refl below c.index_mut.ensures.value
-        c.carry.ensures.state)
+    c.from.result c.index_mut.result.now c.carry.new.self c.from.ensures refl below c.index_mut.ensures.value
+    c.carry.ensures.state)
     ∙ ap (λ (s : NetLinks). next_links c.args.m.now.commands s (Carry c.args.from c.args.to c.args.packet)) c.self.view_is
 
 pub returns-clause-script : goal.returns-clause-script

@@ -55,8 +55,8 @@ make_each-requires-clause-lines g c =
     let way : IsNet m opening n = subst (IsNet m opening) (sym (c.requires.fresh.1 ∙ ap (λ (y : LossyData). made_net opening y) (sym c.x.view_is))) (made-way x opening c.x.invariant) in
     let made : c.as_slice.result.now ≡ rows_lines 0 n.links.rows =
     c.as_slice.ensures.value ∙ c.in_ok-push_left.ensures
-        ∙ ap (λ (l : List NetLine). l ++ rows_lines 0 c.self.inside.links.rows) c.new-lines.ensures.items
-        ∙ ap (λ (k : NetState _). rows_lines 0 k.links.rows) c.self.view_is in
+    ∙ ap (λ (l : List NetLine). l ++ rows_lines 0 c.self.inside.links.rows) c.new-lines.ensures.items
+    ∙ ap (λ (k : NetState _). rows_lines 0 k.links.rows) c.self.view_is in
     subst (λ (ls : List NetLine). AllByRecursion (IsThere m.mirrors) ls) (sym made) (left-there m opening n way)
 
 pub make_each-requires-clause-net : goal.make_each-requires-clause-net
@@ -79,8 +79,8 @@ returns-in_err-make_each-clause-err g c =
     let way : IsNet m opening n = subst (IsNet m opening) (sym (c.requires.fresh.1 ∙ ap (λ (y : LossyData). made_net opening y) (sym c.x.view_is))) (made-way x opening c.x.invariant) in
     let made : c.as_slice.result.now ≡ rows_lines 0 n.links.rows =
     c.as_slice.ensures.value ∙ c.in_ok-push_left.ensures
-        ∙ ap (λ (l : List NetLine). l ++ rows_lines 0 c.self.inside.links.rows) c.new-lines.ensures.items
-        ∙ ap (λ (k : NetState _). rows_lines 0 k.links.rows) c.self.view_is in
+    ∙ ap (λ (l : List NetLine). l ++ rows_lines 0 c.self.inside.links.rows) c.new-lines.ensures.items
+    ∙ ap (λ (k : NetState _). rows_lines 0 k.links.rows) c.self.view_is in
     let show : Showing _ = record { rules = g.G.Game.rules; lines = g.G.Shown.lines; names = m.names } in
     let old = c.args.out.now.items in
     let lost = net_text show m.commands n (rows_lines 0 n.links.rows) in
@@ -92,8 +92,8 @@ returns-in_err-make_each-clause-err g c =
     on_err_of c.from_residual-in_err-make_each.result
     (to_x (λ y. IsFrontPut old c.make_each.new.out.items (due y))
     (front-first old c.make_each.new.out.items lost (drains ++ (shown ++ done_line))
-        (subst (λ (ls : List NetLine). IsFrontPut old c.make_each.new.out.items (net_text show m.commands n ls)) made
-        c.in_err-make_each.ensures.err)))
+    (subst (λ (ls : List NetLine). IsFrontPut old c.make_each.new.out.items (net_text show m.commands n ls)) made
+    c.in_err-make_each.ensures.err)))
 
 pub returns-in_err-drain-clause-err : goal.returns-in_err-drain-clause-err
 returns-in_err-drain-clause-err g c =
@@ -105,8 +105,8 @@ returns-in_err-drain-clause-err g c =
     let way : IsNet m opening n = subst (IsNet m opening) (sym (c.requires.fresh.1 ∙ ap (λ (y : LossyData). made_net opening y) (sym c.x.view_is))) (made-way x opening c.x.invariant) in
     let made : c.as_slice.result.now ≡ rows_lines 0 n.links.rows =
     c.as_slice.ensures.value ∙ c.in_ok-push_left.ensures
-        ∙ ap (λ (l : List NetLine). l ++ rows_lines 0 c.self.inside.links.rows) c.new-lines.ensures.items
-        ∙ ap (λ (k : NetState _). rows_lines 0 k.links.rows) c.self.view_is in
+    ∙ ap (λ (l : List NetLine). l ++ rows_lines 0 c.self.inside.links.rows) c.new-lines.ensures.items
+    ∙ ap (λ (k : NetState _). rows_lines 0 k.links.rows) c.self.view_is in
     let show : Showing _ = record { rules = g.G.Game.rules; lines = g.G.Shown.lines; names = m.names } in
     let old = c.args.out.now.items in
     let lost = net_text show m.commands n (rows_lines 0 n.links.rows) in
@@ -117,15 +117,15 @@ returns-in_err-drain-clause-err g c =
     let due : LossyData → List ℕ = λ y. end_text (record { rules = g.G.Game.rules; lines = g.G.Shown.lines; names = y.game.names }) y.game.commands n in
     let put1 : c.make_each.new.out.items ≡ old ++ lost = c.in_ok-make_each.ensures.ok ∙ ap (λ (ls : List NetLine). old ++ net_text show m.commands n ls) made in
     let hall : c.self-2.inside.hall ≡ closed.mirrors = ap (λ (k : NetState _). k.mirrors)
-        (c.self-2.view_is ∙ c.in_ok-make_each.ensures.state
-        ∙ ap (λ (ls : List NetLine). after_net m.commands n ls) made) in
+    (c.self-2.view_is ∙ c.in_ok-make_each.ensures.state
+    ∙ ap (λ (ls : List NetLine). after_net m.commands n ls) made) in
     on_err_of c.from_residual-in_err-drain.result
     (to_x (λ y. IsFrontPut old c.drain.new.out.items (due y))
     (front-second old c.make_each.new.out.items c.drain.new.out.items lost (drains ++ (shown ++ done_line)) put1
     (front-first c.make_each.new.out.items c.drain.new.out.items drains (shown ++ done_line)
     (subst (λ (ss : List (MirrorState _)). IsFrontPut c.make_each.new.out.items c.drain.new.out.items
-        (drains_text 0 ss)) hall (draining-front c.self-2.inside.hall c.drain.new.self c.make_each.new.out.items
-        c.drain.new.out.items (net_mirror opening m) c.in_err-drain.ensures.stopped)))))
+    (drains_text 0 ss)) hall (draining-front c.self-2.inside.hall c.drain.new.self c.make_each.new.out.items
+    c.drain.new.out.items (net_mirror opening m) c.in_err-drain.ensures.stopped)))))
 
 pub returns-in_err-show-clause-err : goal.returns-in_err-show-clause-err
 returns-in_err-show-clause-err g c =
@@ -137,8 +137,8 @@ returns-in_err-show-clause-err g c =
     let way : IsNet m opening n = subst (IsNet m opening) (sym (c.requires.fresh.1 ∙ ap (λ (y : LossyData). made_net opening y) (sym c.x.view_is))) (made-way x opening c.x.invariant) in
     let made : c.as_slice.result.now ≡ rows_lines 0 n.links.rows =
     c.as_slice.ensures.value ∙ c.in_ok-push_left.ensures
-        ∙ ap (λ (l : List NetLine). l ++ rows_lines 0 c.self.inside.links.rows) c.new-lines.ensures.items
-        ∙ ap (λ (k : NetState _). rows_lines 0 k.links.rows) c.self.view_is in
+    ∙ ap (λ (l : List NetLine). l ++ rows_lines 0 c.self.inside.links.rows) c.new-lines.ensures.items
+    ∙ ap (λ (k : NetState _). rows_lines 0 k.links.rows) c.self.view_is in
     let show : Showing _ = record { rules = g.G.Game.rules; lines = g.G.Shown.lines; names = m.names } in
     let old = c.args.out.now.items in
     let lost = net_text show m.commands n (rows_lines 0 n.links.rows) in
@@ -149,8 +149,8 @@ returns-in_err-show-clause-err g c =
     let due : LossyData → List ℕ = λ y. end_text (record { rules = g.G.Game.rules; lines = g.G.Shown.lines; names = y.game.names }) y.game.commands n in
     let put1 : c.make_each.new.out.items ≡ old ++ lost = c.in_ok-make_each.ensures.ok ∙ ap (λ (ls : List NetLine). old ++ net_text show m.commands n ls) made in
     let hall : c.self-2.inside.hall ≡ closed.mirrors = ap (λ (k : NetState _). k.mirrors)
-        (c.self-2.view_is ∙ c.in_ok-make_each.ensures.state
-        ∙ ap (λ (ls : List NetLine). after_net m.commands n ls) made) in
+    (c.self-2.view_is ∙ c.in_ok-make_each.ensures.state
+    ∙ ap (λ (ls : List NetLine). after_net m.commands n ls) made) in
     let put2 : c.drain.new.out.items ≡ c.make_each.new.out.items ++ drains = c.in_ok-drain.ensures.text ∙ ap (λ (ss : List (MirrorState _)). c.make_each.new.out.items ++ drains_text 0 ss) hall in
     let drained : c.drain.new.self ≡ map (λ s. drain s) closed.mirrors = c.in_ok-drain.ensures.state ∙ ap (λ (ss : List (MirrorState _)). map (λ s. drain s) ss) hall in
     let named : mirrors_text (record { rules = g.G.Game.rules; lines = g.G.Shown.lines; names = c.m.inside.roster }) 0 c.drain.new.self ≡ shown =
@@ -173,8 +173,8 @@ returns-clause-text g c =
     let way : IsNet m opening n = subst (IsNet m opening) (sym (c.requires.fresh.1 ∙ ap (λ (y : LossyData). made_net opening y) (sym c.x.view_is))) (made-way x opening c.x.invariant) in
     let made : c.as_slice.result.now ≡ rows_lines 0 n.links.rows =
     c.as_slice.ensures.value ∙ c.in_ok-push_left.ensures
-        ∙ ap (λ (l : List NetLine). l ++ rows_lines 0 c.self.inside.links.rows) c.new-lines.ensures.items
-        ∙ ap (λ (k : NetState _). rows_lines 0 k.links.rows) c.self.view_is in
+    ∙ ap (λ (l : List NetLine). l ++ rows_lines 0 c.self.inside.links.rows) c.new-lines.ensures.items
+    ∙ ap (λ (k : NetState _). rows_lines 0 k.links.rows) c.self.view_is in
     let show : Showing _ = record { rules = g.G.Game.rules; lines = g.G.Shown.lines; names = m.names } in
     let old = c.args.out.now.items in
     let lost = net_text show m.commands n (rows_lines 0 n.links.rows) in
@@ -185,8 +185,8 @@ returns-clause-text g c =
     let due : LossyData → List ℕ = λ y. end_text (record { rules = g.G.Game.rules; lines = g.G.Shown.lines; names = y.game.names }) y.game.commands n in
     let put1 : c.make_each.new.out.items ≡ old ++ lost = c.in_ok-make_each.ensures.ok ∙ ap (λ (ls : List NetLine). old ++ net_text show m.commands n ls) made in
     let hall : c.self-2.inside.hall ≡ closed.mirrors = ap (λ (k : NetState _). k.mirrors)
-        (c.self-2.view_is ∙ c.in_ok-make_each.ensures.state
-        ∙ ap (λ (ls : List NetLine). after_net m.commands n ls) made) in
+    (c.self-2.view_is ∙ c.in_ok-make_each.ensures.state
+    ∙ ap (λ (ls : List NetLine). after_net m.commands n ls) made) in
     let put2 : c.drain.new.out.items ≡ c.make_each.new.out.items ++ drains = c.in_ok-drain.ensures.text ∙ ap (λ (ss : List (MirrorState _)). c.make_each.new.out.items ++ drains_text 0 ss) hall in
     let drained : c.drain.new.self ≡ map (λ s. drain s) closed.mirrors = c.in_ok-drain.ensures.state ∙ ap (λ (ss : List (MirrorState _)). map (λ s. drain s) ss) hall in
     let named : mirrors_text (record { rules = g.G.Game.rules; lines = g.G.Shown.lines; names = c.m.inside.roster }) 0 c.drain.new.self ≡ shown =
@@ -210,8 +210,8 @@ returns-clause-err g c =
     let way : IsNet m opening n = subst (IsNet m opening) (sym (c.requires.fresh.1 ∙ ap (λ (y : LossyData). made_net opening y) (sym c.x.view_is))) (made-way x opening c.x.invariant) in
     let made : c.as_slice.result.now ≡ rows_lines 0 n.links.rows =
     c.as_slice.ensures.value ∙ c.in_ok-push_left.ensures
-        ∙ ap (λ (l : List NetLine). l ++ rows_lines 0 c.self.inside.links.rows) c.new-lines.ensures.items
-        ∙ ap (λ (k : NetState _). rows_lines 0 k.links.rows) c.self.view_is in
+    ∙ ap (λ (l : List NetLine). l ++ rows_lines 0 c.self.inside.links.rows) c.new-lines.ensures.items
+    ∙ ap (λ (k : NetState _). rows_lines 0 k.links.rows) c.self.view_is in
     let show : Showing _ = record { rules = g.G.Game.rules; lines = g.G.Shown.lines; names = m.names } in
     let old = c.args.out.now.items in
     let lost = net_text show m.commands n (rows_lines 0 n.links.rows) in
@@ -222,8 +222,8 @@ returns-clause-err g c =
     let due : LossyData → List ℕ = λ y. end_text (record { rules = g.G.Game.rules; lines = g.G.Shown.lines; names = y.game.names }) y.game.commands n in
     let put1 : c.make_each.new.out.items ≡ old ++ lost = c.in_ok-make_each.ensures.ok ∙ ap (λ (ls : List NetLine). old ++ net_text show m.commands n ls) made in
     let hall : c.self-2.inside.hall ≡ closed.mirrors = ap (λ (k : NetState _). k.mirrors)
-        (c.self-2.view_is ∙ c.in_ok-make_each.ensures.state
-        ∙ ap (λ (ls : List NetLine). after_net m.commands n ls) made) in
+    (c.self-2.view_is ∙ c.in_ok-make_each.ensures.state
+    ∙ ap (λ (ls : List NetLine). after_net m.commands n ls) made) in
     let put2 : c.drain.new.out.items ≡ c.make_each.new.out.items ++ drains = c.in_ok-drain.ensures.text ∙ ap (λ (ss : List (MirrorState _)). c.make_each.new.out.items ++ drains_text 0 ss) hall in
     let drained : c.drain.new.self ≡ map (λ s. drain s) closed.mirrors = c.in_ok-drain.ensures.state ∙ ap (λ (ss : List (MirrorState _)). map (λ s. drain s) ss) hall in
     let named : mirrors_text (record { rules = g.G.Game.rules; lines = g.G.Shown.lines; names = c.m.inside.roster }) 0 c.drain.new.self ≡ shown =
@@ -247,8 +247,8 @@ returns-clause-ended g c =
     let way : IsNet m opening n = subst (IsNet m opening) (sym (c.requires.fresh.1 ∙ ap (λ (y : LossyData). made_net opening y) (sym c.x.view_is))) (made-way x opening c.x.invariant) in
     let made : c.as_slice.result.now ≡ rows_lines 0 n.links.rows =
     c.as_slice.ensures.value ∙ c.in_ok-push_left.ensures
-        ∙ ap (λ (l : List NetLine). l ++ rows_lines 0 c.self.inside.links.rows) c.new-lines.ensures.items
-        ∙ ap (λ (k : NetState _). rows_lines 0 k.links.rows) c.self.view_is in
+    ∙ ap (λ (l : List NetLine). l ++ rows_lines 0 c.self.inside.links.rows) c.new-lines.ensures.items
+    ∙ ap (λ (k : NetState _). rows_lines 0 k.links.rows) c.self.view_is in
     let closed = closed_net m.commands n in
     let after_lines = c.self-2.view_is ∙ c.in_ok-make_each.ensures.state ∙ ap (λ (ls : List NetLine). after_net m.commands n ls) made in
     let drained : c.drain.new.self ≡ map (λ s. drain s) closed.mirrors = c.in_ok-drain.ensures.state ∙ ap (λ (k : NetState _). map (λ s. drain s) k.mirrors) after_lines in

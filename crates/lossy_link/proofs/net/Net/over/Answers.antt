@@ -64,8 +64,11 @@ returns-clause-text g c =
     c.in_ok-make_each.ensures.ok
     ∙ ap (λ (n : NetState _). old ++ net_text show m.commands n c.as_slice.result.now) begun
     ∙ ap (λ (ls : List NetLine). old ++ net_text show m.commands (opening_net c.args.opening.now m) ls) c.as_slice.ensures
-    ∙ ap (λ (y : LossyData). old ++ net_text (record { rules = g.G.Game.rules; lines = g.G.Shown.lines;
-        names = y.game.names }) y.game.commands (opening_net c.args.opening.now y.game) y.lines) c.x.view_is
+    ∙ ap (λ (y : LossyData). old ++ net_text (record {
+      rules = g.G.Game.rules;
+      lines = g.G.Shown.lines;
+      names = y.game.names;
+    }) y.game.commands (opening_net c.args.opening.now y.game) y.lines) c.x.view_is
 
 pub returns-in_err-make_each-clause-err : goal.returns-in_err-make_each-clause-err
 returns-in_err-make_each-clause-err g c =
