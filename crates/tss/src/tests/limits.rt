@@ -1,8 +1,8 @@
 //! Each limit of a match text, and one past it: what stands at the limit is read, by `lift`, and
 //! one more is refused, by `order`.
 
-use crate::tests::lines::joined;
 use crate::tests::program::{WHOLE, run_on};
+use crate::tests::stage::lines::{assert_lines, joined};
 use crate::tests::tables::texts::OPENING;
 use std::alloc::Global;
 use std::process::Abort;
@@ -94,7 +94,7 @@ const NAME: Limit = Limit {
     ..COMMAND
 };
 
-const LIMITS: [Limit; 18] = [
+const LIMITS: [Limit; 23] = [
     PLANS,
     Limit {
         name: "pickups",
@@ -154,6 +154,51 @@ const LIMITS: [Limit; 18] = [
         past: &["grid 65 1\n"],
         back: BEHIND_GRID,
         refused: "refused line 3 cause 3 number\n",
+        ..COMMAND
+    },
+    Limit {
+        name: "the least length",
+        front: "",
+        line: &["length 1\n"],
+        past: &["length 0\n"],
+        back: BEHIND_LENGTH,
+        refused: "refused line 2 cause 3 number\n",
+        ..COMMAND
+    },
+    Limit {
+        name: "the least width",
+        front: "length 1\n",
+        line: &["grid 3 1\n"],
+        past: &["grid 2 1\n"],
+        back: BEHIND_GRID,
+        refused: "refused line 3 cause 3 number\n",
+        ..COMMAND
+    },
+    Limit {
+        name: "the least height",
+        front: "length 1\n",
+        line: &["grid 3 1\n"],
+        past: &["grid 3 0\n"],
+        back: BEHIND_GRID,
+        refused: "refused line 3 cause 3 number\n",
+        ..COMMAND
+    },
+    Limit {
+        name: "the fewest mirrors",
+        front: "length 1\ngrid 3 1\n",
+        line: &["mirrors 1\n"],
+        past: &["mirrors 0\n"],
+        back: BEHIND_MIRRORS,
+        refused: "refused line 4 cause 3 number\n",
+        ..COMMAND
+    },
+    Limit {
+        name: "pace",
+        front: "length 1\ngrid 3 1\nmirrors 1\ndelays 4\n",
+        line: &["pace 4\n"],
+        past: &["pace 5\n"],
+        back: "player ann 0 0 e\nend\n",
+        refused: "refused line 6 cause 3 number\n",
         ..COMMAND
     },
     Limit {
@@ -246,7 +291,7 @@ fn assert_read<R: Threads + Wait + Sync + Abort>(rt: &R, alloc: Global, limit: &
     let lifted = text_of(rt, alloc, limit, "2", limit.line, limit.most);
     let found = run_on(rt, alloc, &["lift"], text.as_str(), WHOLE);
     assert_eq!(rt; found.status, 0, "the status at {}", limit.name);
-    assert!(rt; found.written == lifted, "what is lifted at {}", limit.name);
+    assert_lines(rt, limit.name, found.written.as_str(), lifted.as_str());
 }
 
 // Asserts that what stands past it is refused.
@@ -270,39 +315,53 @@ fn so_much_and_no_more(rt: HostRuntime) {
     }
 }
 
-// A front, how long it is made by letters without an end of a line, and how it is refused. A line
-// may have 120 bytes, and a text 8,388,608.
-const LONG: [(&str, usize, &str); 6] = [
-    ("", 120, "refused line 1 cause 8 end\n"),
-    ("", 121, "refused line 1 cause 9 long\n"),
-    ("", 8_388_608, "refused line 1 cause 9 long\n"),
-    ("", 8_388_609, "refused line 0 cause 9 long\n"),
-    (OPENING, 8_388_608, "refused line 9 cause 8 end\n"),
-    (OPENING, 8_388_609, "refused line 0 cause 9 long\n"),
+// 64 letters, of which long texts are made.
+const LETTERS: &str = "xxxxxxxxxxxxxxxxxxxxxxxxxxxxxxxxxxxxxxxxxxxxxxxxxxxxxxxxxxxxxxxx";
+
+// A word, a front, how long it is made by letters without an end of a line, and how it is refused. A
+// line may have 120 bytes, a match text 8,388,608, and a record 33,554,432.
+const LONG: [(&str, &str, usize, &str); 6] = [
+    ("order", "", 120, "refused line 1 cause 8 end\n"),
+    ("order", "", 121, "refused line 1 cause 9 long\n"),
+    ("order", OPENING, 8_388_608, "refused line 9 cause 8 end\n"),
+    ("order", OPENING, 8_388_609, "refused line 0 cause 9 long\n"),
+    ("audit", "", 33_554_432, "refused line 1 cause 9 long\n"),
+    ("audit", "", 33_554_433, "refused line 0 cause 9 long\n"),
 ];
+
+// A front, and so many letters that it is this long.
+fn lengthened(rt: &impl Abort, alloc: Global, front: &str, length: usize) -> String {
+    let mut text = joined(rt, alloc, &[front]);
+    let letters = length.saturating_sub(front.len());
+    for _ in 0..letters / 64 {
+        text.push_str(LETTERS).expect(rt, "memory");
+    }
+    assert!(rt; LETTERS.is_char_boundary(letters % 64));
+    let (rest, _) = LETTERS.split_at(letters % 64);
+    text.push_str(rest).expect(rt, "memory");
+    text
+}
 
 fn assert_long<R: Threads + Wait + Sync + Abort>(
     rt: &R,
     alloc: Global,
+    word: &str,
     front: &str,
     length: usize,
     refused: &str,
 ) {
-    let mut text = joined(rt, alloc, &[front]);
-    for _ in front.len()..length {
-        text.push('x').expect(rt, "memory");
-    }
-    let found = run_on(rt, alloc, &["order"], text.as_str(), WHOLE);
+    let text = lengthened(rt, alloc, front, length);
+    let found = run_on(rt, alloc, &[word], text.as_str(), WHOLE);
     assert_eq!(rt;
         (found.status, found.written.as_str()),
         (5, refused),
-        "{length} bytes"
+        "{length} bytes for {word}"
     );
 }
 
 #[test]
 fn long_lines_and_long_texts(rt: HostRuntime) {
-    for (front, length, refused) in &LONG {
-        assert_long(&rt, rt.alloc(), front, *length, refused);
+    for (word, front, length, refused) in &LONG {
+        assert_long(&rt, rt.alloc(), word, front, *length, refused);
     }
 }

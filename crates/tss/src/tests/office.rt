@@ -3,9 +3,9 @@
 
 ghost use Rattle.std.specs.Prelude.{◌<◌};
 
-use crate::tests::lines::{assert_lines, joined};
 use crate::tests::program::{WHOLE, run_on};
 use crate::tests::races::{assert_legal, assert_worlds};
+use crate::tests::stage::lines::{assert_lines, joined};
 use std::alloc::Global;
 use std::process::Abort;
 use std::sync::Wait;

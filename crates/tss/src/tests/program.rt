@@ -1,7 +1,8 @@
 //! Runs of the program: words and a text in, a status, a text and the events that are kept out.
 
-use crate::tests::lines::{assert_lines, joined, push_events};
+use crate::tests::stage::lines::{assert_lines, joined, push_events};
 use crate::tests::tables::audits::{AUDITED, AUDITS};
+use crate::tests::tables::faults::TWO_FAULTS;
 use crate::tests::tables::games::PAINTS;
 use crate::tests::tables::joins::JOINS;
 use crate::tests::tables::lifts::LIFTS;
@@ -12,6 +13,7 @@ use crate::tests::tables::refusals::{FAULTY_RECORDS, REFUSALS, REFUSED, TORN};
 use crate::tests::tables::rewinds::REWINDS;
 use crate::tests::tables::words::{USED_WRONG, WORDS};
 use copy_workers::OpenGate;
+use match_file::{TextFault, read_match};
 use std::alloc::Global;
 use std::process::Abort;
 use std::sync::Wait;
@@ -75,11 +77,12 @@ fn fails(rt: &impl Abort, alloc: Global, call: Option<u32>) -> Vec<u32> {
     calls
 }
 
-// How a run ended: its status, what it wrote, how many logs it kept, and the events of these, a line
-// for each.
+// How a run ended: its status and what it says of a failure, what it wrote, how many logs it kept, and
+// the events of these, a line for each.
 #[derive(Drop)]
 pub(super) struct Ended {
     pub status: u8,
+    pub failure: &'static str,
     pub written: String,
     pub logs: usize,
     pub kept: String,
@@ -108,11 +111,24 @@ pub(super) fn run_on<R: Threads + Wait + Sync + Abort>(
     let written = String::from_utf8_lossy(alloc, sink.taken()).expect(rt, "memory");
     Ended {
         status: done.status,
+        failure: done.failure().unwrap_or("nothing"),
         written,
         logs: done.kept.len(),
         kept,
     }
 }
+
+// What a run that ended with this status says of a failure.
+const FAILURES: [&str; 8] = [
+    "nothing",
+    "out of memory",
+    "nothing",
+    "reading standard input failed",
+    "writing standard output failed",
+    "nothing",
+    "nothing",
+    "nothing",
+];
 
 // Asserts that a run of this row ends so over these streams, in which a call may fail, with so many
 // bytes of what is due: at a failed call a front of it, and else all.
@@ -127,6 +143,8 @@ fn assert_ends<R: Threads + Wait + Sync + Abort>(
     let text = joined(rt, alloc, &[row.front, row.rest]);
     let found = run_on(rt, alloc, row.words, text.as_str(), streams);
     assert_eq!(rt; found.status, status, "the status of {}", row.name);
+    let failure = FAILURES.get(usize::from(status)).copied();
+    assert_eq!(rt; Some(found.failure), failure, "what {} says", row.name);
     assert_lines(rt, row.name, found.written.as_str(), written);
     let is_read = streams.failing_read.is_none();
     let logs = if is_read { row.logs } else { 0 };
@@ -136,85 +154,55 @@ fn assert_ends<R: Threads + Wait + Sync + Abort>(
     }
 }
 
-// Asserts that a run of this row ends so.
-fn assert_row<R: Threads + Wait + Sync + Abort>(rt: &R, alloc: Global, row: &Row) {
-    assert_ends(rt, alloc, row, WHOLE, row.status, row.written);
+// Asserts that a run of each row ends so.
+fn assert_rows<R: Threads + Wait + Sync + Abort>(rt: &R, alloc: Global, rows: &[Row]) {
+    for row in rows {
+        assert_ends(rt, alloc, row, WHOLE, row.status, row.written);
+    }
 }
 
 #[test]
 fn words_are_answered(rt: HostRuntime) {
-    for row in &WORDS {
-        assert_row(&rt, rt.alloc(), row);
-    }
+    assert_rows(&rt, rt.alloc(), &WORDS);
 }
 
 #[test]
-fn matches_are_ordered(rt: HostRuntime) {
-    for row in &ORDERS {
-        assert_row(&rt, rt.alloc(), row);
-    }
-}
-
-#[test]
-fn matches_are_refused(rt: HostRuntime) {
-    for row in &REFUSALS {
-        assert_row(&rt, rt.alloc(), row);
-    }
-}
-
-#[test]
-fn matches_are_lifted(rt: HostRuntime) {
-    for row in &LIFTS {
-        assert_row(&rt, rt.alloc(), row);
-    }
+fn matches_are_answered(rt: HostRuntime) {
+    assert_rows(&rt, rt.alloc(), &ORDERS);
+    assert_rows(&rt, rt.alloc(), &LIFTS);
+    assert_rows(&rt, rt.alloc(), &PAINTS);
+    assert_rows(&rt, rt.alloc(), &JOINS);
+    assert_rows(&rt, rt.alloc(), &REWINDS);
 }
 
 #[test]
 fn matches_are_played(rt: HostRuntime) {
-    for row in &PLAYS {
-        assert_row(&rt, rt.alloc(), row);
-    }
-}
-
-#[test]
-fn matches_are_painted(rt: HostRuntime) {
-    for row in &PAINTS {
-        assert_row(&rt, rt.alloc(), row);
-    }
-}
-
-#[test]
-fn mirrors_join_late(rt: HostRuntime) {
-    for row in &JOINS {
-        assert_row(&rt, rt.alloc(), row);
-    }
-}
-
-#[test]
-fn matches_are_looked_at(rt: HostRuntime) {
-    for row in &REWINDS {
-        assert_row(&rt, rt.alloc(), row);
-    }
-}
-
-#[test]
-fn nets_lose_and_repeat(rt: HostRuntime) {
-    for row in &NETS {
-        assert_row(&rt, rt.alloc(), row);
-    }
+    assert_rows(&rt, rt.alloc(), &PLAYS);
+    assert_rows(&rt, rt.alloc(), &NETS);
 }
 
 #[test]
 fn records_are_audited(rt: HostRuntime) {
-    for row in &AUDITS {
-        assert_row(&rt, rt.alloc(), row);
-    }
+    assert_rows(&rt, rt.alloc(), &AUDITS);
+}
+
+// Asserts that where this row's text is no match its refusal is shown as the line that is written.
+fn assert_shown(rt: &impl Abort, alloc: Global, row: &Row) {
+    let text = joined(rt, alloc, &[row.front, row.rest]);
+    let Err(TextFault::Refused(refused)) = read_match(alloc, text.as_bytes()) else {
+        return;
+    };
+    let shown = format!(in alloc; "{refused}\n").expect(rt, "memory");
+    assert_lines(rt, row.name, shown.as_str(), row.written);
 }
 
 #[test]
-fn records_are_refused(rt: HostRuntime) {
-    for row in &FAULTY_RECORDS {
-        assert_row(&rt, rt.alloc(), row);
+fn texts_are_refused(rt: HostRuntime) {
+    assert_rows(&rt, rt.alloc(), &REFUSALS);
+    assert_rows(&rt, rt.alloc(), &TWO_FAULTS);
+    assert_rows(&rt, rt.alloc(), &FAULTY_RECORDS);
+    for row in &REFUSALS {
+        assert_shown(&rt, rt.alloc(), row);
     }
 }
 

@@ -1,7 +1,7 @@
 //! Races: by the caller alone with known logs, by threads that meet, and many that are audited.
 
-use crate::tests::lines::{assert_lines, joined, push_events};
 use crate::tests::program::{WHOLE, run_on};
+use crate::tests::stage::lines::{assert_lines, joined, push_events};
 use arena_rules::Arena;
 use copy_workers::Gate;
 use match_file::{Match, read_match};
@@ -97,10 +97,7 @@ pub(super) fn assert_worlds(rt: &impl Abort, name: &str, record: &str, block: &s
         assert_block(rt, name, lines, block);
         found = found.saturating_add(1);
     }
-    assert!(rt;
-        found == worlds,
-        "{name}: {found} worlds are stated in place of {worlds}"
-    );
+    assert_eq!(rt; found, worlds, "the worlds of {name}");
 }
 
 // The record of a race of this match, printed.
@@ -117,9 +114,10 @@ fn raced<R: Threads + Wait + Sync + Abort, P: Gate + Sync>(
     alloc: Global,
     text: &str,
     gate: &P,
-    budget: u16,
+    budget: u32,
     inline: u128,
 ) -> (String, String) {
+    assert!(rt; budget <= 1_048_576);
     let m = read_match(alloc, text.as_bytes()).expect(rt, "a match");
     let opening = Arena::start(&m.setup);
     let mirrors = race_with(rt, alloc, &m, &opening, gate, u64::from(budget), inline);
@@ -181,7 +179,7 @@ fn assert_passes(rt: &impl Abort, name: &str, gate: &Counts, budget: u64) {
         );
     }
     let wrong = gate.wrong.load(Ordering::SeqCst);
-    assert!(rt; wrong == 0, "{name}: a turn isn't the next one");
+    assert_eq!(rt; wrong, 0, "{name}: turns that aren't the next one");
 }
 
 // A race of `TIES`: its budget, the jobs that the caller does, and the logs of both mirrors where
@@ -189,7 +187,7 @@ fn assert_passes(rt: &impl Abort, name: &str, gate: &Counts, budget: u64) {
 #[derive(Clone, Copy)]
 struct Budget {
     name: &'static str,
-    budget: u16,
+    budget: u32,
     inline: u128,
     logs: &'static [&'static str],
 }
@@ -229,7 +227,13 @@ const BUDGET_1000: Budget = Budget {
     ..BUDGET_1
 };
 
-const BUDGETS: [Budget; 12] = [
+const BUDGET_MOST: Budget = Budget {
+    name: "the greatest budget, in threads",
+    budget: 1_048_576,
+    ..BUDGET_1
+};
+
+const BUDGETS: [Budget; 14] = [
     NO_BUDGET,
     Budget {
         name: "no budget, by the caller",
@@ -285,6 +289,16 @@ const BUDGETS: [Budget; 12] = [
         name: "budget 1,000, feeders by the caller",
         inline: FEEDERS,
         ..BUDGET_1000
+    },
+    BUDGET_MOST,
+    Budget {
+        name: "the greatest budget, by the caller",
+        inline: ALL_JOBS,
+        logs: &[
+            "0.0 t t 1.0 t s0 s1 t s0 s1 t s0 s1 t s0 s1\n",
+            "1.0 0.0 t t t t t t s0 s1 s0 s1 s0 s1 s0 s1\n",
+        ],
+        ..BUDGET_MOST
     },
 ];
 
@@ -358,7 +372,7 @@ impl Gate for Yields {
 #[test]
 fn a_hundred_races_are_legal(rt: HostRuntime) {
     let alloc = rt.alloc();
-    for budget in 0..43u16 {
+    for budget in 0..43u32 {
         let gate = Yields {
             seed: u64::from(budget),
         };
@@ -436,7 +450,7 @@ fn assert_meets<R: Threads + Wait + Sync + Abort>(rt: &R, alloc: Global, inline:
         Some(job) => raced(rt, alloc, TIES, &gate, 448, job).0,
     };
     let missed = gate.missed.load(Ordering::SeqCst);
-    assert!(rt; missed == 0, "one waited in vain for the other");
+    assert_eq!(rt; missed, 0, "one waited in vain for the other");
     assert_met(rt, record.as_str());
 }
 

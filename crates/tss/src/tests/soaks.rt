@@ -1,7 +1,7 @@
 //! Matches that are made from numbers: their texts, and what soaking them prints.
 
-use crate::tests::lines::{assert_lines, joined};
 use crate::tests::program::{Streams, WHOLE, run_on};
+use crate::tests::stage::lines::{assert_lines, joined};
 use match_file::print_match;
 use match_maker::make_match;
 use std::alloc::Global;

@@ -1,6 +1,7 @@
 //! Tables of runs: words, a text, what is written and with which status, and what is kept.
 
 pub(super) mod audits;
+pub(super) mod faults;
 pub(super) mod games;
 pub(super) mod joins;
 pub(super) mod lifts;

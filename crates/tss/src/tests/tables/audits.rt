@@ -17,7 +17,7 @@ pub const AUDITED: Row = Row {
 };
 
 // Records, and the verdict on each.
-pub const AUDITS: [Row; 10] = [
+pub const AUDITS: [Row; 12] = [
     AUDITED,
     Row {
         name: "audit small record, a step before its tick",
@@ -26,6 +26,25 @@ pub const AUDITS: [Row; 10] = [
             world 0 1 1\nlive ann 0 0 e 3 5 0\ndone\n",
         status: 6,
         written: "not legal mirror 0 place 0 why idle\n",
+        ..AUDITED
+    },
+    Row {
+        name: "the same command arrives again",
+        front: "",
+        rest: "tss record 1\ntss match 1\nlength 1\ngrid 3 1\nmirrors 1\ndelays 0\npace 0\n\
+            player ann 0 0 e\ncmd 0 0 7 0 go\nend\nlog 0 4\narrive 0 7\ntick\narrive 0 7\nstep 0\n\
+            world 0 0 1\nlive ann 1 0 e 3 5 0\ndone\n",
+        status: 6,
+        written: "not legal mirror 0 place 2 why repeat\n",
+        ..AUDITED
+    },
+    Row {
+        name: "a step that is idle",
+        front: RECORD_FRONT,
+        rest: "log 0 5\ntick\nstep 0\nstep 0\ntick\nstep 1\nworld 0 0 1\nlive ann 0 0 e 3 5 0\n\
+            world 0 1 1\nlive ann 0 0 e 3 5 0\ndone\n",
+        status: 6,
+        written: "not legal mirror 0 place 2 why idle\n",
         ..AUDITED
     },
     Row {

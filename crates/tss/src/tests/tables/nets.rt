@@ -32,7 +32,7 @@ const REFUSED_NET: Row = Row {
 };
 
 // Lossy texts, and what each comes to.
-pub const NETS: [Row; 14] = [
+pub const NETS: [Row; 16] = [
     REPEATED,
     Row {
         name: "a command that the net brings too late",
@@ -105,6 +105,18 @@ pub const NETS: [Row; 14] = [
     Row {
         name: "cause 5: a command that isn't there",
         rest: "net 1\nissue 0 7\ndone\n",
+        written: "refused line 14 cause 5 name\n",
+        ..REFUSED_NET
+    },
+    Row {
+        name: "cause 2: as many lines as a net may have, and none is there",
+        rest: "net 262144\ndone\n",
+        written: "refused line 14 cause 2 shape\n",
+        ..REFUSED_NET
+    },
+    Row {
+        name: "cause 5: the greatest number, of no command",
+        rest: "net 1\nissue 0 999999\ndone\n",
         written: "refused line 14 cause 5 name\n",
         ..REFUSED_NET
     },

@@ -225,12 +225,19 @@ pub const REFUSALS: [Row; 25] = [
 ];
 
 // Records.
-pub const FAULTY_RECORDS: [Row; 27] = [
+pub const FAULTY_RECORDS: [Row; 28] = [
     Row {
         name: "an event before a log",
         front: RECORD_FRONT,
         rest: "tick\n",
         written: "refused line 10 cause 2 shape\n",
+        ..FAULTY
+    },
+    Row {
+        name: "as many events as a log may have",
+        front: RECORD_FRONT,
+        rest: "log 0 131072\n",
+        written: "refused line 11 cause 8 end\n",
         ..FAULTY
     },
     Row {

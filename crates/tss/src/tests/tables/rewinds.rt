@@ -17,8 +17,20 @@ const LOOKED: Row = Row {
 };
 
 // Matches and ticks, and their worlds.
-pub const REWINDS: [Row; 6] = [
+pub const REWINDS: [Row; 7] = [
     LOOKED,
+    Row {
+        name: "the example of the arena's rules",
+        words: &["rewind", "1", "1", "1", "2", "3"],
+        front: "tss match 1\nlength 3\ngrid 7 2\nmirrors 1\ndelays 0\npace 0\npickup 1 0 gold\n\
+            player ann 0 0 e\nplayer bob 4 0 w\ncmd 0 0 0 0 go\ncmd 0 0 1 0 shoot\n\
+            cmd 0 0 2 1 right\n",
+        written: "at 1\nlive ann 1 0 e 3 4 1\nlive bob 4 0 n 3 5 0\nshot ann 2 0 e 7\n\
+            item 1 0 gold 19\nat 2\nlive ann 1 0 e 3 4 1\nlive bob 4 0 n 3 5 0\nshot ann 3 0 e 6\n\
+            item 1 0 gold 18\nat 3\nlive ann 1 0 e 3 4 1\nlive bob 4 0 n 2 5 0\nitem 1 0 gold 17\n\
+            hits 0\ndone\n",
+        ..LOOKED
+    },
     Row {
         name: "looks that all miss",
         words: &["rewind", "2", "2", "4", "2", "3"],

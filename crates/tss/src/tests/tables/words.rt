@@ -10,7 +10,8 @@ pub const USED_WRONG: Row = Row {
     front: OPENING,
     rest: "",
     status: 2,
-    written: "usage: tss order|play|race|audit|score|lift|soak N|paint order|paint play|lossy|join M K|rewind E C T ...\n",
+    written: "usage: tss order|play|race|audit|score|lift|soak N|paint order|paint play|lossy|\
+        join M K|rewind E C T ...\n",
     logs: 0,
     kept: "",
 };
@@ -23,7 +24,8 @@ pub const SCORED: Row = Row {
     rest: "script\nturn 0\nturn 0\nturn 0\nturn 0\nturn 0\narrive 0 0 0\nrun 0 0\nrun 0 1\n\
             run 0 2\nturn 0\nrun 0 0\nend\n",
     status: 0,
-    written: "{\"mirrors\":[{\"accepted\":1,\"mirror\":0,\"repairs\":3,\"scores\":[0],\"turned\":0}],\"names\":[\"ann\"]}\n\
+    written: "{\"mirrors\":[{\"accepted\":1,\"mirror\":0,\"repairs\":3,\"scores\":[0],\"turned\":0}],\
+        \"names\":[\"ann\"]}\n\
             watch first 0\nwatch repairs 3\nwatch late 0\ndone\n",
     logs: 1,
     kept: "t s0 t s0 t s0 s1 t s0 s1 t s0 s1 s2 0.0 t s0 s1 s2 t s0 s1 s2 t s0 s1 s2 t \

@@ -5,7 +5,7 @@ use std::alloc::Global;
 use std::process::Abort;
 
 // The pieces in one.
-pub(super) fn joined(rt: &impl Abort, alloc: Global, pieces: &[&str]) -> String {
+pub(crate) fn joined(rt: &impl Abort, alloc: Global, pieces: &[&str]) -> String {
     let mut text = String::new(alloc);
     for piece in pieces {
         text.push_str(piece).expect(rt, "memory");
@@ -14,7 +14,7 @@ pub(super) fn joined(rt: &impl Abort, alloc: Global, pieces: &[&str]) -> String 
 }
 
 // Asserts that a text has just the lines that are due.
-pub(super) fn assert_lines(rt: &impl Abort, name: &str, text: &str, due: &str) {
+pub(crate) fn assert_lines(rt: &impl Abort, name: &str, text: &str, due: &str) {
     let mut lines = text.split('\n');
     for (place, line) in due.split('\n').enumerate() {
         let found = lines.next().unwrap_or("no line");
@@ -41,7 +41,7 @@ fn push_event(rt: &impl Abort, alloc: Global, out: &mut String, event: &Event) {
 }
 
 // Appends events in a line.
-pub(super) fn push_events(rt: &impl Abort, alloc: Global, out: &mut String, events: &[Event]) {
+pub(crate) fn push_events(rt: &impl Abort, alloc: Global, out: &mut String, events: &[Event]) {
     for (place, event) in events.iter().enumerate() {
         if place > 0 {
             out.push_str(" ").expect(rt, "memory");

@@ -1,0 +1,5 @@
+//! What tests stand on: texts that are put together and compared, a small game, and a post in memory.
+
+pub(super) mod counting_game;
+pub(super) mod lines;
+pub(super) mod memory_post;
