@@ -14,13 +14,13 @@ const MOST_WAITS: u32 = 256;
 const ALL_YIELDS: u32 = 131_072;
 
 // How many yields a worker may make in a row that finds nothing to do.
-const PATIENCE: u32 = 16_384;
+const PATIENCE: u32 = 8_192;
 
 // How many turns go by without a yield once a worker has no yields left, or no patience.
-const HURRIED_TURNS: u32 = 15;
+const HURRIED_TURNS: u32 = 63;
 
 /// How long a worker rests that finds nothing to do: the longer the oftener it found nothing. One
-/// that found nothing for long, or that has rested so long in all, hurries: it yields only once in 16
+/// that found nothing for long, or that has rested so long in all, hurries: it yields only once in 64
 /// turns, so that one that never finds anything to do is soon done with its turns. The idle ones
 /// would else take most turns of the lock that they share with the others.
 #[derive(Clone, Copy)]
