@@ -1,5 +1,6 @@
 -- The players of a world stay players of a world: whatever happens to one, no two live ones come to share a cell.
-use Rattle.std.proofs.Common.{◌≡◌, ◌==◌, ℕ, zero, suc, ◌-◌, true, false, if◌then◌else◌, ◌⊎◌, inl, inr, ℤ, pos, neg_ℤ, ◌≤ℤ◌, Some, None, Option, slice_get, List, [], ◌∷◌, map, length, set, refl, sym, ap, ◌∙◌, subst, arith, length-set, unwrap_or}
+use Rattle.std.proofs.Common.{◌≡◌, ◌==◌, ℕ, zero, suc, ◌-◌, true, false, if◌then◌else◌, ◌⊎◌, inl, inr, ℤ, pos, neg_ℤ, ◌≤ℤ◌, Some, None, Option}
+use Rattle.std.proofs.Common.{slice_get, List, [], ◌∷◌, map, length, set, refl, sym, ap, ◌∙◌, subst, arith, length-set, unwrap_or}
 use Rattle.std.specs.List.{list_any, AllByRecursion, IsDistinct, All}
 use Rattle.std.proofs.lemmas.Bool.Decides.{nat_tests}
 use Rattle.std.proofs.lemmas.Int.{ints}
@@ -42,7 +43,9 @@ nowhere_else [] = tt
 nowhere_else (a ∷ places) = (refl, nowhere_else places)
 
 -- one player is replaced by another who stands where nobody did, or nowhere
-pub ArePlayers-set : (grid : Grid) (players : List Player) (number : ℕ) (player : Player) → ArePlayers grid players → IsPlayer grid player → list_any (same_place (place player)) (map place players) ≡ false → ArePlayers grid (set players number player)
+pub ArePlayers-set : (grid : Grid) (players : List Player) (number : ℕ) (player : Player) → ArePlayers grid players
+    → IsPlayer grid player → list_any (same_place (place player)) (map place players) ≡ false
+    → ArePlayers grid (set players number player)
 ArePlayers-set grid players number player sound possible apart = record {
   count = let l : length (set players number player) ≡ length players = length-set players number player in omega (arith, l, sound.count);
   each = All-set (IsPlayer grid) players number player possible sound.each;
@@ -56,7 +59,9 @@ place_at (p ∷ players) zero player there = ap (λ o. place (unwrap_or o p) ∷
 place_at (p ∷ players) (suc number) player there = ap (λ places. place p ∷ places) (place_at players number player there)
 
 -- one player is replaced by another in the same place
-pub ArePlayers-stayed : (grid : Grid) (players : List Player) (number : ℕ) (old new : Player) → ArePlayers grid players → slice_get players number ≡ Some old → IsPlayer grid new → place new ≡ place old → ArePlayers grid (set players number new)
+pub ArePlayers-stayed : (grid : Grid) (players : List Player) (number : ℕ) (old new : Player) → ArePlayers grid players
+    → slice_get players number ≡ Some old → IsPlayer grid new → place new ≡ place old
+    → ArePlayers grid (set players number new)
 ArePlayers-stayed grid players number old new sound there possible stays =
     let places : map place (set players number new) ≡ map place players = map-set place players number new ∙ ap (set (map place players) number) stays ∙ place_at players number old there in
     record {
@@ -75,7 +80,9 @@ nowhere_held players = nowhere (map place players)
 
 -- a player who is there is one of a world
 pub player_at : (grid : Grid) (players : List Player) (number : ℕ) (player : Player) → ArePlayers grid players → slice_get players number ≡ Some player → IsPlayer grid player
-player_at grid players number player sound there = subst (IsPlayer grid) (get_or_from_slice_get players number player player there) (All-get_or (IsPlayer grid) players number player (slice_get_within players number player there) sound.each)
+player_at grid players number player sound there =
+    subst (IsPlayer grid) (get_or_from_slice_get players number player player there)
+    (All-get_or (IsPlayer grid) players number player (slice_get_within players number player there) sound.each)
 
 -- and so is the body of a live one
 pub body_at : (grid : Grid) (player : Player) (body : Body) → IsPlayer grid player → player.state ≡ Live body → IsBody grid body
@@ -102,7 +109,12 @@ IsPlayer-with_loss grid player possible = record { home = possible.home; score =
 pub IsPlayer-given : (grid : Grid) (player : Player) (body : Body) (kind : Option Kind) → IsPlayer grid player → IsBody grid body → IsPlayer grid (given player body kind)
 IsPlayer-given grid player body None possible stands = IsPlayer-alive grid player body possible stands
 IsPlayer-given grid player body (Some Ammo) possible stands = IsPlayer-alive grid player _ possible (record { free = stands.free; health = stands.health; ammo = omega arith })
-IsPlayer-given grid player body (Some Heal) possible stands = IsPlayer-alive grid player _ possible (record { free = stands.free; health = (omega (arith, stands.health.0), omega arith); ammo = stands.ammo })
+IsPlayer-given grid player body (Some Heal) possible stands =
+    IsPlayer-alive grid player _ possible (record {
+      free = stands.free;
+      health = (omega (arith, stands.health.0), omega arith);
+      ammo = stands.ammo;
+    })
 IsPlayer-given grid player body (Some Gold) possible stands = IsPlayer-alive grid (with_gain player) body (IsPlayer-with_gain grid player possible) stands
 
 pub place-given : (player : Player) (body : Body) (kind : Option Kind) → place (given player body kind) ≡ Some (spot_cell body.spot)
@@ -125,7 +137,10 @@ IsPlayer-struck grid player possible = record { home = possible.home; score = po
 
 -- a hit leaves a player in place, or nowhere
 struck_place : (state : State) → (place_in (struck_state state) ≡ place_in state) ⊎ (place_in (struck_state state) ≡ None)
-struck_place (Live body) = elim (body.health - 1 == 0) as (λ v. (place_in (if v then Dead 10 else Live (record body { health = body.health - 1 })) ≡ Some (spot_cell body.spot)) ⊎ (place_in (if v then Dead 10 else Live (record body { health = body.health - 1 })) ≡ None)) [ true ↦ inr refl | false ↦ inl refl ]
+struck_place (Live body) = elim (body.health - 1 == 0) as
+    (λ v. (place_in (if v then Dead 10 else Live (record body { health = body.health - 1 }))
+    ≡ Some (spot_cell body.spot)) ⊎ (place_in (if v then Dead 10 else Live (record body { health = body.health - 1 }))
+    ≡ None)) [ true ↦ inr refl | false ↦ inl refl ]
 struck_place (Dead wait) = inl refl
 
 -- a change of one player that leaves each player in place, or nowhere
@@ -143,14 +158,24 @@ pub Keeps-with_loss : (grid : Grid) → Keeps grid with_loss
 Keeps-with_loss grid = record { possible = IsPlayer-with_loss grid; stays = λ player. inl refl }
 
 -- others stay apart from a place after such a change
-others_apart : (grid : Grid) (players : List Player) (number : ℕ) (change : Player → Player) (a : Option Cell) → Keeps grid change → AllByRecursion (λ b. same_place a b ≡ false) (map place players) → AllByRecursion (λ b. same_place a b ≡ false) (map place (changed players number change))
+others_apart : (grid : Grid) (players : List Player) (number : ℕ) (change : Player → Player) (a : Option Cell)
+    → Keeps grid change → AllByRecursion (λ b. same_place a b ≡ false) (map place players)
+    → AllByRecursion (λ b. same_place a b ≡ false) (map place (changed players number change))
 unfolding changed
 others_apart grid [] number change a keeps apart = tt
-others_apart grid (player ∷ players) zero change a keeps apart = (elim (keeps.stays player) [ inl same ↦ ap (same_place a) same ∙ apart.0 | inr none ↦ ap (same_place a) none ∙ same_place-none a ], apart.1)
+others_apart grid (player ∷ players) zero change a keeps apart = (
+  elim (keeps.stays player) [
+    | inl same ↦ ap (same_place a) same ∙ apart.0
+    | inr none ↦ ap (same_place a) none
+        ∙ same_place-none a
+  ],
+  apart.1,
+)
 others_apart grid (player ∷ players) (suc number) change a keeps apart = (apart.0, others_apart grid players number change a keeps apart.1)
 
 -- and all stay apart
-changed_apart : (grid : Grid) (players : List Player) (number : ℕ) (change : Player → Player) → Keeps grid change → IsDistinct same_place (map place players) → IsDistinct same_place (map place (changed players number change))
+changed_apart : (grid : Grid) (players : List Player) (number : ℕ) (change : Player → Player) → Keeps grid change
+    → IsDistinct same_place (map place players) → IsDistinct same_place (map place (changed players number change))
 unfolding changed IsDistinct
 changed_apart grid [] number change keeps apart = tt
 changed_apart grid (player ∷ players) zero change keeps apart =
@@ -161,8 +186,13 @@ changed_apart grid (player ∷ players) (suc number) change keeps apart = (other
 changed_each : (grid : Grid) (players : List Player) (number : ℕ) (change : Player → Player) → Keeps grid change → All (IsPlayer grid) players → All (IsPlayer grid) (changed players number change)
 unfolding changed
 changed_each grid [] number change keeps each = each
-changed_each grid (player ∷ players) zero change keeps each = All-cons (IsPlayer grid) (change player) players (keeps.possible player (All-head (IsPlayer grid) player players each)) (All-tail (IsPlayer grid) player players each)
-changed_each grid (player ∷ players) (suc number) change keeps each = All-cons (IsPlayer grid) player (changed players number change) (All-head (IsPlayer grid) player players each) (changed_each grid players number change keeps (All-tail (IsPlayer grid) player players each))
+changed_each grid (player ∷ players) zero change keeps each =
+    All-cons (IsPlayer grid) (change player) players
+    (keeps.possible player (All-head (IsPlayer grid) player players each))
+    (All-tail (IsPlayer grid) player players each)
+changed_each grid (player ∷ players) (suc number) change keeps each =
+    All-cons (IsPlayer grid) player (changed players number change) (All-head (IsPlayer grid) player players each)
+    (changed_each grid players number change keeps (All-tail (IsPlayer grid) player players each))
 
 -- the players after such a change
 pub ArePlayers-changed : (grid : Grid) (players : List Player) (number : ℕ) (change : Player → Player) → Keeps grid change → ArePlayers grid players → ArePlayers grid (changed players number change)

@@ -25,7 +25,8 @@ AllByRecursion-set P (x ∷ xs) zero y new old = (new, old.1)
 AllByRecursion-set P (x ∷ xs) (suc i) y new old = (old.0, AllByRecursion-set P xs i y new old.1)
 
 -- one element is replaced by another that isn't there
-pub IsDistinct-set : {X : Type 0} (same : X → X → Bool) → ((x y : X) → same x y ≡ same y x) → (xs : List X) (i : ℕ) (y : X) → IsDistinct same xs → list_any (same y) xs ≡ false → IsDistinct same (set xs i y)
+pub IsDistinct-set : {X : Type 0} (same : X → X → Bool) → ((x y : X) → same x y ≡ same y x)
+    → (xs : List X) (i : ℕ) (y : X) → IsDistinct same xs → list_any (same y) xs ≡ false → IsDistinct same (set xs i y)
 unfolding IsDistinct
 IsDistinct-set same symm [] i y apart none = tt
 IsDistinct-set same symm (x ∷ xs) zero y apart none = (each_fails (same y) xs (or_parts _ _ none).1, apart.1)

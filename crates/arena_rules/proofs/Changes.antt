@@ -6,7 +6,8 @@ use Rattle.arena_rules.specs.Player.{changed}
 use Rattle.arena_rules.specs.declared.player.Player.{Player}
 
 -- a change is a write of what it makes of the player there
-pub changed-set : (players : List Player) (number : ℕ) (change : Player → Player) (d : Player) → number < length players → changed players number change ≡ set players number (change (get_or players number d))
+pub changed-set : (players : List Player) (number : ℕ) (change : Player → Player) (d : Player) → number < length players
+    → changed players number change ≡ set players number (change (get_or players number d))
 unfolding changed
 changed-set [] number change d there = absurd (omega arith)
 changed-set (player ∷ players) zero change d there = refl

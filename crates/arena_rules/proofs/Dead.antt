@@ -1,5 +1,6 @@
 -- The players of a world stay so while the dead wait and return.
-use Rattle.std.proofs.Common.{◌≡◌, ◌==◌, ℕ, ◌+◌, ◌-◌, ◌≤◌, ◌&&◌, not, true, false, if◌then◌else◌, Some, List, [], ◌∷◌, ◌++◌, length, set, slice_get, refl, sym, ◌∙◌, subst, arith, length-append, append_assoc, append-nil}
+use Rattle.std.proofs.Common.{◌≡◌, ◌==◌, ℕ, ◌+◌, ◌-◌, ◌≤◌, ◌&&◌, not, true, false, if◌then◌else◌, Some, List, [], ◌∷◌, ◌++◌, length, set, slice_get}
+use Rattle.std.proofs.Common.{refl, sym, ◌∙◌, subst, arith, length-append, append_assoc, append-nil}
 use Rattle.std.proofs.lemmas.Bool.{not-true, and_parts}
 use Rattle.std.proofs.Math.Seq.{set-append_seam}
 use Rattle.arena_rules.specs.Ground.{Grid}
@@ -17,14 +18,21 @@ home-kept : (grid : Grid) (player : Player) → IsPlayer grid player → IsPlaye
 home-kept grid player possible = IsPlayer-alive grid player (body_at_home player.home) possible (record { free = possible.home; health = (omega arith, omega arith); ammo = omega arith })
 
 -- the players after one of them waited or returned
-returned_from-kept : (grid : Grid) (players : List Player) (number : ℕ) (player : Player) (state : State) → ArePlayers grid players → slice_get players number ≡ Some player → player.state ≡ state → ArePlayers grid (set players number (returned_from players player state))
+returned_from-kept : (grid : Grid) (players : List Player) (number : ℕ) (player : Player) (state : State)
+    → ArePlayers grid players → slice_get players number ≡ Some player → player.state ≡ state
+    → ArePlayers grid (set players number (returned_from players player state))
 returned_from-kept grid players number player (Live body) sound there is = ArePlayers-stayed grid players number player player sound there (player_at grid players number player sound there) refl
 returned_from-kept grid players number player (Dead wait) sound there is =
     let possible : IsPlayer grid player = player_at grid players number player sound there in
     let short : wait ≤ 10 = let P : State → Type 0 = λ s. IsState grid s in subst P is possible.state in
-    elim ((wait - 1 == 0) && not (is_held players (spot_cell player.home))) as (λ v. ((wait - 1 == 0) && not (is_held players (spot_cell player.home))) ≡ v → ArePlayers grid (set players number (if v then alive player (body_at_home player.home) else record player { state = Dead (wait - 1) }))) [
-      | true ↦ λ free. ArePlayers-set grid players number (alive player (body_at_home player.home)) sound (home-kept grid player possible) (unheld players (spot_cell player.home) (not-true _ (and_parts _ _ free).1))
-      | false ↦ λ _. ArePlayers-set grid players number (record player { state = Dead (wait - 1) }) sound (record { home = possible.home; score = possible.score; state = omega (arith, short) }) (nowhere_held players)
+    elim ((wait - 1 == 0) && not (is_held players (spot_cell player.home))) as
+    (λ v. ((wait - 1 == 0) && not (is_held players (spot_cell player.home))) ≡ v
+    → ArePlayers grid (set players number
+    (if v then alive player (body_at_home player.home) else record player { state = Dead (wait - 1) }))) [
+      | true ↦ λ free. ArePlayers-set grid players number (alive player (body_at_home player.home)) sound
+          (home-kept grid player possible) (unheld players (spot_cell player.home) (not-true _ (and_parts _ _ free).1))
+      | false ↦ λ _. ArePlayers-set grid players number (record player { state = Dead (wait - 1) }) sound
+          (record { home = possible.home; score = possible.score; state = omega (arith, short) }) (nowhere_held players)
     ] refl
 
 -- the player behind others
@@ -32,7 +40,9 @@ player_behind : (before after : List Player) (player : Player) → slice_get (be
 player_behind [] after player = refl
 player_behind (p ∷ before) after player = player_behind before after player
 
-returned-kept : (grid : Grid) (before after : List Player) (player : Player) → ArePlayers grid (before ++ player ∷ after) → ArePlayers grid ((before ++ returned (before ++ player ∷ after) player ∷ []) ++ after)
+returned-kept : (grid : Grid) (before after : List Player) (player : Player)
+    → ArePlayers grid (before ++ player ∷ after)
+    → ArePlayers grid ((before ++ returned (before ++ player ∷ after) player ∷ []) ++ after)
 unfolding returned
 returned-kept grid before after player sound =
     let P : List Player → Type 0 = λ players. ArePlayers grid players in
@@ -49,4 +59,6 @@ returns-kept grid before (player ∷ after) sound = returns-kept grid (before ++
 pub length-returns : (before after : List Player) → length (returns before after) ≡ length before + length after
 unfolding returns
 length-returns before [] = omega arith
-length-returns before (player ∷ after) = length-returns (before ++ returned (before ++ player ∷ after) player ∷ []) after ∙ omega (arith, length-append before (returned (before ++ player ∷ after) player ∷ []))
+length-returns before (player ∷ after) =
+    length-returns (before ++ returned (before ++ player ∷ after) player ∷ []) after
+    ∙ omega (arith, length-append before (returned (before ++ player ∷ after) player ∷ []))

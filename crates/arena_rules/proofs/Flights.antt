@@ -10,7 +10,9 @@ use Rattle.arena_rules.specs.declared.shot.Shot.{Shot}
 use Rattle.arena_rules.specs.declared.face.Face.TheVariants.{N}
 
 -- one shot more
-flights-cons : (grid : Grid) (players : List Player) (shot : Shot) (shots : List Shot) → flights grid players (shot ∷ shots) ≡ with_first (flown grid players shot).shot (flights grid (flown grid players shot).players shots)
+flights-cons : (grid : Grid) (players : List Player) (shot : Shot) (shots : List Shot)
+    → flights grid players (shot ∷ shots) ≡ with_first (flown grid players shot).shot
+    (flights grid (flown grid players shot).players shots)
 unfolding flights
 flights-cons grid players shot shots = refl
 

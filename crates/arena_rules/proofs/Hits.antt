@@ -9,11 +9,13 @@ use Rattle.arena_rules.specs.declared.player.Player.{Player}
 use Rattle.arena_rules.proofs.Changes.{changed-set}
 
 -- the owner who is hit loses
-pub scored-own : (players : List Player) (owner killed : ℕ) (d : Player) → owner ≡ killed → owner < length players → set players owner (with_loss (get_or players owner d)) ≡ scored players owner killed
+pub scored-own : (players : List Player) (owner killed : ℕ) (d : Player) → owner ≡ killed → owner < length players
+    → set players owner (with_loss (get_or players owner d)) ≡ scored players owner killed
 scored-own players owner killed d same there = sym (ap (λ b. changed players owner (if b then with_loss else with_gain)) (eq-eqb owner killed same) ∙ changed-set players owner with_loss d there)
 
 -- another one gains
-pub scored-other : (players : List Player) (owner killed : ℕ) (d : Player) → (owner ≡ killed → ⊥) → owner < length players → set players owner (with_gain (get_or players owner d)) ≡ scored players owner killed
+pub scored-other : (players : List Player) (owner killed : ℕ) (d : Player) → (owner ≡ killed → ⊥)
+    → owner < length players → set players owner (with_gain (get_or players owner d)) ≡ scored players owner killed
 scored-other players owner killed d other there = sym (ap (λ b. changed players owner (if b then with_loss else with_gain)) (ne_eqb owner killed other) ∙ changed-set players owner with_gain d there)
 
 -- the player of a number, after a write there

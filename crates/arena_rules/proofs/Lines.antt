@@ -18,7 +18,9 @@ unfolding state_lines
 no_state_lines names old = sym (append-nil old)
 
 -- the line of the next player
-pub state_lines-next : (names : List (List ℕ)) (ps : List Player) (i : ℕ) (d : Player) (old mid new : List ℕ) → i < length ps → mid ≡ old ++ state_lines names 0 (take i ps) → new ≡ mid ++ state_line (name_of names i) (get_or ps i d) → new ≡ old ++ state_lines names 0 (take (i + 1) ps)
+pub state_lines-next : (names : List (List ℕ)) (ps : List Player) (i : ℕ) (d : Player) (old mid new : List ℕ)
+    → i < length ps → mid ≡ old ++ state_lines names 0 (take i ps) → new ≡ mid
+    ++ state_line (name_of names i) (get_or ps i d) → new ≡ old ++ state_lines names 0 (take (i + 1) ps)
 state_lines-next names ps i d old mid new within so_far next =
     let e : 0 + length (take i ps) ≡ i = omega (arith, length-take i ps) in
     next ∙ rw (so_far, (take_at_read ps i d within).1, state_lines-push, e) (append_assoc old _ _)

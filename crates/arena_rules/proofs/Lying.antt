@@ -29,7 +29,9 @@ Lies-waited grid = record { possible = λ pickup possible. record { free = possi
 
 Lies-emptied : (grid : Grid) (cell : Cell) → Lies grid (emptied cell)
 Lies-emptied grid cell = record {
-  possible = λ pickup possible. elim (lies_ready cell pickup) as (λ v. IsPickup grid (if v then record pickup { wait = 20 } else pickup)) [ true ↦ record { free = possible.free; wait = omega arith } | false ↦ possible ];
+  possible = λ pickup possible. elim (lies_ready cell pickup) as
+      (λ v. IsPickup grid (if v then record pickup { wait = 20 } else pickup))
+      [ true ↦ record { free = possible.free; wait = omega arith } | false ↦ possible ];
   stays = λ pickup. elim (lies_ready cell pickup) as (λ v. (if v then record pickup { wait = 20 } else pickup).place ≡ pickup.place) [ true ↦ refl | false ↦ refl ];
 }
 

@@ -72,7 +72,9 @@ lies_elsewhere : (a b wait x y : ℕ) → (cell_number a b == cell_number x y) �
 lies_elsewhere a b wait x y other = grind (arith, nat_tests)
 
 -- where no pickup has the number of a cell, nothing lies there
-nothing_lies : (x y beats : ℕ) (pickups : List Resting) → list_any (λ n. n == cell_number x y) (map (λ p. cell_number p.place.x p.place.y) pickups) ≡ false → list_any (lies_ready (record { x = x; y = y })) (map (seen_at beats) pickups) ≡ false
+nothing_lies : (x y beats : ℕ) (pickups : List Resting)
+    → list_any (λ n. n == cell_number x y) (map (λ p. cell_number p.place.x p.place.y) pickups) ≡ false
+    → list_any (lies_ready (record { x = x; y = y })) (map (seen_at beats) pickups) ≡ false
 nothing_lies x y beats [] none = refl
 nothing_lies x y beats (p ∷ pickups) none =
     let parts = or_parts (cell_number p.place.x p.place.y == cell_number x y) (list_any (λ n. n == cell_number x y) (map (λ p. cell_number p.place.x p.place.y) pickups)) none in
@@ -80,7 +82,9 @@ nothing_lies x y beats (p ∷ pickups) none =
     let rest : list_any (lies_ready (record { x = x; y = y })) (map (seen_at beats) pickups) ≡ false = nothing_lies x y beats pickups parts.1 in
     rw (first, rest) refl
 
-pub ready_kind-unnumbered : (x y beats : ℕ) (pickups : List Resting) → list_any (λ n. n == cell_number x y) (map (λ p. cell_number p.place.x p.place.y) pickups) ≡ false → ready_kind (map (seen_at beats) pickups) (record { x = x; y = y }) ≡ None
+pub ready_kind-unnumbered : (x y beats : ℕ) (pickups : List Resting)
+    → list_any (λ n. n == cell_number x y) (map (λ p. cell_number p.place.x p.place.y) pickups) ≡ false
+    → ready_kind (map (seen_at beats) pickups) (record { x = x; y = y }) ≡ None
 ready_kind-unnumbered x y beats pickups none = ready_kind-none (map (seen_at beats) pickups) (record { x = x; y = y }) (nothing_lies x y beats pickups none)
 
 -- a number written in the place of one at the front
@@ -100,7 +104,9 @@ list_all-set test (y ∷ xs) (suc i) x all this =
     let rest : list_all test (set xs i x) ≡ true = list_all-set test xs i x parts.1 this in
     rw (first, rest) refl
 
-pub are_live-put : (players : List Player) (number : ℕ) (player : Player) (may_be_dead live : Bool) → live ≡ is_live player → (may_be_dead ≡ false → list_all is_live players ≡ true) → (may_be_dead || not live) ≡ false → list_all is_live (set players number player) ≡ true
+pub are_live-put : (players : List Player) (number : ℕ) (player : Player) (may_be_dead live : Bool)
+    → live ≡ is_live player → (may_be_dead ≡ false → list_all is_live players ≡ true)
+    → (may_be_dead || not live) ≡ false → list_all is_live (set players number player) ≡ true
 are_live-put players number player may_be_dead live is were none =
     let parts = or_parts may_be_dead (not live) none in
     list_all-set is_live players number player (were parts.0) (sym is ∙ not-false live parts.1)

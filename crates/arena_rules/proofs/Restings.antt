@@ -12,12 +12,16 @@ pub record Rests (before after : ℕ) (change : Resting → Resting) : Type 0 wh
   pub stays : (p : Resting) → (change p).place ≡ p.place
   pub waits : (p : Resting) → p.until - before ≤ 20 → (change p).until - after ≤ 20
 
-numbers-map : (before after : ℕ) (change : Resting → Resting) (pickups : List Resting) → Rests before after change → map (λ p. cell_number p.place.x p.place.y) (map change pickups) ≡ map (λ p. cell_number p.place.x p.place.y) pickups
+numbers-map : (before after : ℕ) (change : Resting → Resting) (pickups : List Resting) → Rests before after change
+    → map (λ p. cell_number p.place.x p.place.y) (map change pickups)
+    ≡ map (λ p. cell_number p.place.x p.place.y) pickups
 numbers-map before after change [] rests = refl
 numbers-map before after change (p ∷ pickups) rests = rw (rests.stays p, numbers-map before after change pickups rests) refl
 
 -- the pickups stay such after such a change
-pub AreResting-map : (before after : ℕ) (change : Resting → Resting) (pickups : List Resting) (numbers : List ℕ) → Rests before after change → after ≤ 4294967275 → AreResting pickups numbers before → AreResting (map change pickups) numbers after
+pub AreResting-map : (before after : ℕ) (change : Resting → Resting) (pickups : List Resting) (numbers : List ℕ)
+    → Rests before after change → after ≤ 4294967275 → AreResting pickups numbers before
+    → AreResting (map change pickups) numbers after
 AreResting-map before after change pickups numbers rests room sound = record {
   count = let l : length (map change pickups) ≡ length pickups = length-map pickups change in omega (arith, l, sound.count);
   front = rw (length-map pickups change, numbers-map before after change pickups rests) sound.front;
@@ -47,7 +51,10 @@ AreResting-later pickups numbers beats room sound = record {
 emptied-seen : (beats : ℕ) (cell : Cell) (p : Resting) → seen_at beats (emptied_at beats cell p) ≡ emptied cell (seen_at beats p)
 emptied-seen beats cell p =
     let long : beats + 20 - beats ≡ 20 = omega arith in
-    elim (lies_ready cell (seen_at beats p)) as (λ v. seen_at beats (if v then record p { until = beats + 20 } else p) ≡ (if v then record (seen_at beats p) { wait = 20 } else seen_at beats p)) [ true ↦ rw long refl | false ↦ refl ]
+    elim (lies_ready cell (seen_at beats p)) as
+    (λ v. seen_at beats (if v then record p { until = beats + 20 } else p)
+    ≡ (if v then record (seen_at beats p) { wait = 20 } else seen_at beats p))
+    [ true ↦ rw long refl | false ↦ refl ]
 
 pub taken-seen : (beats : ℕ) (cell : Cell) (pickups : List Resting) → map (seen_at beats) (map (emptied_at beats cell) pickups) ≡ taken (map (seen_at beats) pickups) cell
 taken-seen beats cell [] = refl

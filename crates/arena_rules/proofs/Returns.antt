@@ -24,7 +24,9 @@ returns-next players number d there =
     let player : Player = get_or players number d in
     let behind : drop number players ≡ player ∷ drop (number + 1) players = drop_more players number d there in
     let whole : take number players ++ player ∷ drop (number + 1) players ≡ players = ap (λ l. take number players ++ l) (sym behind) ∙ take-append-drop number players in
-    let front : take (number + 1) (set players number (returned players player)) ≡ take number players ++ returned players player ∷ [] = take-set_at players number (number + 1) (returned players player) refl there in
+    let front : take (number + 1) (set players number (returned players player)) ≡ take number players
+    ++ returned players player ∷ [] = take-set_at players number (number + 1) (returned players player) refl
+    there in
     let back : drop (number + 1) (set players number (returned players player)) ≡ drop (number + 1) players = drop-set-lt (number + 1) players number (returned players player) (omega arith) in
     rw (front, back)
     (sym (ap (λ l. returns (take number players) l) behind

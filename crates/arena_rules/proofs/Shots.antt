@@ -28,9 +28,11 @@ open_spot-open grid face (pos x, negsuc y) spot found = absurd (let e : None ≡
 open_spot-open grid face (negsuc x, y) spot found = absurd (let e : None ≡ Some spot = found in cc)
 
 -- a shot that hit
-scored-kept : (grid : Grid) (players : List Player) (owner killed : ℕ) → ArePlayers grid players → ArePlayers grid (scored players owner killed) × (length (scored players owner killed) ≡ length players)
+scored-kept : (grid : Grid) (players : List Player) (owner killed : ℕ) → ArePlayers grid players
+    → ArePlayers grid (scored players owner killed) × (length (scored players owner killed) ≡ length players)
 scored-kept grid players owner killed sound =
-    elim (owner == killed) as (λ v. ArePlayers grid (changed players owner (if v then with_loss else with_gain)) × (length (changed players owner (if v then with_loss else with_gain)) ≡ length players)) [
+    elim (owner == killed) as (λ v. ArePlayers grid (changed players owner (if v then with_loss else with_gain)) ×
+    (length (changed players owner (if v then with_loss else with_gain)) ≡ length players)) [
       | true ↦ (ArePlayers-changed grid players owner with_loss (Keeps-with_loss grid) sound, length-changed players owner with_loss)
       | false ↦ (ArePlayers-changed grid players owner with_gain (Keeps-with_gain grid) sound, length-changed players owner with_gain)
     ]
@@ -60,17 +62,28 @@ flying-kept grid count shot spot possible free =
       | false ↦ λ more. record { owner = possible.owner; free = free; left = (grind (arith, nat_tests), omega (arith, possible.left.1)) }
     ] refl
 
-flown_into-kept : (grid : Grid) (players : List Player) (shot : Shot) (spot : Spot) (held : Option ℕ) → ArePlayers grid players → IsShot grid (length players) shot → is_open grid spot.x spot.y ≡ true → IsFlight grid (length players) (flown_into players shot spot held)
-flown_into-kept grid players shot spot (Some number) sound possible free = record { players = (hit-kept grid players shot.owner number sound).0; count = (hit-kept grid players shot.owner number sound).1; shot = tt }
+flown_into-kept : (grid : Grid) (players : List Player) (shot : Shot) (spot : Spot) (held : Option ℕ)
+    → ArePlayers grid players → IsShot grid (length players) shot → is_open grid spot.x spot.y ≡ true
+    → IsFlight grid (length players) (flown_into players shot spot held)
+flown_into-kept grid players shot spot (Some number) sound possible free =
+    record {
+      players = (hit-kept grid players shot.owner number sound).0;
+      count = (hit-kept grid players shot.owner number sound).1;
+      shot = tt;
+    }
 flown_into-kept grid players shot spot None sound possible free = record { players = sound; count = refl; shot = flying-kept grid (length players) shot spot possible free }
 
-flown_to-kept : (grid : Grid) (players : List Player) (shot : Shot) (target : Option Spot) → ArePlayers grid players → IsShot grid (length players) shot → ((spot : Spot) → target ≡ Some spot → is_open grid spot.x spot.y ≡ true) → IsFlight grid (length players) (flown_to players shot target)
+flown_to-kept : (grid : Grid) (players : List Player) (shot : Shot) (target : Option Spot) → ArePlayers grid players
+    → IsShot grid (length players) shot → ((spot : Spot) → target ≡ Some spot → is_open grid spot.x spot.y ≡ true)
+    → IsFlight grid (length players) (flown_to players shot target)
 flown_to-kept grid players shot None sound possible free = record { players = sound; count = refl; shot = tt }
 flown_to-kept grid players shot (Some spot) sound possible free = flown_into-kept grid players shot spot (holder players (spot_cell spot)) sound possible (free spot refl)
 
 flown-kept : (grid : Grid) (players : List Player) (shot : Shot) → ArePlayers grid players → IsShot grid (length players) shot → IsFlight grid (length players) (flown grid players shot)
 unfolding flown
-flown-kept grid players shot sound possible = flown_to-kept grid players shot (open_ahead grid shot.spot) sound possible (λ spot found. open_spot-open grid shot.spot.face (ahead shot.spot.face (spot_cell shot.spot)) spot found)
+flown-kept grid players shot sound possible =
+    flown_to-kept grid players shot (open_ahead grid shot.spot) sound possible
+    (λ spot found. open_spot-open grid shot.spot.face (ahead shot.spot.face (spot_cell shot.spot)) spot found)
 
 -- what all shots leave is of a world of as many players
 pub record AreFlights (grid : Grid) (count most : ℕ) (all : Flights) : Type 0 where
@@ -79,17 +92,30 @@ pub record AreFlights (grid : Grid) (count most : ℕ) (all : Flights) : Type 0 
   pub room : length all.shots ≤ most
   pub each : All (IsShot grid count) all.shots
 
-with_first-kept : (grid : Grid) (count most : ℕ) (shot : Option Shot) (others : Flights) → IfSome shot (IsShot grid count) → AreFlights grid count most others → AreFlights grid count (most + 1) (with_first shot others)
-with_first-kept grid count most (Some shot) others possible kept = record { players = kept.players; number = kept.number; room = omega (arith, kept.room); each = All-cons (IsShot grid count) shot others.shots possible kept.each }
+with_first-kept : (grid : Grid) (count most : ℕ) (shot : Option Shot) (others : Flights)
+    → IfSome shot (IsShot grid count) → AreFlights grid count most others
+    → AreFlights grid count (most + 1) (with_first shot others)
+with_first-kept grid count most (Some shot) others possible kept =
+    record {
+      players = kept.players;
+      number = kept.number;
+      room = omega (arith, kept.room);
+      each = All-cons (IsShot grid count) shot others.shots possible kept.each;
+    }
 with_first-kept grid count most None others possible kept = record { players = kept.players; number = kept.number; room = omega (arith, kept.room); each = kept.each }
 
-pub flights-kept : (grid : Grid) (players : List Player) (shots : List Shot) → ArePlayers grid players → All (IsShot grid (length players)) shots → AreFlights grid (length players) (length shots) (flights grid players shots)
+pub flights-kept : (grid : Grid) (players : List Player) (shots : List Shot) → ArePlayers grid players
+    → All (IsShot grid (length players)) shots
+    → AreFlights grid (length players) (length shots) (flights grid players shots)
 unfolding flights
 flights-kept grid players [] sound possible = record { players = sound; number = refl; room = omega arith; each = possible }
 flights-kept grid players (shot ∷ shots) sound possible =
     let first : IsFlight grid (length players) (flown grid players shot) = flown-kept grid players shot sound (All-head (IsShot grid (length players)) shot shots possible) in
     let P : ℕ → Type 0 = λ n. All (IsShot grid n) shots in
-    let others : AreFlights grid (length (flown grid players shot).players) (length shots) (flights grid (flown grid players shot).players shots) = flights-kept grid (flown grid players shot).players shots first.players (subst P (sym first.count) (All-tail (IsShot grid (length players)) shot shots possible)) in
+    let others : AreFlights grid (length (flown grid players shot).players) (length shots)
+    (flights grid (flown grid players shot).players shots) =
+    flights-kept grid (flown grid players shot).players shots first.players
+    (subst P (sym first.count) (All-tail (IsShot grid (length players)) shot shots possible)) in
     let Q : ℕ → Type 0 = λ n. AreFlights grid n (length shots) (flights grid (flown grid players shot).players shots) in
     let R : ℕ → Type 0 = λ n. AreFlights grid (length players) n (with_first (flown grid players shot).shot (flights grid (flown grid players shot).players shots)) in
     let more : length shots + 1 ≡ length (shot ∷ shots) = omega arith in

@@ -34,8 +34,18 @@ pub IsGrid-lane : IsGrid lane
 IsGrid-lane = IsGrid-open_grid 64 1 (lit≤ tt) (lit≤ tt) (lit≤ tt) (lit≤ tt)
 
 -- a layout whose parts are told by tests
-pub IsLayout-from_tests : (layout : Layout) → IsGrid layout.grid → 1 ≤ length layout.players → length layout.players ≤ 32 → length layout.pickups ≤ 32 → list_all (λ (c : Cell). is_open layout.grid c.x c.y) (cells_in_use layout) ≡ true → are_distinct same_cell (cells_in_use layout) ≡ true → IsLayout layout
-IsLayout-from_tests layout grid some few few_pickups free distinct = record { grid = grid; players = (some, few); pickups = few_pickups; free = free; apart = IsDistinct-from_test same_cell (cells_in_use layout) distinct }
+pub IsLayout-from_tests : (layout : Layout) → IsGrid layout.grid → 1 ≤ length layout.players
+    → length layout.players ≤ 32 → length layout.pickups ≤ 32
+    → list_all (λ (c : Cell). is_open layout.grid c.x c.y) (cells_in_use layout) ≡ true
+    → are_distinct same_cell (cells_in_use layout) ≡ true → IsLayout layout
+IsLayout-from_tests layout grid some few few_pickups free distinct =
+    record {
+      grid = grid;
+      players = (some, few);
+      pickups = few_pickups;
+      free = free;
+      apart = IsDistinct-from_test same_cell (cells_in_use layout) distinct;
+    }
 
 -- no shots and no pickups
 pub no_shots : (grid : Grid) (count : ℕ) → AreShots grid count []

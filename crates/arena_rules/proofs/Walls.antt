@@ -1,5 +1,6 @@
 -- Which cells are walled, and that a grid stays one that the ground can have.
-use Rattle.std.proofs.Common.{◌≡◌, ◌↔◌, ◌⊎◌, eq-eqb, ℕ, ◌<◌, ◌≤◌, ◌||◌, ◌&&◌, ◌==◌, ◌^◌, ◌*◌, ◌%◌, false, ℤ, pos, negsuc, refl, sym, ap, ◌∙◌, inl, inr, length, slice_index, replicate, bit_or, arith, length-set, get_or-set_other}
+use Rattle.std.proofs.Common.{◌≡◌, ◌↔◌, ◌⊎◌, eq-eqb, ℕ, ◌<◌, ◌≤◌, ◌||◌, ◌&&◌, ◌==◌, ◌^◌, ◌*◌, ◌%◌, false, ℤ, pos, negsuc, refl, sym, ap, ◌∙◌, inl}
+use Rattle.std.proofs.Common.{inr, length, slice_index, replicate, bit_or, arith, length-set, get_or-set_other}
 use Rattle.std.specs.Int.{bit_at, FitsUnsignedBits}
 use Rattle.std.proofs.lemmas.Bool.{cases_lt, cases_eq, eqb-true, ne_eqb, or_cases, and_parts, and_left, and_right, le-ltb, false≢true}
 use Rattle.std.proofs.lemmas.Bool.Decides.{nat_tests}
@@ -11,7 +12,12 @@ use Rattle.arena_rules.specs.Ground.{Grid, IsGrid, open_grid, is_walled, IsWalle
 
 -- no row of an open grid has a wall
 no_wall_in_row : (n y : ℕ) → slice_index (replicate n 0) y ≡ 0
-no_wall_in_row n y = elim (cases_lt y n) [ inl below ↦ get_or-replicate n y 0 0 below | inr past ↦ get_or_past (replicate n 0) y 0 (let l : length {A = ℕ} (replicate n 0) ≡ n = length-replicate n 0 in omega (arith, l)) ]
+no_wall_in_row n y = elim (cases_lt y n) [
+  | inl below ↦ get_or-replicate n y 0 0 below
+  | inr past ↦
+      get_or_past (replicate n 0) y 0 (let l : length {A = ℕ} (replicate n 0) ≡ n = length-replicate n 0 in
+      omega (arith, l))
+]
 
 -- no cell of an open grid is walled
 pub is_walled-open_grid : (width height x y : ℕ) → is_walled (open_grid width height) x y ≡ false
@@ -35,7 +41,13 @@ is_walled-with_wall grid x y a b within = elim (cases_eq b y) [
 
 -- an open grid of sides in range is a grid
 pub IsGrid-open_grid : (width height : ℕ) → 3 ≤ width → width ≤ 64 → 1 ≤ height → height ≤ 64 → IsGrid (open_grid width height)
-IsGrid-open_grid width height wide narrow high low = record { width = (wide, narrow); height = (high, low); rows = length-replicate {A = ℕ} 64 0; walls = λ x y walled. absurd (false≢true (sym (is_walled-open_grid width height x y) ∙ walled)) }
+IsGrid-open_grid width height wide narrow high low =
+    record {
+      width = (wide, narrow);
+      height = (high, low);
+      rows = length-replicate {A = ℕ} 64 0;
+      walls = λ x y walled. absurd (false≢true (sym (is_walled-open_grid width height x y) ∙ walled));
+    }
 
 -- a grid with a wall more in it is a grid
 pub IsGrid-with_wall : (grid : Grid) (x y : ℕ) → IsGrid grid → x < grid.width → y < grid.height → IsGrid (with_wall grid x y)
@@ -46,7 +58,8 @@ IsGrid-with_wall grid x y sound column row = record {
   rows = length-set _ _ _ ∙ sound.rows;
   walls = λ a b walled. elim (or_cases (is_walled grid a b) ((a == x) && (b == y)) (sym (is_walled-with_wall grid x y a b (omega (arith, sound.rows, sound.height.1))) ∙ walled)) [
     | inl old ↦ sound.walls a b old
-    | inr new ↦ let e : a ≡ x = eqb-true a x (and_parts (a == x) (b == y) new).0 in let f : b ≡ y = eqb-true b y (and_parts (a == x) (b == y) new).1 in (omega (arith, e, column), omega (arith, f, row))
+    | inr new ↦ let e : a ≡ x = eqb-true a x (and_parts (a == x) (b == y) new).0 in let f : b ≡ y =
+        eqb-true b y (and_parts (a == x) (b == y) new).1 in (omega (arith, e, column), omega (arith, f, row))
   ];
 }
 
@@ -64,7 +77,12 @@ is_free-wide grid (negsuc x) y sound wide = refl
 -- no row of a grid is beyond a byte
 pub is_free-high : (grid : Grid) (x y : ℤ) → IsGrid grid → (FitsUnsignedBits 8 y → ⊥) → false ≡ is_free grid x y
 unfolding is_open
-is_free-high grid (pos x) (pos y) sound high = elim (cases_lt y 256) [ inl fits ↦ absurd (high fits) | inr beyond ↦ sym (and_right _ _ (and_left _ _ (le-ltb y grid.height (omega (arith, sound.height.1))))) ]
+is_free-high grid (pos x) (pos y) sound high =
+    elim (cases_lt y 256) [
+      | inl fits ↦ absurd (high fits)
+      | inr beyond ↦
+          sym (and_right _ _ (and_left _ _ (le-ltb y grid.height (omega (arith, sound.height.1)))))
+    ]
 is_free-high grid (pos x) (negsuc y) sound high = refl
 is_free-high grid (negsuc x) y sound high = refl
 

@@ -1,5 +1,6 @@
 -- Every world of an arena is one: at the start, after each command, and after each beat.
-use Rattle.std.proofs.Common.{◌≡◌, min, ◌==◌, ℕ, ◌+◌, ◌-◌, ◌<◌, ◌||◌, nat_le, true, false, if◌then◌else◌, Option, Some, None, slice_get, unwrap_or, List, [], ◌∷◌, ◌++◌, map, length, set, refl, sym, ap, ◌∙◌, subst, arith, lit<, length-set, length-append}
+use Rattle.std.proofs.Common.{◌≡◌, min, ◌==◌, ℕ, ◌+◌, ◌-◌, ◌<◌, ◌||◌, nat_le, true, false, if◌then◌else◌, Option, Some, None, slice_get, unwrap_or}
+use Rattle.std.proofs.Common.{List, [], ◌∷◌, ◌++◌, map, length, set, refl, sym, ap, ◌∙◌, subst, arith, lit<, length-set, length-append}
 use Rattle.std.specs.List.{All, AllByRecursion, IsDistinct, list_all}
 use Rattle.std.proofs.lemmas.Bool.{and_parts, or_parts}
 use Rattle.std.proofs.lemmas.Bool.Decides.{nat_tests}
@@ -38,7 +39,8 @@ use Rattle.arena_rules.proofs.Dead.{returns-kept, length-returns}
 use Rattle.arena_rules.proofs.Lying.{ArePickups-taken, ArePickups-waited}
 
 -- players at home stand in the cells of their homes, which differ
-home_apart : (cell : Cell) (homes : List Spot) → AllByRecursion (λ c. same_cell cell c ≡ false) (map spot_cell homes) → AllByRecursion (λ a. same_place (Some cell) a ≡ false) (map place (map opening_player homes))
+home_apart : (cell : Cell) (homes : List Spot) → AllByRecursion (λ c. same_cell cell c ≡ false) (map spot_cell homes)
+    → AllByRecursion (λ a. same_place (Some cell) a ≡ false) (map place (map opening_player homes))
 home_apart cell [] apart = tt
 home_apart cell (home ∷ homes) apart = (apart.0, home_apart cell homes apart.1)
 
@@ -67,13 +69,20 @@ IsWorld-opening_world layout possible =
       grid = possible.grid;
       players = record {
         count = let l : length (map opening_player layout.players) ≡ length layout.players = length-map layout.players opening_player in omega (arith, l, possible.players.1);
-        each = All-map (IsPlayer layout.grid) opening_player layout.players (All-weaker (λ home. is_open layout.grid home.x home.y ≡ true) (λ home. IsPlayer layout.grid (opening_player home)) (opening_possible layout.grid) layout.players (all_open layout.grid spot_cell layout.players opens.1));
+        each = All-map (IsPlayer layout.grid) opening_player layout.players
+            (All-weaker (λ home. is_open layout.grid home.x home.y ≡ true)
+            (λ home. IsPlayer layout.grid (opening_player home)) (opening_possible layout.grid) layout.players
+            (all_open layout.grid spot_cell layout.players opens.1));
         apart = homes_apart layout.players (IsDistinct-back same_cell (map pickup_cell layout.pickups) (map spot_cell layout.players) possible.apart);
       };
       shots = record { count = omega arith; each = All-nil (IsShot layout.grid (length (map opening_player layout.players))) };
       pickups = record {
         count = let l : length (map opening_pickup layout.pickups) ≡ length layout.pickups = length-map layout.pickups opening_pickup in omega (arith, l, possible.pickups);
-        each = All-map (IsPickup layout.grid) opening_pickup layout.pickups (All-weaker (λ spot. is_open layout.grid spot.x spot.y ≡ true) (λ spot. IsPickup layout.grid (opening_pickup spot)) (λ spot opens. record { free = opens; wait = omega arith }) layout.pickups (all_open layout.grid pickup_cell layout.pickups opens.0));
+        each = All-map (IsPickup layout.grid) opening_pickup layout.pickups
+            (All-weaker (λ spot. is_open layout.grid spot.x spot.y ≡ true)
+            (λ spot. IsPickup layout.grid (opening_pickup spot))
+            (λ spot opens. record { free = opens; wait = omega arith }) layout.pickups
+            (all_open layout.grid pickup_cell layout.pickups opens.0));
         apart = rw cells_lie (IsDistinct-front same_cell (map pickup_cell layout.pickups) (map spot_cell layout.players) possible.apart);
       };
       time = lit< tt;
@@ -92,29 +101,43 @@ live_of-is None player body found = absurd (let e : None ≡ Some (player, body)
 live_of-is (Some there) player body found = let is = live_in-is there player there.state body refl found in (ap Some is.0, is.1)
 
 -- a change by a live player
-by_live-kept : (world : World) (live : Option (Player × Body)) (change : Player → Body → World) → IsWorld world → ((player : Player) (body : Body) → live ≡ Some (player, body) → IsWorld (change player body)) → IsWorld (by_live world live change)
+by_live-kept : (world : World) (live : Option (Player × Body)) (change : Player → Body → World) → IsWorld world
+    → ((player : Player) (body : Body) → live ≡ Some (player, body) → IsWorld (change player body))
+    → IsWorld (by_live world live change)
 by_live-kept world None change sound kept = sound
 by_live-kept world (Some (player, body)) change sound kept = kept player body refl
 
-by_player-kept : (world : World) (number : ℕ) (change : Player → Body → World) → IsWorld world → ((player : Player) (body : Body) → slice_get world.players number ≡ Some player → player.state ≡ Live body → IsWorld (change player body)) → IsWorld (by_player world number change)
-by_player-kept world number change sound kept = by_live-kept world (live_of (slice_get world.players number)) change sound (λ player body live. let is = live_of-is (slice_get world.players number) player body live in kept player body is.0 is.1)
+by_player-kept : (world : World) (number : ℕ) (change : Player → Body → World) → IsWorld world
+    → ((player : Player) (body : Body) → slice_get world.players number ≡ Some player → player.state ≡ Live body
+    → IsWorld (change player body)) → IsWorld (by_player world number change)
+by_player-kept world number change sound kept =
+    by_live-kept world (live_of (slice_get world.players number)) change sound
+    (λ player body live. let is = live_of-is (slice_get world.players number) player body live in
+    kept player body is.0 is.1)
 
 -- the shots of a world where a player is replaced
 shots-kept : (world : World) (number : ℕ) (player : Player) → IsWorld world → AreShots world.grid (length (set world.players number player)) world.shots
 shots-kept world number player sound = let P : ℕ → Type 0 = λ n. AreShots world.grid n world.shots in subst P (sym (length-set world.players number player)) sound.shots
 
 -- a live player with another body in the same cell
-pub IsWorld-stayed : (world : World) (number : ℕ) (player : Player) (old new : Body) → IsWorld world → slice_get world.players number ≡ Some player → player.state ≡ Live old → IsBody world.grid new → spot_cell new.spot ≡ spot_cell old.spot → IsWorld (record world { players = set world.players number (alive player new) })
+pub IsWorld-stayed : (world : World) (number : ℕ) (player : Player) (old new : Body) → IsWorld world
+    → slice_get world.players number ≡ Some player → player.state ≡ Live old → IsBody world.grid new
+    → spot_cell new.spot ≡ spot_cell old.spot
+    → IsWorld (record world { players = set world.players number (alive player new) })
 IsWorld-stayed world number player old new sound there live possible stays = record {
   grid = sound.grid;
-  players = ArePlayers-stayed world.grid world.players number player (alive player new) sound.players there (IsPlayer-alive world.grid player new (player_at world.grid world.players number player sound.players there) possible) (ap Some stays ∙ sym (ap place_in live));
+  players = ArePlayers-stayed world.grid world.players number player (alive player new) sound.players there
+      (IsPlayer-alive world.grid player new (player_at world.grid world.players number player sound.players there)
+      possible) (ap Some stays ∙ sym (ap place_in live));
   shots = shots-kept world number (alive player new) sound;
   pickups = sound.pickups;
   time = sound.time;
 }
 
 -- a turn
-pub IsWorld-faced : (world : World) (number : ℕ) (player : Player) (body : Body) (face : Face) → IsWorld world → slice_get world.players number ≡ Some player → player.state ≡ Live body → IsWorld (with_player world number (alive player (turned_to body face)))
+pub IsWorld-faced : (world : World) (number : ℕ) (player : Player) (body : Body) (face : Face) → IsWorld world
+    → slice_get world.players number ≡ Some player → player.state ≡ Live body
+    → IsWorld (with_player world number (alive player (turned_to body face)))
 IsWorld-faced world number player body face sound there live =
     let stands : IsBody world.grid body = body_at world.grid player body (player_at world.grid world.players number player sound.players there) live in
     IsWorld-stayed world number player body (turned_to body face) sound there live (record { free = stands.free; health = stands.health; ammo = stands.ammo }) refl
@@ -124,27 +147,45 @@ IsWorld-turned world number turn sound = by_player-kept world number _ sound (λ
 
 -- a shot
 pub IsWorld-fired : (world : World) (number : ℕ) (player : Player) (body : Body) → IsWorld world → slice_get world.players number ≡ Some player → player.state ≡ Live body → length world.shots < 64
-    → IsWorld (record world { players = set world.players number (alive player (record body { ammo = body.ammo - 1 })); shots = world.shots ++ record { owner = number; spot = body.spot; left = 8 } ∷ [] })
+    → IsWorld (record world {
+      players = set world.players number (alive player (record body { ammo = body.ammo - 1 }));
+      shots = world.shots ++ record { owner = number; spot = body.spot; left = 8 } ∷ [];
+    })
 IsWorld-fired world number player body sound there live room =
     let stands : IsBody world.grid body = body_at world.grid player body (player_at world.grid world.players number player sound.players there) live in
     let less : Body = record body { ammo = body.ammo - 1 } in
     let shot : Shot = record { owner = number; spot = body.spot; left = 8 } in
-    let kept : IsWorld (record world { players = set world.players number (alive player less) }) = IsWorld-stayed world number player body less sound there live (record { free = stands.free; health = stands.health; ammo = omega (arith, stands.ammo) }) refl in
-    let within : number < length (set world.players number (alive player less)) = omega (arith, length-set world.players number (alive player less), slice_get_within world.players number player there) in
+    let kept : IsWorld (record world { players = set world.players number (alive player less) }) =
+    IsWorld-stayed world number player body less sound there live
+    (record { free = stands.free; health = stands.health; ammo = omega (arith, stands.ammo) }) refl in
+    let within : number < length (set world.players number (alive player less)) =
+    omega (
+      arith,
+      length-set world.players number (alive player less),
+      slice_get_within world.players number player there,
+    ) in
     record {
       grid = kept.grid;
       players = kept.players;
       shots = record {
         count = omega (arith, length-append world.shots (shot ∷ []));
-        each = All-push (IsShot world.grid (length (set world.players number (alive player less)))) world.shots shot kept.shots.each (record { owner = within; free = stands.free; left = (omega arith, omega arith) });
+        each = All-push (IsShot world.grid (length (set world.players number (alive player less)))) world.shots shot
+            kept.shots.each (record { owner = within; free = stands.free; left = (omega arith, omega arith) });
       };
       pickups = kept.pickups;
       time = kept.time;
     }
 
-fired-kept : (world : World) (number : ℕ) (player : Player) (body : Body) → IsWorld world → slice_get world.players number ≡ Some player → player.state ≡ Live body → IsWorld (fired world number player body)
+fired-kept : (world : World) (number : ℕ) (player : Player) (body : Body) → IsWorld world
+    → slice_get world.players number ≡ Some player → player.state ≡ Live body → IsWorld (fired world number player body)
 fired-kept world number player body sound there live =
-    elim ((body.ammo == 0) || nat_le 64 (length world.shots)) as (λ v. ((body.ammo == 0) || nat_le 64 (length world.shots)) ≡ v → IsWorld (if v then world else record world { players = set world.players number (alive player (record body { ammo = body.ammo - 1 })); shots = world.shots ++ record { owner = number; spot = body.spot; left = 8 } ∷ [] })) [
+    elim ((body.ammo == 0) || nat_le 64 (length world.shots)) as
+    (λ v. ((body.ammo == 0) || nat_le 64 (length world.shots)) ≡ v
+    → IsWorld (if v then world else record world {
+      players = set world.players number (alive player (record body { ammo = body.ammo - 1 }));
+      shots = world.shots
+          ++ record { owner = number; spot = body.spot; left = 8 } ∷ [];
+    })) [
       | true ↦ λ _. sound
       | false ↦ λ room.
           let few : nat_le 64 (length world.shots) ≡ false = (or_parts (body.ammo == 0) (nat_le 64 (length world.shots)) room).1 in
@@ -155,7 +196,10 @@ pub IsWorld-shot_by : (world : World) (number : ℕ) → IsWorld world → IsWor
 IsWorld-shot_by world number sound = by_player-kept world number (fired world number) sound (λ player body there live. fired-kept world number player body sound there live)
 
 -- a step
-pub IsWorld-arrived : (world : World) (number : ℕ) (player : Player) (body : Body) (spot : Spot) → IsWorld world → slice_get world.players number ≡ Some player → player.state ≡ Live body → is_open world.grid spot.x spot.y ≡ true → is_held world.players (spot_cell spot) ≡ false → IsWorld (arrived world number player (record body { spot = spot }))
+pub IsWorld-arrived : (world : World) (number : ℕ) (player : Player) (body : Body) (spot : Spot) → IsWorld world
+    → slice_get world.players number ≡ Some player → player.state ≡ Live body → is_open world.grid spot.x spot.y ≡ true
+    → is_held world.players (spot_cell spot) ≡ false
+    → IsWorld (arrived world number player (record body { spot = spot }))
 IsWorld-arrived world number player body spot sound there live free unheld_there =
     let possible : IsPlayer world.grid player = player_at world.grid world.players number player sound.players there in
     let stands : IsBody world.grid body = body_at world.grid player body possible live in
@@ -171,7 +215,10 @@ IsWorld-arrived world number player body spot sound there live free unheld_there
       time = sound.time;
     }
 
-gone_to-kept : (world : World) (number : ℕ) (player : Player) (body : Body) (target : Option Spot) → IsWorld world → slice_get world.players number ≡ Some player → player.state ≡ Live body → ((spot : Spot) → target ≡ Some spot → is_open world.grid spot.x spot.y ≡ true) → IsWorld (gone_to world number player body target)
+gone_to-kept : (world : World) (number : ℕ) (player : Player) (body : Body) (target : Option Spot) → IsWorld world
+    → slice_get world.players number ≡ Some player → player.state ≡ Live body
+    → ((spot : Spot) → target ≡ Some spot → is_open world.grid spot.x spot.y ≡ true)
+    → IsWorld (gone_to world number player body target)
 gone_to-kept world number player body None sound there live free = sound
 gone_to-kept world number player body (Some spot) sound there live free =
     elim (is_held world.players (spot_cell spot)) as (λ v. is_held world.players (spot_cell spot) ≡ v → IsWorld (if v then world else arrived world number player (record body { spot = spot }))) [
@@ -181,7 +228,9 @@ gone_to-kept world number player body (Some spot) sound there live free =
 
 pub IsWorld-gone : (world : World) (number : ℕ) → IsWorld world → IsWorld (gone world number)
 unfolding gone
-IsWorld-gone world number sound = by_player-kept world number _ sound (λ player body there live. gone_to-kept world number player body (open_ahead world.grid body.spot) sound there live (λ spot found. open_spot-open world.grid body.spot.face (ahead body.spot.face (spot_cell body.spot)) spot found))
+IsWorld-gone world number sound = by_player-kept world number _ sound
+    (λ player body there live. gone_to-kept world number player body (open_ahead world.grid body.spot) sound there live
+    (λ spot found. open_spot-open world.grid body.spot.face (ahead body.spot.face (spot_cell body.spot)) spot found))
 
 -- a command
 IsWorld-acted : (world : World) (number : ℕ) (act : Act) → IsWorld world → IsWorld (acted world number act)

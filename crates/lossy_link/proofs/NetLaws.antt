@@ -1,5 +1,6 @@
 -- A net stays on its way, whatever line comes next; and that line may be made.
-use Rattle.std.proofs.Common.{◌≡◌, ℕ, zero, suc, ◌<◌, Bool, true, false, cond, ◌==◌, List, [], ◌∷◌, ◌++◌, length, get_or, set, take, drop, filter, Contains, Option, Some, None, ◌⊎◌, inl, inr, refl, ap, sym, ◌∙◌, subst, append-nil, arith}
+use Rattle.std.proofs.Common.{◌≡◌, ℕ, zero, suc, ◌<◌, Bool, true, false, cond, ◌==◌, List, [], ◌∷◌, ◌++◌, length, get_or, set, take, drop, filter}
+use Rattle.std.proofs.Common.{Contains, Option, Some, None, ◌⊎◌, inl, inr, refl, ap, sym, ◌∙◌, subst, append-nil, arith}
 use Rattle.std.specs.List.{AllByRecursion}
 use Rattle.std.proofs.lemmas.List.{length-replicate, get_or-set_same, get_or-set_other, get_or-replicate}
 use Rattle.std.proofs.lemmas.Bool.{cases_eq}
@@ -32,7 +33,8 @@ use Rattle.lossy_link.specs.Way.{IsThere, AtMirror, IsNet}
 use Rattle.lossy_link.proofs.LinkLaws.{next-split}
 use Rattle.lossy_link.proofs.Places.{IsPlace, changed-same, changed-other, same-place}
 use Rattle.lossy_link.proofs.Names.{found-named}
-use Rattle.lossy_link.proofs.LinksLaws.{send-still, ack-still, hear-still, carry-received, take-received, put-sent, place-in, issued-own, issued-same, issued-other, own-next, own-more, next-AreLinks, new-received, new-AreLinks}
+use Rattle.lossy_link.proofs.LinksLaws.{send-still, ack-still, hear-still, carry-received, take-received, put-sent, place-in, issued-own, issued-same}
+use Rattle.lossy_link.proofs.LinksLaws.{issued-other, own-next, own-more, next-AreLinks, new-received, new-AreLinks}
 use Rattle.lossy_link.proofs.AtMirror.{start-AtMirror, same-AtMirror, at-copies, MayArrive, may-arrive, arrive-AtMirror, turn-AtMirror}
 
 -- what a mirror has received from each
@@ -82,7 +84,10 @@ next-new m n from to x h a b is =
     let rest = drop 1 (drop (length l.received) l.sent) in
     let passes : (P : Command → Type 0) → AllByRecursion P l.sent → P x =
     λ P all. last-all P l.received x (all-first P (l.received ++ x ∷ []) rest (subst (λ (ys : List Command). AllByRecursion P ys) split all)) in
-    let own : x.from ≡ from = (let e : (x.from == from) ≡ true = passes (λ y. is_from from y ≡ true) (subst (λ (ys : List Command). AllByRecursion (λ y. is_from from y ≡ true) ys) (sym of.sent) (filter-all (is_from from) n.issued)) in grind (arith, nat_tests)) in
+    let own : x.from ≡ from = (let e : (x.from == from)
+    ≡ true = passes (λ y. is_from from y ≡ true)
+    (subst (λ (ys : List Command). AllByRecursion (λ y. is_from from y ≡ true) ys) (sym of.sent)
+    (filter-all (is_from from) n.issued)) in grind (arith, nat_tests)) in
     let differ : NamesDiffer (l.received ++ x ∷ []) =
     NamesDiffer-front (l.received ++ x ∷ []) rest (subst NamesDiffer (sym of.sent ∙ split) (NamesDiffer-filter (is_from from) n.issued h.differ)) in (
       record {
@@ -159,7 +164,9 @@ pub net-ready :
     → script_of m.commands n.links l ≡ s ∷ [] → IsReady m s n.mirrors
 unfolding script_of
 net-ready {W} m opening n (Issue from number) s sound a h is =
-    elim (has_command n.links.issued from number) as (λ v. has_command n.links.issued from number ≡ v → cond v [] (arriving from (listed (command_named m.commands from number))) ≡ s ∷ [] → IsReady m s n.mirrors) [
+    elim (has_command n.links.issued from number) as
+    (λ v. has_command n.links.issued from number ≡ v
+    → cond v [] (arriving from (listed (command_named m.commands from number))) ≡ s ∷ [] → IsReady m s n.mirrors) [
       | true ↦ λ e k. absurd cc
       | false ↦ λ e k. found (command_named m.commands from number) refl e k
     ]
@@ -263,7 +270,12 @@ unfolding next_links script_of after_script
 net-next {W} m opening n (Issue from number) sound a h =
     let links = next-AreLinks m n.links (Issue from number) a h.links in
     elim (has_command n.links.issued from number) as (λ v. has_command n.links.issued from number ≡ v → AreLinks m (cond v n.links (after_issue (command_named m.commands from number) from n.links))
-    → IsNet m opening (record { links = cond v n.links (after_issue (command_named m.commands from number) from n.links); mirrors = after_script m.commands n.mirrors (cond v [] (arriving from (listed (command_named m.commands from number)))) })) [
+    → IsNet m opening (record {
+      links = cond v n.links
+          (after_issue (command_named m.commands from number) from n.links);
+      mirrors =
+          after_script m.commands n.mirrors (cond v [] (arriving from (listed (command_named m.commands from number))));
+    })) [
       | true ↦ λ e k. record { links = k; count = h.count; mirrors = h.mirrors }
       | false ↦ λ e k. found (command_named m.commands from number) refl e k
     ]
@@ -275,7 +287,9 @@ net-next {W} m opening n (Issue from number) sound a h =
     found (Some x) e new k =
         let named = found-named m.commands from number x e in
         let fresh = subst (λ (j : ℕ). has_command n.links.issued j x.number ≡ false) (sym named.0) (subst (λ (j : ℕ). has_command n.links.issued from j ≡ false) (sym named.1) new) in
-        let mine = subst (λ (j : ℕ). IsNew m n.links.rows j x) named.0 (issue-new m n.links x h.links (subst (λ (j : ℕ). j < m.mirrors) (sym named.0) a) (command_named-Contains m.commands from number x e) fresh) in
+        let mine = subst (λ (j : ℕ). IsNew m n.links.rows j x) named.0
+        (issue-new m n.links x h.links (subst (λ (j : ℕ). j < m.mirrors) (sym named.0) a)
+        (command_named-Contains m.commands from number x e) fresh) in
         let place = place-in m n.links from from h.links a a in
         let own = link_at n.links.rows from from in
         let rows = changed_at (row_issued x from) from n.links.rows in
@@ -342,7 +356,8 @@ net-next {W} m opening n (Turn i) sound a h =
 -- ---- along
 
 pub net-along :
-    {W : Type 0} (m : MatchData) (opening : W) (n : NetState W) (ls : List NetLine) → IsMatch m → AllByRecursion (IsThere m.mirrors) ls → IsNet m opening n → IsNet m opening (after_net m.commands n ls)
+    {W : Type 0} (m : MatchData) (opening : W) (n : NetState W) (ls : List NetLine) → IsMatch m
+    → AllByRecursion (IsThere m.mirrors) ls → IsNet m opening n → IsNet m opening (after_net m.commands n ls)
 unfolding after_net
 net-along m opening n [] sound there h = h
 net-along m opening n (l ∷ ls) sound there h = net-along m opening (next_net m.commands n l) ls sound there.1 (net-next m opening n l sound there.0 h)

@@ -2,7 +2,9 @@
 use Rattle.std.specs.Prelude.{ℕ, ◌≡◌, ◌⊎◌, ◌<◌, ◌≤◌, ◌==◌, Bool, true, false, if◌then◌else◌, List, ◌∷◌, map, length, count_by, bytes_eq}
 use Rattle.std.specs.List.{AllByRecursion, IsDistinct}
 use Rattle.game_trait.specs.declared.command.Command.{Command}
-use Rattle.game_trait.specs.declared.limits.TheConstants.{LONGEST_MATCH, MOST_MIRRORS, MOST_PLANS, MOST_PLAYERS, MOST_PLAYERS_IN_1, MOST_COMMANDS_IN_1, MOST_COMMANDS_IN_2, MOST_SCRIPT_LINES, MOST_SHOWING_LINES, GREATEST_NUMBER}
+use Rattle.game_trait.specs.declared.limits.TheConstants.{LONGEST_MATCH, MOST_MIRRORS, MOST_PLANS, MOST_PLAYERS, MOST_PLAYERS_IN_1}
+use Rattle.game_trait.specs.declared.limits.TheConstants.{MOST_COMMANDS_IN_1, MOST_COMMANDS_IN_2, MOST_SCRIPT_LINES, MOST_SHOWING_LINES}
+use Rattle.game_trait.specs.declared.limits.TheConstants.{GREATEST_NUMBER}
 use Rattle.game_trait.specs.CommandList.{has_command}
 use Rattle.game_trait.specs.Keys.{NamesDiffer}
 use Rattle.arena_rules.specs.Setup.{Layout, IsLayout}

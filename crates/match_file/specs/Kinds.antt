@@ -4,7 +4,9 @@ use Rattle.std.specs.Prelude.{ℕ, ◌-◌, ◌^◌, Bool, true, false, ◌&&◌
 use Rattle.std.specs.List.{list_any}
 use Rattle.game_trait.specs.declared.command.Act.{Act}
 use Rattle.game_trait.specs.declared.command.Command.{Command}
-use Rattle.game_trait.specs.declared.limits.TheConstants.{LONGEST_MATCH, NARROWEST_GRID, WIDEST_GRID, TALLEST_GRID, MOST_MIRRORS, MOST_COPIES, LONGEST_DELAY, MOST_PLANS, MOST_PICKUPS, MOST_SCRIPT_LINES, MOST_SHOWING_LINES, GREATEST_NUMBER}
+use Rattle.game_trait.specs.declared.limits.TheConstants.{LONGEST_MATCH, NARROWEST_GRID, WIDEST_GRID, TALLEST_GRID, MOST_MIRRORS, MOST_COPIES}
+use Rattle.game_trait.specs.declared.limits.TheConstants.{LONGEST_DELAY, MOST_PLANS, MOST_PICKUPS, MOST_SCRIPT_LINES, MOST_SHOWING_LINES}
+use Rattle.game_trait.specs.declared.limits.TheConstants.{GREATEST_NUMBER}
 use Rattle.game_trait.specs.CommandList.{has_command}
 use Rattle.arena_rules.specs.declared.face.Face.{Face}
 use Rattle.arena_rules.specs.declared.face.Face.TheVariants.{N, E, S, W}

@@ -14,7 +14,9 @@ use Rattle.match_file.specs.declared.opening.Opening.{Opening}
 use Rattle.match_file.specs.declared.player.Player.{Player}
 use Rattle.match_file.specs.declared.script_line.ScriptLine.{ScriptLine}
 use Rattle.match_file.specs.declared.script_line.ScriptLine.TheVariants.{Tick, Turn, Arrive, Step, World, Run, Restagger}
-use Rattle.match_file.specs.Kinds.{greatest, is_open, is_ended, is_none, length_kind, grid_kind, mirrors_kind, delays_kind, pace_kind, plan_kind, wall_kind, pickup_kind, player_kind, ranges_of, command_kind, tick_kind, turn_kind, arrive_kind, step_kind, world_kind, run_kind, restagger_kind}
+use Rattle.match_file.specs.Kinds.{greatest, is_open, is_ended, is_none, length_kind, grid_kind, mirrors_kind, delays_kind, pace_kind, plan_kind}
+use Rattle.match_file.specs.Kinds.{wall_kind, pickup_kind, player_kind, ranges_of, command_kind, tick_kind, turn_kind, arrive_kind, step_kind}
+use Rattle.match_file.specs.Kinds.{world_kind, run_kind, restagger_kind}
 use Rattle.match_file.specs.Reading.{no_body}
 use Rattle.match_file.specs.Text.{head_line, number_line, grid_line, delays_line, plan_line, wall_line, pickup_line, player_line, script_line, script_lines}
 use Rattle.std.specs.Prelude.{◌⊎◌, ◌∷◌, codes}

@@ -114,7 +114,9 @@ made-more {W} show m script i begun mirrors old out new d s t below made next is
       all = made.all;
       opening = made.opening;
       count = made.count;
-      way = subst (λ (u : MirrorState W). AllOnWay m made.opening rest (set mirrors k u)) (sym (changed ∙ ap (after_line m.commands l) is)) (all-line m made.opening l rest mirrors s next.line next.there way);
+      way = subst (λ (u : MirrorState W). AllOnWay m made.opening rest (set mirrors k u))
+          (sym (changed ∙ ap (after_line m.commands l) is))
+          (all-line m made.opening l rest mirrors s next.line next.there way);
       state = made-state show m script i begun mirrors old out d s t below made next is changed;
       text =
           put

@@ -26,7 +26,9 @@ apart a b near close other = λ same.
     let no : true ≡ false = sym one ∙ other in cc
 
 -- what isn't a home stays whose it was
-settled-other : (n : ℕ) (homes : List Spot) (owners : List ℕ) (cell : Cell) → cell.x < 64 → All Near homes → list_any (λ h. same_cell cell (spot_cell h)) homes ≡ false → owner_of (settled n homes owners) cell ≡ owner_of owners cell
+settled-other : (n : ℕ) (homes : List Spot) (owners : List ℕ) (cell : Cell) → cell.x < 64 → All Near homes
+    → list_any (λ h. same_cell cell (spot_cell h)) homes ≡ false
+    → owner_of (settled n homes owners) cell ≡ owner_of owners cell
 unfolding settled
 settled-other n [] owners cell near homes free = refl
 settled-other n (h ∷ hs) owners cell near homes free =
@@ -40,14 +42,17 @@ free_home cell [] other = refl
 free_home cell (h ∷ hs) other = let rest : list_any (λ s. same_cell cell (spot_cell s)) hs ≡ false = free_home cell hs other.1 in rw (other.0, rest) refl
 
 -- each home is its player's
-settled-home : (n : ℕ) (homes : List Spot) (owners : List ℕ) (k : ℕ) (d : Spot) → length owners ≡ 4096 → All Near homes → IsDistinct same_cell (map spot_cell homes) → k < length homes → owner_of (settled n homes owners) (spot_cell (get_or homes k d)) ≡ n + k
+settled-home : (n : ℕ) (homes : List Spot) (owners : List ℕ) (k : ℕ) (d : Spot) → length owners ≡ 4096 → All Near homes
+    → IsDistinct same_cell (map spot_cell homes) → k < length homes
+    → owner_of (settled n homes owners) (spot_cell (get_or homes k d)) ≡ n + k
 unfolding settled
 settled-home n [] owners k d long homes other within = absurd (omega arith)
 settled-home n (h ∷ hs) owners zero d long homes other within =
     let near = All-head Near h hs homes in
     let column = near.0 in
     let row = near.1 in
-    settled-other (n + 1) hs (painted owners (spot_cell h) n) (spot_cell h) near.0 (All-tail Near h hs homes) (free_home (spot_cell h) hs (IsDistinct-head same_cell (spot_cell h) (map spot_cell hs) other))
+    settled-other (n + 1) hs (painted owners (spot_cell h) n) (spot_cell h) near.0 (All-tail Near h hs homes)
+    (free_home (spot_cell h) hs (IsDistinct-head same_cell (spot_cell h) (map spot_cell hs) other))
     ∙ get_or-set_same owners (cell_place (spot_cell h)) n 32 (omega (arith, long, column, row))
     ∙ omega arith
 settled-home n (h ∷ hs) owners (suc k) d long homes other within =
@@ -77,10 +82,14 @@ distinct-back (x ∷ xs) ys other = distinct-back xs ys (IsDistinct-tail same_ce
 -- the homes as a match begins
 pub opening-homes : (layout : Layout) → IsLayout layout → (k : ℕ) → (d : Spot) → k < length layout.players → owner_of (opening layout).owners (spot_cell (get_or layout.players k d)) ≡ k
 opening-homes layout possible k d within =
-    settled-home 0 layout.players unowned k d length-unowned (homes-near layout possible) (distinct-back (map pickup_cell layout.pickups) (map spot_cell layout.players) possible.apart) within ∙ omega arith
+    settled-home 0 layout.players unowned k d length-unowned (homes-near layout possible)
+    (distinct-back (map pickup_cell layout.pickups) (map spot_cell layout.players) possible.apart) within
+    ∙ omega arith
 
 -- and all else
-pub opening-others : (layout : Layout) → IsLayout layout → (x y : ℕ) → x < 64 → is_held layout.players (record { x = x; y = y }) ≡ false → owner_of (opening layout).owners (record { x = x; y = y }) ≡ 32
+pub opening-others : (layout : Layout) → IsLayout layout → (x y : ℕ) → x < 64
+    → is_held layout.players (record { x = x; y = y }) ≡ false
+    → owner_of (opening layout).owners (record { x = x; y = y }) ≡ 32
 unfolding is_held
 opening-others layout possible x y near free =
     settled-other 0 layout.players unowned (record { x = x; y = y }) near (homes-near layout possible) free ∙ owner_of-unowned (record { x = x; y = y })

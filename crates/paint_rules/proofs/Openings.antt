@@ -12,7 +12,9 @@ use Rattle.paint_rules.specs.World.{Lies}
 use Rattle.paint_rules.proofs.Steps.{is_open-near}
 
 -- all that stands somewhere stands in an open cell
-opens : (layout : Layout) → IsLayout layout → (list_all (λ (c : Cell). is_open layout.grid c.x c.y) (map pickup_cell layout.pickups) ≡ true) × (list_all (λ (c : Cell). is_open layout.grid c.x c.y) (map spot_cell layout.players) ≡ true)
+opens : (layout : Layout) → IsLayout layout
+    → (list_all (λ (c : Cell). is_open layout.grid c.x c.y) (map pickup_cell layout.pickups) ≡ true) ×
+    (list_all (λ (c : Cell). is_open layout.grid c.x c.y) (map spot_cell layout.players) ≡ true)
 opens layout possible = and_parts _ _ (sym (list_all-append (λ (c : Cell). is_open layout.grid c.x c.y) (map pickup_cell layout.pickups) (map spot_cell layout.players)) ∙ possible.free)
 
 all_open : {X : Type 0} (grid : Grid) (cell : X → Cell) (xs : List X) → list_all (λ (c : Cell). is_open grid c.x c.y) (map cell xs) ≡ true → All (λ x. is_open grid (cell x).x (cell x).y ≡ true) xs
@@ -20,7 +22,9 @@ all_open grid cell xs free = AllPass-from_list_all (λ x. is_open grid (cell x).
 
 -- the homes are in reach
 pub homes-near : (layout : Layout) → IsLayout layout → All (λ home. (home.x < 64) × (home.y < 64)) layout.players
-homes-near layout possible = All-weaker (λ home. is_open layout.grid home.x home.y ≡ true) (λ home. (home.x < 64) × (home.y < 64)) (λ home free. is_open-near layout.grid home.x home.y possible.grid free) layout.players (all_open layout.grid spot_cell layout.players (opens layout possible).1)
+homes-near layout possible = All-weaker (λ home. is_open layout.grid home.x home.y ≡ true)
+    (λ home. (home.x < 64) × (home.y < 64)) (λ home free. is_open-near layout.grid home.x home.y possible.grid free)
+    layout.players (all_open layout.grid spot_cell layout.players (opens layout possible).1)
 
 -- the pickups lie in the grid
 pub pickups-lie : (layout : Layout) → IsLayout layout → All (Lies layout.grid) layout.pickups

@@ -38,7 +38,8 @@ wiped-cons : (p : PickupSpot) (ps : List PickupSpot) (owners : List ℕ) → wip
 unfolding wiped
 wiped-cons p ps owners = refl
 
-pub wiped-next : (ps : List PickupSpot) (i : ℕ) (d : PickupSpot) (owners : List ℕ) → i < length ps → wiped (drop i ps) owners ≡ wiped (drop (i + 1) ps) (painted owners (pickup_cell (get_or ps i d)) 32)
+pub wiped-next : (ps : List PickupSpot) (i : ℕ) (d : PickupSpot) (owners : List ℕ) → i < length ps
+    → wiped (drop i ps) owners ≡ wiped (drop (i + 1) ps) (painted owners (pickup_cell (get_or ps i d)) 32)
 wiped-next ps i d owners within = ap (λ l. wiped l owners) (drop_more ps i d within) ∙ wiped-cons (get_or ps i d) (drop (i + 1) ps) owners
 
 pub wiped-all : (ps : List PickupSpot) (i : ℕ) (owners : List ℕ) → length ps ≤ i → wiped (drop i ps) owners ≡ owners
@@ -50,7 +51,9 @@ settled-cons : (number : ℕ) (home : Spot) (homes : List Spot) (owners : List �
 unfolding settled
 settled-cons number home homes owners = refl
 
-pub settled-next : (homes : List Spot) (i : ℕ) (d : Spot) (owners : List ℕ) → i < length homes → settled i (drop i homes) owners ≡ settled (i + 1) (drop (i + 1) homes) (painted owners (spot_cell (get_or homes i d)) i)
+pub settled-next : (homes : List Spot) (i : ℕ) (d : Spot) (owners : List ℕ) → i < length homes
+    → settled i (drop i homes) owners ≡ settled (i + 1) (drop (i + 1) homes)
+    (painted owners (spot_cell (get_or homes i d)) i)
 settled-next homes i d owners within = ap (λ l. settled i l owners) (drop_more homes i d within) ∙ settled-cons i (get_or homes i d) (drop (i + 1) homes) owners
 
 pub settled-all : (homes : List Spot) (i n : ℕ) (owners : List ℕ) → length homes ≤ i → settled n (drop i homes) owners ≡ owners
@@ -58,7 +61,9 @@ unfolding settled
 settled-all homes i n owners past = rw drop_all refl
 
 -- one cell more ahead
-pub painted_ahead-next : (grid : Grid) (number cells : ℕ) (spot next : Spot) (owners : List ℕ) → open_ahead grid spot ≡ Some next → painted_ahead grid number (suc cells) spot owners ≡ painted_ahead grid number cells next (painted owners (spot_cell next) number)
+pub painted_ahead-next : (grid : Grid) (number cells : ℕ) (spot next : Spot) (owners : List ℕ)
+    → open_ahead grid spot ≡ Some next → painted_ahead grid number (suc cells) spot owners
+    ≡ painted_ahead grid number cells next (painted owners (spot_cell next) number)
 unfolding painted_ahead
 painted_ahead-next grid number cells spot next owners found = ap (λ o. option_map_or (λ n. painted_ahead grid number cells n (painted owners (spot_cell n) number)) o owners) found
 

@@ -45,7 +45,9 @@ module _ {X Y Z : Type 0} where
   by_mirror-all Is C name whole front (y ∷ ys) (z ∷ zs) xs k step parts at h =
       subst (AllByRecursion C) (sym h.2)
       (all-append C h.0 h.1
-      (step k y z h.0 (subst (λ (i : ℕ). slice_get (map name whole) i ≡ Some (name y)) (sym at) (subst (λ (l : List Y). slice_get (map name l) (length front) ≡ Some (name y)) (sym parts) (seam name front y ys))) h.3)
+      (step k y z h.0 (subst (λ (i : ℕ). slice_get (map name whole) i ≡ Some (name y)) (sym at)
+      (subst (λ (l : List Y). slice_get (map name l) (length front) ≡ Some (name y)) (sym parts)
+      (seam name front y ys))) h.3)
       (by_mirror-all Is C name whole (front ++ y ∷ []) ys zs h.1 (k + 1) step
       (parts ∙ sym (append_assoc front (y ∷ []) ys))
       (ap (λ (n : ℕ). n + 1) at ∙ longer front)
@@ -85,10 +87,13 @@ by_mirror-none Is ys xs none empty = subst (λ l. ByMirror Is 0 l [] xs) (sym no
 pub by_mirror-pushed : {X Y Z : Type 0} (Is : ℕ → Y → Z → List X → Type 0) (ys ys_now : List Y) (zs : List Z) (xs xs_now more : List X) (y : Y) (z : Z)
     → ys_now ≡ ys ++ y ∷ [] → xs_now ≡ xs ++ more → ByMirror Is 0 ys zs xs → Is (0 + length ys) y z more → ByMirror Is 0 ys_now (zs ++ z ∷ []) xs_now
 by_mirror-pushed {X} {Y} Is ys ys_now zs xs xs_now more y z pushed parts h one =
-    subst (λ (l : List Y). ByMirror Is 0 l (zs ++ z ∷ []) xs_now) (sym pushed) (subst (λ (l : List X). ByMirror Is 0 (ys ++ y ∷ []) (zs ++ z ∷ []) l) (sym parts) (by_mirror-more Is 0 ys zs xs more y z h one))
+    subst (λ (l : List Y). ByMirror Is 0 l (zs ++ z ∷ []) xs_now) (sym pushed)
+    (subst (λ (l : List X). ByMirror Is 0 (ys ++ y ∷ []) (zs ++ z ∷ []) l) (sym parts)
+    (by_mirror-more Is 0 ys zs xs more y z h one))
 
 -- all of them
-pub by_mirror-whole : {X Y Z : Type 0} (Is : ℕ → Y → Z → List X → Type 0) (ys : List Y) (whole zs rest : List Z) (xs : List X) → whole ≡ zs ++ rest → rest ≡ [] → ByMirror Is 0 ys zs xs → ByMirror Is 0 ys whole xs
+pub by_mirror-whole : {X Y Z : Type 0} (Is : ℕ → Y → Z → List X → Type 0) (ys : List Y) (whole zs rest : List Z)
+    (xs : List X) → whole ≡ zs ++ rest → rest ≡ [] → ByMirror Is 0 ys zs xs → ByMirror Is 0 ys whole xs
 by_mirror-whole {X} {Y} {Z} Is ys whole zs rest xs parts none h = subst (λ (l : List Z). ByMirror Is 0 ys l xs) (sym (parts ∙ ap (λ (l : List Z). zs ++ l) none ∙ append-nil zs)) h
 
 -- what else is known of each mirror's feeder

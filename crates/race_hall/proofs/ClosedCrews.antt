@@ -71,7 +71,8 @@ crew-last {X} P n xs h =
 module _ {T S W : Type 0} (seat_of : T → Seat S (View (MirrorState W) (LockCall W) (LockReply W))) where
   pub has-long : (copies : ℕ) (name : TableId) (job : FeederJob) (ends rest : List (EndOver T)) → HasCrew seat_of copies name job ends rest → copies + 1 ≤ length ends
   has-long copies name job ends rest h =
-      (let a = ap (λ (l : List (EndOver T)). length l) h.parts in let b = length-append h.crew rest in let d = numbered-length (IsDone seat_of copies name job) 0 (copies + 1) h.crew h.done in omega arith)
+      (let a = ap (λ (l : List (EndOver T)). length l) h.parts in let b = length-append h.crew rest in
+      let d = numbered-length (IsDone seat_of copies name job) 0 (copies + 1) h.crew h.done in omega arith)
 
   -- the crew was taken
   pub taken-crew :
@@ -105,7 +106,8 @@ module _ {T S W : Type 0} (seat_of : T → Seat S (View (MirrorState W) (LockCal
       differ : (x : FeederEnd) → Some x ≡ None → ⊥
       differ x e = absurd cc
 
-  did-below : (copies : ℕ) (name : TableId) (job : FeederJob) (asked : List Asked) (j : ℕ) (e : EndOver T) → j < copies → IsDone seat_of copies name job j e → DidAs copies asked (view (seat_of e.seat))
+  did-below : (copies : ℕ) (name : TableId) (job : FeederJob) (asked : List Asked) (j : ℕ) (e : EndOver T) → j < copies
+      → IsDone seat_of copies name job j e → DidAs copies asked (view (seat_of e.seat))
   did-below copies name job asked j e low d =
       record {
         fed = λ is. absurd (let a = d.number in omega arith);
@@ -125,7 +127,8 @@ module _ {T S W : Type 0} (seat_of : T → Seat S (View (MirrorState W) (LockCal
               all-to_map (DidAs copies asked) (λ e. view (seat_of e.seat)) crew
               (subst (AllByRecursion (λ e. DidAs copies asked (view (seat_of e.seat)))) (sym l.parts)
               (all-append (λ e. DidAs copies asked (view (seat_of e.seat))) l.front (l.last ∷ [])
-              (numbered-below (IsDone seat_of copies name job) (λ e. DidAs copies asked (view (seat_of e.seat))) 0 copies l.front (λ j e low d. did-below copies name job asked j e (omega arith) d) l.fronts)
+              (numbered-below (IsDone seat_of copies name job) (λ e. DidAs copies asked (view (seat_of e.seat))) 0
+              copies l.front (λ j e low d. did-below copies name job asked j e (omega arith) d) l.fronts)
               (record { fed = λ is. refl; stepped = λ differ. absurd (differ l.is.number) }, tt)));
           last = view (seat_of l.last.seat);
           there = record {
@@ -211,7 +214,9 @@ module _ {X Y Z E M : Type 0} (Is : ℕ → Y → Z → List X → Type 0) (Clos
         gone = p.gone ++ n.job ∷ [];
         left = n.jobs;
         parts = p.parts ∙ ap (λ (l : List Z). p.gone ++ l) n.jobs_are ∙ sym (append_assoc p.gone (n.job ∷ []) n.jobs);
-        closed = subst (λ (l : List E). Closed (p.gone ++ n.job ∷ []) l mirrors_now) (sym pushed_end) (subst (λ (l : List M). Closed (p.gone ++ n.job ∷ []) (ends ++ end ∷ []) l) (sym pushed_mirror) (step p.closed));
+        closed = subst (λ (l : List E). Closed (p.gone ++ n.job ∷ []) l mirrors_now) (sym pushed_end)
+            (subst (λ (l : List M). Closed (p.gone ++ n.job ∷ []) (ends ++ end ∷ []) l) (sym pushed_mirror)
+            (step p.closed));
         number = p.number + 1;
         later = subst (λ (l : List X). ByMirror Is (p.number + 1) locks n.jobs l) (sym is) n.later;
       }
@@ -227,7 +232,8 @@ module _ {X Y Z E M : Type 0} (Is : ℕ → Y → Z → List X → Type 0) (Clos
       subst (λ (l : List Z). Closed l ends mirrors) (sym (p.parts ∙ ap (λ (l : List Z). p.gone ++ l) left ∙ append-nil p.gone)) p.closed
 
 -- one more is closed
-pub all-closed-more : {W : Type 0} (c : Course) (opening : W) (spare : ℕ) (jobs : List FeederJob) (ends : List FeederEnd) (mirrors : List (MirrorState W)) (job : FeederJob) (end : FeederEnd) (s : MirrorState W)
+pub all-closed-more : {W : Type 0} (c : Course) (opening : W) (spare : ℕ) (jobs : List FeederJob)
+    (ends : List FeederEnd) (mirrors : List (MirrorState W)) (job : FeederJob) (end : FeederEnd) (s : MirrorState W)
     → IsClosed c opening spare job end s → AllClosed c opening spare jobs ends mirrors → AllClosed c opening spare (jobs ++ job ∷ []) (ends ++ end ∷ []) (mirrors ++ s ∷ [])
 unfolding AllClosed
 all-closed-more c opening spare [] [] [] job end s one h = (one, tt)

@@ -58,7 +58,10 @@ module _ {W : Type 0} (game : GameRules W) where
   unfolding after
   ran-state s r more c told =
       subst (λ (a : Committed). after s (events_asked (commit_asked r.copy a ++ more)) ≡ after (committed_to s r) (events_asked more)) (sym told)
-      (elim (is_current s r) as (λ v. after s (events_asked (commit_asked r.copy (cond v (Ran (repaired s.accepted (proposed_by_step s.accepted s.runs r.copy))) (Stale r.epoch (epoch s r.copy))) ++ more)) ≡ after (cond v (next s (Step r.copy)) s) (events_asked more))
+      (elim (is_current s r) as (λ v. after s
+      (events_asked (commit_asked r.copy (cond v
+      (Ran (repaired s.accepted (proposed_by_step s.accepted s.runs r.copy))) (Stale r.epoch (epoch s r.copy)))
+      ++ more)) ≡ after (cond v (next s (Step r.copy)) s) (events_asked more))
       [ true ↦ refl | false ↦ refl ])
 
   -- and so of every call
@@ -159,8 +162,12 @@ module _ {W : Type 0} where
   others-step log feeder asked (v ∷ views) knows did i (inr h) differ = others-step log feeder asked views knows.1 did.1 i h differ
 
   among-knows :
-      (log : List (LockEntry (LockCall W) (LockReply W))) (feeder : ℕ) (asked : List Asked) (front : List (View (MirrorState W) (LockCall W) (LockReply W))) (v : View (MirrorState W) (LockCall W) (LockReply W))
-      (back : List (View (MirrorState W) (LockCall W) (LockReply W))) → AllByRecursion (KnowsMember log) (map (λ v. member_of v) (front ++ v ∷ back)) → AllByRecursion (DidAs feeder asked) (front ++ v ∷ back)
+      (log : List (LockEntry (LockCall W) (LockReply W))) (feeder : ℕ) (asked : List Asked)
+      (front : List (View (MirrorState W) (LockCall W) (LockReply W)))
+      (v : View (MirrorState W) (LockCall W) (LockReply W))
+      (back : List (View (MirrorState W) (LockCall W) (LockReply W)))
+      → AllByRecursion (KnowsMember log) (map (λ v. member_of v) (front ++ v ∷ back))
+      → AllByRecursion (DidAs feeder asked) (front ++ v ∷ back)
       → number_of v ≡ feeder → own feeder (entries_in log) ≡ asked
   among-knows log feeder asked [] v back knows did is =
       ap (λ (n : ℕ). own n (entries_in log)) (sym is) ∙ own-asked log v knows.0 ∙ did.0.fed is

@@ -73,7 +73,12 @@ take-has {W} first now all waiting n i below t =
     cases [] e = absurd (let a = t.count_of in let b = ap (λ (l : List Message). length l) e in omega arith)
     cases (m ∷ more) e =
         let parts = ap (λ (l : List Message). commands_in l) e ∙ commands_in-append (m ∷ []) more in
-        record { message = m; more = more; ahead = subst (λ (l : List Message). IsPrefix l waiting) e t.ahead; can = can-first now (commands_in (m ∷ [])) (commands_in more) (subst (CanTake now) parts t.can) }
+        record {
+          message = m;
+          more = more;
+          ahead = subst (λ (l : List Message). IsPrefix l waiting) e t.ahead;
+          can = can-first now (commands_in (m ∷ [])) (commands_in more) (subst (CanTake now) parts t.can);
+        }
 
 pub take-goes : {W : Type 0} (first now then : MirrorState W) (all waiting waiting_then : List Message) (n i : ℕ) → i < n
     → ((m : Message) (more : List Message) → IsPrefix (m ∷ more) waiting → (then ≡ delivered now (commands_in (m ∷ []))) × IsPrefix more waiting_then)
@@ -92,7 +97,9 @@ take-goes {W} first now then all waiting waiting_then n i below step t =
           count_of = (let a = t.count_of in let b = ap (λ (l : List Message). length l) e in omega arith);
           ahead = one.1;
           can = subst (λ (u : MirrorState W). CanTake u (commands_in more)) (sym one.0) (can-later now (commands_in (m ∷ [])) (commands_in more) can);
-          state = ap (λ (u : MirrorState W). delivered u (commands_in more)) one.0 ∙ sym (deliver-append now (commands_in (m ∷ [])) (commands_in more)) ∙ ap (λ (l : List Command). delivered now l) (sym parts) ∙ t.state;
+          state = ap (λ (u : MirrorState W). delivered u (commands_in more)) one.0
+              ∙ sym (deliver-append now (commands_in (m ∷ [])) (commands_in more))
+              ∙ ap (λ (l : List Command). delivered now l) (sym parts) ∙ t.state;
         }
 
 pub take-ends : {W : Type 0} (first now : MirrorState W) (all waiting : List Message) (n i : ℕ) → n ≤ i → Taking first now all waiting (n - i) → now ≡ delivered first (commands_in all)

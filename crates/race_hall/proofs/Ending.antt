@@ -64,7 +64,8 @@ module _ {W : Type 0} (c : Course) (opening : W) (spare : ℕ) where
   mirrors-long (j ∷ jobs) (e ∷ ends) [] h = absurd h
   mirrors-long (j ∷ jobs) (e ∷ ends) (s ∷ mirrors) h = ap suc (mirrors-long jobs ends mirrors h.1)
 
-  fed-at : (dj : FeederJob) (de : FeederEnd) (jobs : List FeederJob) (ends : List FeederEnd) (mirrors : List (MirrorState W)) (h : AllClosed c opening spare jobs ends mirrors) (k : ℕ) → k < length jobs
+  fed-at : (dj : FeederJob) (de : FeederEnd) (jobs : List FeederJob) (ends : List FeederEnd)
+      (mirrors : List (MirrorState W)) (h : AllClosed c opening spare jobs ends mirrors) (k : ℕ) → k < length jobs
       → FeederEnds (get_or jobs k dj) (get_or ends k de) [] (own (length (first_plan c)) (get_or (histories_of jobs ends mirrors h) k []))
   unfolding AllClosed histories_of
   fed-at dj de [] ends mirrors h k low = absurd (omega arith)
@@ -114,9 +115,13 @@ module _ {W : Type 0} (c : Course) (opening : W) (budget copies : ℕ) (jobs : L
       let count = race.feeders.hold.count in
       record {
         sends_of = λ k low.
-            map-at (λ (j : FeederJob). j.sends) jobs race.feeders.hold.sends_left race.feeders.hold.sends k (get_or jobs k dj) race.feeders.hold.lines.sends_are (omega arith) (get_or_default jobs k dj (get_or jobs k dj) (omega arith));
+            map-at (λ (j : FeederJob). j.sends) jobs race.feeders.hold.sends_left race.feeders.hold.sends k
+            (get_or jobs k dj) race.feeders.hold.lines.sends_are (omega arith)
+            (get_or_default jobs k dj (get_or jobs k dj) (omega arith));
         rows_of = λ k low.
-            map-at (λ (j : FeederJob). j.receives) jobs race.feeders.hold.rows_left race.feeders.hold.rows k (get_or jobs k dj) race.feeders.hold.lines.rows_are (omega arith) (get_or_default jobs k dj (get_or jobs k dj) (omega arith));
+            map-at (λ (j : FeederJob). j.receives) jobs race.feeders.hold.rows_left race.feeders.hold.rows k
+            (get_or jobs k dj) race.feeders.hold.lines.rows_are (omega arith)
+            (get_or_default jobs k dj (get_or jobs k dj) (omega arith));
       }
 
   joined-of : (dj : FeederJob) (de : FeederEnd) (race : IsRaceOf c budget copies jobs) (h : AllClosed c opening (length c.commands) jobs ends mirrors) → AreJoined (holding_of dj de h) mirrors ends
@@ -139,7 +144,9 @@ module _ {W : Type 0} (c : Course) (opening : W) (budget copies : ℕ) (jobs : L
         each_end = λ k e low here. here ∙ get_or_default ends k e de (omega arith);
         closed = λ m s low here. closed-at c opening (length c.commands) jobs ends mirrors h m s (omega arith) here;
         links_count = λ m low.
-            ends-links race.feeders.hold.rooms (λ k. get_or jobs k dj) (λ k. get_or ends k de) (λ k. own (length (first_plan c)) (get_or hs k [])) race.feeders.hold.sends race.feeders.hold.rows m (omega arith)
+            ends-links race.feeders.hold.rooms (λ k. get_or jobs k dj) (λ k. get_or ends k de)
+            (λ k. own (length (first_plan c)) (get_or hs k [])) race.feeders.hold.sends race.feeders.hold.rows m
+            (omega arith)
             race.feeders.hold.made (hold-links dj race) fed ∙ count;
         linked = λ m j r low there here.
             ends-linked race.feeders.hold.rooms (λ k. get_or jobs k dj) (λ k. get_or ends k de) (λ k. own (length (first_plan c)) (get_or hs k [])) race.feeders.hold.sends race.feeders.hold.rows
@@ -154,7 +161,9 @@ module _ {W : Type 0} (c : Course) (opening : W) (budget copies : ℕ) (jobs : L
       with_defaults [] es e f =
           absurd (let long = numbered-length (IsFeederOf c budget) 0 c.mirrors jobs race.feeders.each in let a = ap (λ (l : List FeederJob). length l) e in let some = race.some in omega arith)
       with_defaults (j ∷ js) [] e f =
-          absurd (let long = ends-long c opening (length c.commands) jobs ends mirrors h in let a = ap (λ (l : List FeederJob). length l) e in let b = ap (λ (l : List FeederEnd). length l) f in omega arith)
+          absurd (let long = ends-long c opening (length c.commands) jobs ends mirrors h in
+          let a = ap (λ (l : List FeederJob). length l) e in let b = ap (λ (l : List FeederEnd). length l) f in
+          omega arith)
       with_defaults (j ∷ js) (x ∷ es) e f = record { holding = holding_of j x h; joined = joined-of j x race h; course_is = refl; opening_is = refl }
 
   pub closed-count : IsRaceOf c budget copies jobs → AllClosed c opening (length c.commands) jobs ends mirrors → length mirrors ≡ c.mirrors

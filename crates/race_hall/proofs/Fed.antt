@@ -101,7 +101,9 @@ arrives-by c opening spare m marked got left seat H s course there r x some =
     let same = sym ((same_command-Decides x found.0).0 found.1) in
     let at : ArrivesAt (own seat H) x x.time = subst (λ (y : Command). ArrivesAt (own seat H) y y.time) same found.2 in
     record { front = at.front; reply = at.reply; back = at.back; whole = at.whole; here = (let a = at.here in omega arith) }))
-    (λ k. (let link = total-some (λ k. times (same_command x) (commands_in (got k))) (λ k. AllByRecursion (λ y. ArrivesBy (own seat H) y (y.time + c.pace)) (commands_in (got k))) (others n m) k each in
+    (λ k. (let link = total-some (λ k. times (same_command x) (commands_in (got k)))
+    (λ k. AllByRecursion (λ y. ArrivesBy (own seat H) y (y.time + c.pace)) (commands_in (got k))) (others n m) k
+    each in
     let found = counted (same_command x) (λ y. ArrivesBy (own seat H) y (y.time + c.pace)) (commands_in (got link.0)) link.1 link.2 in
     let same = sym ((same_command-Decides x found.0).0 found.1) in
     subst (λ (y : Command). ArrivesBy (own seat H) y (y.time + c.pace)) same found.2))

@@ -47,14 +47,18 @@ seq-high m j (suc i) h = (let e : nat_lt j m ≡ false = grind (arith, nat_tests
 seq-append : (m j a b : ℕ) → seq m j (a + b) ≡ seq m j a ++ seq m (j + a) b
 unfolding seq
 seq-append m j zero b = (let e : zero + b ≡ b = omega arith in let f : j + 0 ≡ j = omega arith in rw (e, f) refl)
-seq-append m j (suc a) b = (let e : suc a + b ≡ suc (a + b) = omega arith in let f : j + suc a ≡ j + 1 + a = omega arith in rw (e, f) (ap (λ (l : List ℕ). sender_at m j ∷ l) (seq-append m (j + 1) a b)))
+seq-append m j (suc a) b = (let e : suc a + b ≡ suc (a + b) = omega arith in
+    let f : j + suc a ≡ j + 1 + a = omega arith in
+    rw (e, f) (ap (λ (l : List ℕ). sender_at m j ∷ l) (seq-append m (j + 1) a b)))
 
 seq-others : (m n links : ℕ) → m < n → links + 1 ≡ n → seq m 0 links ≡ others n m
 seq-others m n links there count =
     (let e : links ≡ m + (n - (m + 1)) = omega arith in ap (seq m 0) e) ∙ seq-append m 0 m (n - (m + 1))
     ∙ (λ i. seq-low m 0 m (omega arith) i ++ ((let f : 0 + m ≡ m = omega arith in ap (λ (k : ℕ). seq m k (n - (m + 1))) f) ∙ seq-high m m (n - (m + 1)) (omega arith)) i)
 
-zip-seq : (m j : ℕ) (P : ℕ → LinkReceive → Type 0) (row : List LinkReceive) → ((i : ℕ) (r : LinkReceive) → i < length row → r ≡ get_or row i r → P (sender_at m (j + i)) r) → AllZip P (seq m j (length row)) row
+zip-seq : (m j : ℕ) (P : ℕ → LinkReceive → Type 0) (row : List LinkReceive)
+    → ((i : ℕ) (r : LinkReceive) → i < length row → r ≡ get_or row i r → P (sender_at m (j + i)) r)
+    → AllZip P (seq m j (length row)) row
 unfolding seq
 zip-seq m j P [] each = tt
 zip-seq m j P (x ∷ row) each = (
@@ -110,7 +114,9 @@ looked {W} h m s sends row now senders one same whole =
     zip-places m h.course.mirrors (λ k r. messages (plan_of h.course k) (h.end k).marked ≡ received_of r ++ left_of m now k) now one.here.there count
     (λ j r below here. sym (sent j r (omega arith) here) ∙ ap (λ (l : List Message). received_of r ++ l) (left-at m now j r below here)) in
     let before : AllZip (λ k r. messages (plan_of h.course k) (h.end k).marked ≡ received_of r ++ left_of m now k) (others h.course.mirrors m) row =
-    zip-through (λ k r. messages (plan_of h.course k) (h.end k).marked ≡ received_of r ++ left_of m now k) (λ r q. SameReceived q r) (λ k r. messages (plan_of h.course k) (h.end k).marked ≡ received_of r ++ left_of m now k)
+    zip-through (λ k r. messages (plan_of h.course k) (h.end k).marked ≡ received_of r ++ left_of m now k)
+    (λ r q. SameReceived q r) (λ k r. messages (plan_of h.course k) (h.end k).marked ≡ received_of r
+    ++ left_of m now k)
     (others h.course.mirrors m) now row (λ k r q e t. e ∙ ap (λ (l : List Message). l ++ left_of m now k) t.received) parts (zip-turned SameReceived row now same) in
     let waiting = zip-places m h.course.mirrors (λ k r. waiting_of r ≡ left_of m now k) now one.here.there count (λ j r below here. left-at m now j r below here) in
     record {
@@ -142,7 +148,8 @@ all_sent-later sent first now all same k v below here =
     let pair = zip-get SameSends first now k v same below in
     subst (λ (u : Vec LinkSend Global). AllByRecursion (λ s. sent_of s ≡ sent k) u.items) (sym here) (all-sent-later (sent k) (get_or first k v).items (get_or now k v).items old pair)
 
-pub row_linked-later : (m : ℕ) (first now : List (Vec LinkSend Global)) (row : List LinkReceive) → (length row + 1 ≡ length first) → IsRowLinked m first row → AllZip SameSends first now → IsRowLinked m now row
+pub row_linked-later : (m : ℕ) (first now : List (Vec LinkSend Global)) (row : List LinkReceive)
+    → (length row + 1 ≡ length first) → IsRowLinked m first row → AllZip SameSends first now → IsRowLinked m now row
 row_linked-later m first now row count linked same j r v below here there =
     let long = zip-length SameSends first now same in
     let low : sender_at m j < length now = sender-low m j (length row) (length now) below (omega arith) in
@@ -154,7 +161,8 @@ row_linked-later m first now row count linked same j r v below here there =
     sender-low m j links senders below count = elim (nat_lt j m) as (λ v. cond v j (j + 1) < senders) [ true ↦ omega arith | false ↦ omega arith ]
 
 -- the whole race, when some mirrors are finished
-pub still-held : {W : Type 0} (h : Holding W) (m : ℕ) (mirrors0 mirrors : List (MirrorState W)) (sends0 sends : List (Vec LinkSend Global)) (rows0 rows : List (Vec LinkReceive Global)) (senders : List Sender)
+pub still-held : {W : Type 0} (h : Holding W) (m : ℕ) (mirrors0 mirrors : List (MirrorState W))
+    (sends0 sends : List (Vec LinkSend Global)) (rows0 rows : List (Vec LinkReceive Global)) (senders : List Sender)
     (d : MirrorState W) (e : Vec LinkReceive Global) (row : List LinkReceive)
     → AreHeld h mirrors0 sends0 rows0 senders → AllZip SameSends sends0 sends → UpTo (λ a b. Unit {0}) m mirrors0 mirrors → UpTo (λ a b. Unit {0}) m rows0 rows
     → m < length mirrors → row ≡ (get_or rows m e).items → IsOneHeld h m (get_or mirrors m d) sends row senders
@@ -181,7 +189,14 @@ still-held {W} h m mirrors0 mirrors sends0 sends rows0 rows senders d e row held
         count = (let a = r.count in omega arith);
         sent = all_sent-later (λ k. messages (plan_of h.course k) (h.end k).marked) sends0 sends r.sent same;
       };
-      here = record { there = here.there; closed = here.closed; ends = here.ends; count = here.count; linked = row_linked-later m sends0 sends row (let a = here.count in let b = r.count in omega arith) here.linked same };
+      here = record {
+        there = here.there;
+        closed = here.closed;
+        ends = here.ends;
+        count = here.count;
+        linked = row_linked-later m sends0 sends row (let a = here.count in let b = r.count in omega arith)
+            here.linked same;
+      };
     }
 
 -- one more is finished

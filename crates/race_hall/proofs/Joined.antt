@@ -31,7 +31,9 @@ sends-sent more (a ∷ first) [] new h = absurd h
 sends-sent more (a ∷ first) (b ∷ now) new h = (h.0.sent ∙ ap (λ (l : List Message). l ++ more) new.0, sends-sent more first now new.1 h.1)
 
 -- what each link received
-receives-got : (turns : ℕ) (first now : List LinkReceive) (gots : List (List Message)) → AllByRecursion (λ r. received_of r ≡ []) first → AllReceive turns first now gots → AllZip (λ r got. received_of r ≡ got) now gots
+receives-got : (turns : ℕ) (first now : List LinkReceive) (gots : List (List Message))
+    → AllByRecursion (λ r. received_of r ≡ []) first → AllReceive turns first now gots
+    → AllZip (λ r got. received_of r ≡ got) now gots
 unfolding AllReceive
 receives-got turns [] [] [] new h = tt
 receives-got turns [] [] (g ∷ gots) new h = absurd h
@@ -67,7 +69,12 @@ fed-by c m job end after gots of e same =
       arrive = rw (a, p) e.arrive;
       feeding = rw a e.feeding;
       fair = rw (a, p, l, g, d, f) (λ orderly few. (let k = e.fair orderly few in let t = e.clock in
-          record { in_time = k.in_time; counts = k.counts; bounds = subst (λ (n : ℕ). AllByRecursion (λ got. (n ≤ last_mark got + job.pace) ⊎ (last_mark got ≡ job.stagger.length)) e.gots) t k.bounds }));
+          record {
+            in_time = k.in_time;
+            counts = k.counts;
+            bounds = subst (λ (n : ℕ). AllByRecursion
+                (λ got. (n ≤ last_mark got + job.pace) ⊎ (last_mark got ≡ job.stagger.length)) e.gots) t k.bounds;
+          }));
     }
 
 -- each link's parts
@@ -97,7 +104,10 @@ joined-raced c opening spare job end seat history m s left all there closed link
     let here = all m there in
     let parts : AllZip (λ k got. messages (plan_of c k) (end k).marked ≡ got ++ left k) (others c.mirrors m) here.ends.gots =
     zip-through (λ k r. messages (plan_of c k) (end k).marked ≡ received_of r ++ left k) (λ r got. received_of r ≡ got) (λ k got. messages (plan_of c k) (end k).marked ≡ got ++ left k)
-    (others c.mirrors m) (end m).receives.items here.ends.gots (λ k r got h e. h ∙ ap (λ (l : List Message). l ++ left k) e) links (receives-got (end m).turns (job m).receives.items (end m).receives.items here.ends.gots here.of.receives here.ends.receives) in
+    (others c.mirrors m) (end m).receives.items here.ends.gots
+    (λ k r got h e. h ∙ ap (λ (l : List Message). l ++ left k) e) links
+    (receives-got (end m).turns (job m).receives.items (end m).receives.items here.ends.gots here.of.receives
+    here.ends.receives) in
     let fronts : AllZip (λ k got. got ≡ front_of (messages (plan_of c k) (end k).marked) (left k)) (others c.mirrors m) here.ends.gots =
     zip-with_all (λ (k : ℕ). Unit {0}) (λ k got. messages (plan_of c k) (end k).marked ≡ got ++ left k) (λ k got. got ≡ front_of (messages (plan_of c k) (end k).marked) (left k))
     (λ k got u h. front_of-is (messages (plan_of c k) (end k).marked) got (left k) h)

@@ -66,7 +66,9 @@ pub places-in_time :
     → (f b : List Asked) (x : Command) (reply : Reply) → pairs_of H ≡ f ++ arrival x reply ∷ b → moves_in f ≤ x.time + c.pace
 places-in_time c opening spare m marked got left seat H s course there r f b x reply e =
     let kinds = sound-kinds (pairs_of H) (race_opening c opening spare) r.sound in
-    let front : moves_in (feeding_of f) ≡ moves_in f = moves-feeding f (all-first (λ p. IsOfKind p.event p.reply) f (arrival x reply ∷ b) (subst (AllByRecursion (λ p. IsOfKind p.event p.reply)) e kinds)) in
+    let front : moves_in (feeding_of f) ≡ moves_in f =
+    moves-feeding f (all-first (λ p. IsOfKind p.event p.reply) f (arrival x reply ∷ b)
+    (subst (AllByRecursion (λ p. IsOfKind p.event p.reply)) e kinds)) in
     let whole : own seat H ≡ feeding_of f ++ arrival x reply ∷ feeding_of b =
     sym (seat-feeds seat H r.fed.feeding r.workers) ∙ ap feeding_of e ∙ filter-append (λ p. is_feeding p.event) f (arrival x reply ∷ b) in
     let test : Asked → Bool = λ p. is_arrival_of x p.event in
@@ -129,6 +131,8 @@ shared-out c opening spare m marked got left seat H s course there r p =
     let h = total-others (λ k. times (λ x. p x && nat_lt x.time (marked k)) (plan_of c k)) n m there in
     let i = total-plus (λ k. times (λ x. p x && nat_lt x.time (marked k)) (plan_of c k)) (λ k. times p (unissued (plan_of c k) (marked k))) (count_from 0 n) in
     let j = total-same (λ k. times (λ x. p x && nat_lt x.time (marked k)) (plan_of c k) + times p (unissued (plan_of c k) (marked k))) (λ k. times p (plan_of c k)) (count_from 0 n)
-    (everyone (λ k. times (λ x. p x && nat_lt x.time (marked k)) (plan_of c k) + times p (unissued (plan_of c k) (marked k)) ≡ times p (plan_of c k)) n (λ k h. times-unissued p (plan_of c k) (marked k))) in
+    (everyone (λ k. times (λ x. p x && nat_lt x.time (marked k)) (plan_of c k)
+    + times p (unissued (plan_of c k) (marked k)) ≡ times p (plan_of c k)) n
+    (λ k h. times-unissued p (plan_of c k) (marked k))) in
     let l = plans-count p c course.from in
     omega arith)

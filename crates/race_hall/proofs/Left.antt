@@ -71,7 +71,8 @@ left-in_time c opening spare m marked got left seat H s course there r =
     (all-left (λ x. x.time < c.length) (plan_of c k) (marked k) (got k) (left k) (r.links k h.0 h.1) (all-plan (λ x. x.time < c.length) c k course.within)))
     (others-all n m there) bounds in
     let foreign : AllByRecursion (λ k. AllByRecursion P (unissued (plan_of c k) (marked k))) (others n m) =
-    all-both (λ k. (k < n) × (k ≢ m)) (λ k. (moves_in (own seat H) ≤ last_mark (got k) + c.pace) ⊎ (last_mark (got k) ≡ c.length)) (λ k. AllByRecursion P (unissued (plan_of c k) (marked k))) (others n m)
+    all-both (λ k. (k < n) × (k ≢ m)) (λ k. (moves_in (own seat H) ≤ last_mark (got k) + c.pace) ⊎
+    (last_mark (got k) ≡ c.length)) (λ k. AllByRecursion P (unissued (plan_of c k) (marked k))) (others n m)
     (λ k h b. all-weaker (λ x. (marked k ≤ x.time) × (x.time < c.length)) P (unissued (plan_of c k) (marked k))
     (λ x low. bound (moves_in (own seat H)) c.pace c.length (last_mark (got k)) x.time b
     (mark-unissued c.length (plan_of c k) (marked k) (got k) (left k) x (r.below k h.0) (r.links k h.0 h.1) low.0) low.1)

@@ -59,7 +59,9 @@ counted-next s Tick fit here h =
     (λ e. (let a = length-append s.history (Tick ∷ []) in let b = times-append is_restagger s.history (Tick ∷ []) in omega (arith, h)))
 counted-next s (Arrive x) fit here h =
     arrive-cases s x (λ t r. IsCounted t) (λ e. h)
-    (λ e l. (let a = length-append s.history (Arrive x ∷ []) in let b = times-append is_restagger s.history (Arrive x ∷ []) in let d = length-append s.turned (turned_away s x ∷ []) in omega (arith, h)))
+    (λ e l. (let a = length-append s.history (Arrive x ∷ []) in
+    let b = times-append is_restagger s.history (Arrive x ∷ []) in let d =
+    length-append s.turned (turned_away s x ∷ []) in omega (arith, h)))
     (λ e l.
     (let a = length-append s.history (Arrive x ∷ []) in
     let b = times-append is_restagger s.history (Arrive x ∷ []) in

@@ -79,10 +79,14 @@ row-linked m j sends0 sends row0 row d e k place items linked same upto below th
     let v = get_or sends0 (sender_at m j) e in
     let there0 : sender_at m j < length sends0 = omega arith in
     let old : IsLinkedAt (place_at m j) (get_or sends0 (sender_at m j) e).items (get_or row0 j d) =
-    linked j (get_or row0 j d) (get_or sends0 (sender_at m j) e) (omega arith) (get_or_default row0 j d (get_or row0 j d) (omega arith)) (get_or_default sends0 (sender_at m j) e (get_or sends0 (sender_at m j) e) there0) in
+    linked j (get_or row0 j d) (get_or sends0 (sender_at m j) e) (omega arith)
+    (get_or_default row0 j d (get_or row0 j d) (omega arith))
+    (get_or_default sends0 (sender_at m j) e (get_or sends0 (sender_at m j) e) there0) in
     let pair : SameSends (get_or sends0 (sender_at m j) e) (get_or sends (sender_at m j) e) = zip-get SameSends sends0 sends (sender_at m j) e same (omega arith) in
     let later = linked-later (place_at m j) (get_or sends0 (sender_at m j) e).items (get_or sends (sender_at m j) e).items (get_or row0 j d) old pair in
-    let now : IsLinkedAt (place_at m j) (get_or sends (sender_at m j) e).items (get_or row j d) = subst (λ (q : LinkReceive). IsLinkedAt (place_at m j) (get_or sends (sender_at m j) e).items q) same_row later in
+    let now : IsLinkedAt (place_at m j) (get_or sends (sender_at m j) e).items (get_or row j d) =
+    subst (λ (q : LinkReceive). IsLinkedAt (place_at m j) (get_or sends (sender_at m j) e).items q) same_row
+    later in
     subst (λ (l : List LinkSend). IsLinkedAt place l (get_or row j d)) (sym (is ∙ ap (λ (i : ℕ). (get_or sends i e).items) which))
     (subst (λ (p : ℕ). IsLinkedAt p (get_or sends (sender_at m j) e).items (get_or row j d)) (sym where_) now)
 

@@ -1,5 +1,6 @@
 -- Making links, one after the other.
-use Rattle.std.proofs.Common.{◌≡◌, ◌≢◌, ℕ, ◌+◌, ◌-◌, ◌<◌, ◌≤◌, Bool, true, false, cond, not, ◌&&◌, ◌⊎◌, inl, inr, List, [], ◌∷◌, ◌++◌, length, get_or, set, refl, ap, sym, ◌∙◌, subst, append_assoc, Vec, arith, append-nil}
+use Rattle.std.proofs.Common.{◌≡◌, ◌≢◌, ℕ, ◌+◌, ◌-◌, ◌<◌, ◌≤◌, Bool, true, false, cond, not, ◌&&◌, ◌⊎◌, inl, inr, List, [], ◌∷◌, ◌++◌, length, get_or}
+use Rattle.std.proofs.Common.{set, refl, ap, sym, ◌∙◌, subst, append_assoc, Vec, arith, append-nil}
 use Rattle.std.specs.Prelude.{◌==◌, nat_lt}
 use Rattle.std.specs.declared.alloc.Global.{Global}
 use Rattle.std.specs.List.{AllByRecursion, AllZip}
@@ -54,7 +55,9 @@ row-begins m rooms sends made row none =
 -- the numbers: this sender had no link to m yet, and has one then; the others as before
 pub place-here : (m j : ℕ) → long_at m (sender_at m j) + cond (is_visited m j (sender_at m j)) 1 0 ≡ place_at m j
 place-here m j =
-    elim (nat_lt j m) as (λ v. nat_lt j m ≡ v → cond (nat_lt (cond v j (j + 1)) m) (m - 1) m + cond (nat_lt (cond v j (j + 1)) (cond v j (j + 1)) && not (cond v j (j + 1) == m)) 1 0 ≡ cond v (m - 1) m) [
+    elim (nat_lt j m) as (λ v. nat_lt j m ≡ v
+    → cond (nat_lt (cond v j (j + 1)) m) (m - 1) m
+    + cond (nat_lt (cond v j (j + 1)) (cond v j (j + 1)) && not (cond v j (j + 1) == m)) 1 0 ≡ cond v (m - 1) m) [
       | true ↦ λ e. (let f : nat_lt j j ≡ false = grind (arith, nat_tests) in rw (f, e) (omega arith))
       | false ↦ λ e. (let f : nat_lt (j + 1) (j + 1) ≡ false = grind (arith, nat_tests) in let h : nat_lt (j + 1) m ≡ false = grind (arith, nat_tests) in rw (f, h) (omega arith))
     ]
@@ -130,7 +133,9 @@ long-place m j =
 
 pub place-then : (m j : ℕ) → long_at m (sender_at m j) + cond (is_visited m (j + 1) (sender_at m j)) 1 0 ≡ place_at m j + 1
 place-then m j =
-    ap (λ (b : Bool). long_at m (sender_at m j) + cond b 1 0) (visited-true (sender_at m j) (sender_at m (j + 1)) m (sender-less m j (j + 1) (omega arith)) (sender-not m j)) ∙ ap (λ (n : ℕ). n + 1) (long-place m j)
+    ap (λ (b : Bool). long_at m (sender_at m j) + cond b 1 0)
+    (visited-true (sender_at m j) (sender_at m (j + 1)) m (sender-less m j (j + 1) (omega arith)) (sender-not m j))
+    ∙ ap (λ (n : ℕ). n + 1) (long-place m j)
 
 pub place-other : (m j k : ℕ) → k ≢ sender_at m j → is_visited m (j + 1) k ≡ is_visited m j k
 place-other m j k differ = cases (sender-next m j)
@@ -161,7 +166,8 @@ row-more m j k rooms first now row next d new which below joined made =
             (subst (AllByRecursion (IsNewSend (get_or rooms k 0))) (sym joined.sends) (all-append (IsNewSend (get_or rooms k 0)) (get_or now k d).items (joined.send ∷ [])
             (made.made.new k (get_or now k d) below (get_or_default now k d (get_or now k d) below)) (joined.new_send, tt))) made.made.new;
       };
-      linked = λ i r v low at from. linked-more m j k i now row.items next.items d new joined.send joined.receive r v which below (made.count) one joined.sends joined.receives joined.link here (omega arith) at from made.linked;
+      linked = λ i r v low at from. linked-more m j k i now row.items next.items d new joined.send joined.receive r v
+          which below (made.count) one joined.sends joined.receives joined.link here (omega arith) at from made.linked;
       new_row = subst (AllByRecursion IsNewReceive) (sym joined.receives) (all-append IsNewReceive row.items (joined.receive ∷ []) made.new_row (joined.new_receive, tt));
     }
   where
@@ -196,7 +202,8 @@ row-more m j k rooms first now row next d new which below joined made =
           | true ↦ λ e.
               (let same : k ≡ i = grind (arith, nat_tests) in
               let is : v ≡ new = at ∙ ap (λ (n : ℕ). get_or (set now k new) n v) (sym same) ∙ get_or-set_same now k new v below in
-              subst (λ (u : Vec LinkSend Global). AllByRecursion (IsNewSend (get_or rooms i 0)) u.items) (sym is) (subst (λ (n : ℕ). AllByRecursion (IsNewSend (get_or rooms n 0)) new.items) same fresh))
+              subst (λ (u : Vec LinkSend Global). AllByRecursion (IsNewSend (get_or rooms i 0)) u.items) (sym is)
+              (subst (λ (n : ℕ). AllByRecursion (IsNewSend (get_or rooms n 0)) new.items) same fresh))
           | false ↦ λ e.
               (let other : i ≢ k = grind (arith, nat_tests) in
               let long = length-set now k new in
@@ -214,7 +221,9 @@ row-more m j k rooms first now row next d new which below joined made =
               (let less : i < j = grind (arith, nat_tests) in
               let rises = sender-less m i j less in
               let other : sender_at m i ≢ k = (λ q. omega arith) in
-              before i r v (omega arith) (at ∙ ap (λ (l : List LinkReceive). get_or l i r) receives ∙ get_or_append_left row (receive ∷ []) r i (omega arith)) (from ∙ get_or-set_other now k (sender_at m i) new v other))
+              before i r v (omega arith) (at ∙ ap (λ (l : List LinkReceive). get_or l i r) receives
+              ∙ get_or_append_left row (receive ∷ []) r i (omega arith))
+              (from ∙ get_or-set_other now k (sender_at m i) new v other))
           | false ↦ λ e.
               (let last : i ≡ j = grind (arith, nat_tests) in
               let is_r : r ≡ receive = at ∙ ap (λ (l : List LinkReceive). get_or l i r) receives ∙ get_or_push row receive r i (omega arith) in
@@ -225,7 +234,9 @@ row-more m j k rooms first now row next d new which below joined made =
               let plus = length-append (get_or now k d).items (send ∷ []) in
               let there : IsLinkedAt (place_at m i) new.items receive = record {
                 below = omega arith;
-                linked = λ s t. subst (λ (u : LinkSend). IsLink u receive) (sym (t ∙ ap (λ (l : List LinkSend). get_or l (place_at m i) s) sends ∙ get_or_push (get_or now k d).items send s (place_at m i) (sym place))) link;
+                linked = λ s t. subst (λ (u : LinkSend). IsLink u receive)
+                    (sym (t ∙ ap (λ (l : List LinkSend). get_or l (place_at m i) s) sends
+                    ∙ get_or_push (get_or now k d).items send s (place_at m i) (sym place))) link;
               } in
               subst (λ (u : Vec LinkSend Global). IsLinkedAt (place_at m i) u.items r) (sym is_v) (subst (λ (q : LinkReceive). IsLinkedAt (place_at m i) new.items q) (sym is_r) there))
         ]

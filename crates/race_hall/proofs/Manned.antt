@@ -49,7 +49,8 @@ total-calls : (x : Share) (f : Share) (n : ℕ) → x.calls ≤ 2097152 → tota
 total-calls x f zero low = omega arith
 total-calls x f (suc n) low = (let rest = total-calls x f n low in omega arith)
 
-pub few-calls : (copies budget plan foreign : ℕ) (shares : List Share) → shares ≡ shares_of copies budget plan foreign → copies ≤ 8 → budget ≤ 1048576 → plan ≤ 32768 → total (λ s. s.calls) shares < 2 ^ 63
+pub few-calls : (copies budget plan foreign : ℕ) (shares : List Share) → shares ≡ shares_of copies budget plan foreign
+    → copies ≤ 8 → budget ≤ 1048576 → plan ≤ 32768 → total (λ s. s.calls) shares < 2 ^ 63
 few-calls copies budget plan foreign shares is few low short =
     let most = total-calls (record { calls = 2 * budget; grows = 0 }) (record { calls = 8 * budget + plan; grows = plan + foreign }) copies (omega arith) in
     let same = ap (λ (l : List Share). total (λ s. s.calls) l) is in
@@ -140,7 +141,11 @@ module _ {T S W : Type 0} (game : GameRules W) (seat_of : T → Seat S (View (Mi
       → IsFeederOf (course_of m) feeder.budget feeder.mirror feeder → feeder.budget ≤ 1048576 → held.length ≡ m.length → length held.runs ≡ feeder.copies
       → i < feeder.copies + 1
       → IsPosted feeder i job
-      → IsFreshAt held (record { calls = 2 * feeder.budget; grows = 0 }) (record { calls = 8 * feeder.budget + length feeder.plan.items; grows = length feeder.plan.items + feeder.foreign }) feeder.copies i (view (seat_of job.seat))
+      → IsFreshAt held (record { calls = 2 * feeder.budget; grows = 0 })
+      (record {
+        calls = 8 * feeder.budget + length feeder.plan.items;
+        grows = length feeder.plan.items + feeder.foreign;
+      }) feeder.copies i (view (seat_of job.seat))
       → ((seat_of job.seat).table_id ≡ name) × TakesFrom game held (view (seat_of job.seat))
       → IsManned seat_of game feeder.copies feeder.mirror name feeder i job
   manned-one held m name feeder i job is there of low long runs within posted fresh seat =
@@ -196,8 +201,11 @@ module _ {T S W : Type 0} (game : GameRules W) (seat_of : T → Seat S (View (Mi
       (sym (map-map (λ x. view (seat_of x)) (λ (job : JobOver T). job.seat) crew) ∙ ap (λ (l : List T). map (λ x. view (seat_of x)) l) seats_are ∙ views
       ∙ ap (λ (l : List Share). fresh_views held 0 l) shares_are))) in
       let of_seats = subst (AllByRecursion (λ x. ((seat_of x).table_id ≡ name) × TakesFrom game held (view (seat_of x)))) (sym seats_are)
-      (all-both _ _ (λ x. ((seat_of x).table_id ≡ name) × TakesFrom game held (view (seat_of x))) seats (λ x named takes. (named, takes)) (recursion_from_All _ seats tables) (recursion_from_All _ seats takes)) in
-      numbered-both (λ j x. (j < 0 + (feeder.copies + 1)) × IsPosted feeder j x) (λ i (job : JobOver T). IsFreshAt held copy feed feeder.copies i (view (seat_of job.seat))) (IsManned seat_of game feeder.copies feeder.mirror name feeder)
+      (all-both _ _ (λ x. ((seat_of x).table_id ≡ name) × TakesFrom game held (view (seat_of x))) seats
+      (λ x named takes. (named, takes)) (recursion_from_All _ seats tables) (recursion_from_All _ seats takes)) in
+      numbered-both (λ j x. (j < 0 + (feeder.copies + 1)) × IsPosted feeder j x)
+      (λ i (job : JobOver T). IsFreshAt held copy feed feeder.copies i (view (seat_of job.seat)))
+      (IsManned seat_of game feeder.copies feeder.mirror name feeder)
       (λ job. ((seat_of job.seat).table_id ≡ name) × TakesFrom game held (view (seat_of job.seat))) (count_from 0 (feeder.copies + 1)) crew
       (λ i job p q a. manned-one held m name feeder i job is there of low long runs (let b = p.0 in omega arith) p.1 q a)
       (numbered-within (IsPosted feeder) 0 (feeder.copies + 1) crew posted) fresh

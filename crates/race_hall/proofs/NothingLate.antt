@@ -34,8 +34,12 @@ nothing-late {W} c opening spare m marked got left seat H s course room there r 
     let share = shared-out c opening spare m marked got left seat H s course there r in
     let names = NamesDiffer-front (commands_asked (events_asked (pairs_of H))) (to_deliver c m marked left)
     (NamesDiffer-same c.commands (commands_asked (events_asked (pairs_of H)) ++ to_deliver c m marked left)
-    (λ p. (let a = share p in let b = times-append p (commands_asked (events_asked (pairs_of H))) (to_deliver c m marked left) in let d = times-append p (left_over c m left) (never_issued c marked) in omega arith)) course.names) in
-    let few : length (commands_asked (events_asked (pairs_of H))) ≤ spare = (let a = share (λ x. true) in let b = times-all c.commands in let d = times-all (commands_asked (events_asked (pairs_of H))) in omega arith) in
+    (λ p. (let a = share p in let b = times-append p (commands_asked (events_asked (pairs_of H)))
+    (to_deliver c m marked left) in let d = times-append p (left_over c m left) (never_issued c marked) in
+    omega arith)) course.names) in
+    let few : length (commands_asked (events_asked (pairs_of H))) ≤ spare =
+    (let a = share (λ x. true) in let b = times-all c.commands in
+    let d = times-all (commands_asked (events_asked (pairs_of H))) in omega arith) in
     let here = takes (events_asked (pairs_of H)) (race_opening c opening spare) (opening_staggered opening c.length c.plans spare 0) refl (opening-runs c opening spare course.some_copy)
     (sound-fits (pairs_of H) (race_opening c opening spare) r.sound) (history-in_time c opening spare m marked got left seat H s course there r) names few in
     record {
@@ -44,10 +48,16 @@ nothing-late {W} c opening spare m marked got left seat H s course room there r 
       taken = here.taken;
       shared = share;
       can = record {
-        within = subst (λ (n : ℕ). AllByRecursion (λ x. x.time < n) (to_deliver c m marked left)) (sym (ap (λ (u : MirrorState W). u.length) r.state ∙ (after-fixed (events_asked (pairs_of H)) (race_opening c opening spare)).length))
-            (arrivals-fit (race_opening c opening spare) (to_deliver c m marked left) (all-second (Fits (race_opening c opening spare)) (events_asked (pairs_of H)) (map Arrive (to_deliver c m marked left)) runs.fit));
+        within = subst (λ (n : ℕ). AllByRecursion (λ x. x.time < n) (to_deliver c m marked left))
+            (sym (ap (λ (u : MirrorState W). u.length) r.state
+            ∙ (after-fixed (events_asked (pairs_of H)) (race_opening c opening spare)).length))
+            (arrivals-fit (race_opening c opening spare) (to_deliver c m marked left)
+            (all-second (Fits (race_opening c opening spare)) (events_asked (pairs_of H))
+            (map Arrive (to_deliver c m marked left)) runs.fit));
         room = (let a = share (λ x. true) in let b = times-all c.commands in let d = times-all (commands_asked (events_asked (pairs_of H))) in let e = times-all (to_deliver c m marked left) in
             let f = times-append (λ x. true) (left_over c m left) (never_issued c marked) in let k = here.spare in let l = ap (λ (u : MirrorState W). u.spare) r.state in omega arith);
       };
-      later = subst (λ (u : MirrorState W). AllTaken u (map Arrive (to_deliver c m marked left))) (sym r.state) (taken-last (events_asked (pairs_of H)) (map Arrive (to_deliver c m marked left)) (race_opening c opening spare) all.taken);
+      later = subst (λ (u : MirrorState W). AllTaken u (map Arrive (to_deliver c m marked left))) (sym r.state)
+          (taken-last (events_asked (pairs_of H)) (map Arrive (to_deliver c m marked left))
+          (race_opening c opening spare) all.taken);
     }

@@ -61,7 +61,8 @@ numbered-more P n xs now x h pushed one =
     (subst (λ l. AllZip P (count_from 0 (suc n)) l) (sym pushed) (numbered-push P 0 n xs x h (subst (λ (k : ℕ). P k x) at one)))
 
 -- the first of them is taken off
-pub numbered-off : {X : Type 0} (P : ℕ → X → Type 0) (i n : ℕ) (xs now : List X) (v : X) → AllZip P (count_from i n) xs → 0 < n → v ≡ get_or xs 0 v → now ≡ remove xs 0 → P i v × AllZip P (count_from (i + 1) (n - 1)) now
+pub numbered-off : {X : Type 0} (P : ℕ → X → Type 0) (i n : ℕ) (xs now : List X) (v : X) → AllZip P (count_from i n) xs
+    → 0 < n → v ≡ get_or xs 0 v → now ≡ remove xs 0 → P i v × AllZip P (count_from (i + 1) (n - 1)) now
 numbered-off P i zero xs now v h some e off = absurd (omega arith)
 numbered-off P i (suc n) xs now v h some e off =
     let both = numbered-first P i n xs v h e in
@@ -69,7 +70,9 @@ numbered-off P i (suc n) xs now v h some e off =
     (both.0, subst (λ (k : ℕ). AllZip P (count_from (i + 1) k) now) less (subst (λ l. AllZip P (count_from (i + 1) n) l) (sym off) both.1))
 
 -- lists whose elements go with their numbers in two ways, and in a third
-pub numbered-both : {X : Type 0} (P Q R : ℕ → X → Type 0) (C : X → Type 0) (ks : List ℕ) (xs : List X) → ((i : ℕ) (x : X) → P i x → Q i x → C x → R i x) → AllZip P ks xs → AllZip Q ks xs → AllByRecursion C xs → AllZip R ks xs
+pub numbered-both : {X : Type 0} (P Q R : ℕ → X → Type 0) (C : X → Type 0) (ks : List ℕ) (xs : List X)
+    → ((i : ℕ) (x : X) → P i x → Q i x → C x → R i x) → AllZip P ks xs → AllZip Q ks xs → AllByRecursion C xs
+    → AllZip R ks xs
 numbered-both P Q R C [] [] step h k a = tt
 numbered-both P Q R C [] (x ∷ xs) step h k a = absurd h
 numbered-both P Q R C (i ∷ ks) [] step h k a = absurd h
@@ -95,7 +98,9 @@ numbered-at {X} P i n whole gone rest more x h parts is = at i n gone (subst (λ
     at j zero [] g = absurd g
     at j zero (y ∷ front) g = absurd g
     at j (suc k) [] g = (let e : j ≡ j + 0 = omega arith in (subst (λ (z : ℕ). P z x) e g.0, omega arith))
-    at j (suc k) (y ∷ front) g = (let r = at (j + 1) k front g.1 in let e : j + 1 + length front ≡ j + suc (length front) = omega arith in (subst (λ (z : ℕ). P z x) e r.0, (let low = r.1 in omega arith)))
+    at j (suc k) (y ∷ front) g = (let r = at (j + 1) k front g.1 in
+        let e : j + 1 + length front ≡ j + suc (length front) = omega arith in
+        (subst (λ (z : ℕ). P z x) e r.0, (let low = r.1 in omega arith)))
 
 -- what holds of those below a number
 pub numbered-below : {X : Type 0} (P : ℕ → X → Type 0) (C : X → Type 0) (i n : ℕ) (xs : List X) → ((j : ℕ) (x : X) → j < i + n → P j x → C x) → AllZip P (count_from i n) xs → AllByRecursion C xs

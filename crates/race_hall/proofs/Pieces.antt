@@ -25,7 +25,9 @@ piece-goes {W} f s t xs i d below new can =
     let parts = piece f xs i d below in
     record {
       can = subst (λ (u : MirrorState W). CanTake u (joined (map f (drop (i + 1) xs)))) (sym new) (can-later s (f (get_or xs i d)) (joined (map f (drop (i + 1) xs))) (subst (CanTake s) parts can));
-      state = ap (λ (u : MirrorState W). delivered u (joined (map f (drop (i + 1) xs)))) new ∙ sym (deliver-append s (f (get_or xs i d)) (joined (map f (drop (i + 1) xs)))) ∙ ap (λ (l : List Command). delivered s l) (sym parts);
+      state = ap (λ (u : MirrorState W). delivered u (joined (map f (drop (i + 1) xs)))) new
+          ∙ sym (deliver-append s (f (get_or xs i d)) (joined (map f (drop (i + 1) xs))))
+          ∙ ap (λ (l : List Command). delivered s l) (sym parts);
     }
 
 pub piece-ends : {W X : Type 0} (f : X → List Command) (s : MirrorState W) (xs : List X) (i : ℕ) → length xs ≤ i → s ≡ delivered s (joined (map f (drop i xs)))

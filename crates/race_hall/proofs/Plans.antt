@@ -145,6 +145,8 @@ pub others-each : (P : ℕ → Type 0) (n m k : ℕ) → m < n → k < n → k �
 others-each P n m k there below differ h =
     elim (nat_lt k m) as (λ v. nat_lt k m ≡ v → P k) [
       | true ↦ λ e. (let low : k < m = grind (arith, nat_tests) in count-each P 0 m k (all-first P (count_from 0 m) (count_from (m + 1) (n - (m + 1))) h) (omega arith) (omega arith))
-      | false ↦ λ e. (let high : m ≤ k = grind (arith, nat_tests) in count-each P (m + 1) (n - (m + 1)) k (all-second P (count_from 0 m) (count_from (m + 1) (n - (m + 1))) h) (omega arith) (omega arith))
+      | false ↦ λ e. (let high : m ≤ k = grind (arith, nat_tests) in
+          count-each P (m + 1) (n - (m + 1)) k (all-second P (count_from 0 m) (count_from (m + 1) (n - (m + 1))) h)
+          (omega arith) (omega arith))
     ]
     refl

@@ -87,6 +87,8 @@ linked-joined more turns gots sends0 sends row0 row place j sent received before
       below = (let a = old.below in omega arith);
       linked = λ s e.
           let was = old.linked (get_or sends0 place s) (get_or_default sends0 place s (get_or sends0 place s) old.below) in
-          let same : SameSend (get_or sends0 place s) s = subst (λ (t : LinkSend). SameSend (get_or sends0 place s) t) (sym e) (zip-get (IsSent more) sends0 sends place s sent (let a = old.below in omega arith)).same in
+          let same : SameSend (get_or sends0 place s) s =
+          subst (λ (t : LinkSend). SameSend (get_or sends0 place s) t) (sym e)
+          (zip-get (IsSent more) sends0 sends place s sent (let a = old.below in omega arith)).same in
           link-later (get_or sends0 place s) s (get_or row0 j r) r was same same_receive;
     }

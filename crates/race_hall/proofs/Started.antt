@@ -29,7 +29,8 @@ receive-long turns (x ∷ xs) (y ∷ ys) [] h = absurd h
 receive-long turns (x ∷ xs) (y ∷ ys) (g ∷ gots) h = ap suc (receive-long turns xs ys gots h.1)
 
 -- after the feeders: how many links a mirror has, and where their other ends stand
-pub ends-links : (rooms : List ℕ) (job : ℕ → FeederJob) (end : ℕ → FeederEnd) (asked : ℕ → List Asked) (sends : List (Vec LinkSend Global)) (rows : List (Vec LinkReceive Global)) (m : ℕ) → m < length rooms
+pub ends-links : (rooms : List ℕ) (job : ℕ → FeederJob) (end : ℕ → FeederEnd) (asked : ℕ → List Asked)
+    (sends : List (Vec LinkSend Global)) (rows : List (Vec LinkReceive Global)) (m : ℕ) → m < length rooms
     → AreLinksTo (length rooms) rooms sends rows → HoldLinks (length rooms) job sends rows → ((k : ℕ) → k < length rooms → FeederEnds (job k) (end k) [] (asked k))
     → length (end m).receives.items + 1 ≡ length rooms
 ends-links rooms job end asked sends rows m below made hold ends =
@@ -48,7 +49,9 @@ ends-linked rooms job end asked sends rows made hold ends m j r below low at =
     let there : sender_at m j < length rooms = sender-below m j (length (end m).receives.items) (length rooms) (sender_at m j) low long refl in
     let s = ends (sender_at m j) there in
     let count = made.sends_count in
-    linked-joined (messages (job (sender_at m j)).plan.items (end (sender_at m j)).marked) (end m).turns e.gots (job (sender_at m j)).sends.items (end (sender_at m j)).sends.items (job m).receives.items (end m).receives.items
+    linked-joined (messages (job (sender_at m j)).plan.items (end (sender_at m j)).marked) (end m).turns e.gots
+    (job (sender_at m j)).sends.items (end (sender_at m j)).sends.items (job m).receives.items
+    (end m).receives.items
     (place_at m j) j s.sent e.receives
     (λ q there_q at_q. row.linked j q (job (sender_at m j)).sends there_q at_q (hold.sends_of (sender_at m j) there))
     r low at

@@ -78,10 +78,14 @@ record SameTaken {W : Type 0} (s t : MirrorState W) (r : Reply) : Type 0 where
   pub answer : IsNeverRefused r
 
 tick-same : {W : Type 0} (s : MirrorState W) → SameTaken s (next s Tick) (said s Tick)
-tick-same s = tick-cases s (λ t r. SameTaken s t r) (λ e. record { accepted = refl; turned = refl; spare = refl; answer = tt }) (λ e. record { accepted = refl; turned = refl; spare = refl; answer = tt })
+tick-same s = tick-cases s (λ t r. SameTaken s t r)
+    (λ e. record { accepted = refl; turned = refl; spare = refl; answer = tt })
+    (λ e. record { accepted = refl; turned = refl; spare = refl; answer = tt })
 
 step-same : {W : Type 0} (s : MirrorState W) (c : ℕ) → SameTaken s (next s (Step c)) (said s (Step c))
-step-same s c = step-cases s c (λ t r. SameTaken s t r) (λ e. record { accepted = refl; turned = refl; spare = refl; answer = tt }) (λ e. record { accepted = refl; turned = refl; spare = refl; answer = tt })
+step-same s c = step-cases s c (λ t r. SameTaken s t r)
+    (λ e. record { accepted = refl; turned = refl; spare = refl; answer = tt })
+    (λ e. record { accepted = refl; turned = refl; spare = refl; answer = tt })
 
 taken-same : {W : Type 0} (s : MirrorState W) (x : Command) → is_repeat s x ≡ false → is_late s x ≡ false
     → ((next s (Arrive x)).accepted ≡ s.accepted ++ x ∷ []) × ((next s (Arrive x)).turned ≡ s.turned) × ((next s (Arrive x)).spare ≡ s.spare - 1) × IsNeverRefused (said s (Arrive x))
@@ -98,13 +102,27 @@ takes (Tick ∷ es) s here kept some fit time names room =
     let fixed = next-fixed s Tick in
     let more = takes es (next s Tick) (staggered_kept s Tick fit.0 here) (unchanged-later s Tick refl kept) (omega arith) (all-fit-next s Tick es fit.1) time.1
     (subst (λ (l : List Command). NamesDiffer (l ++ commands_asked es)) (sym same.accepted) names) (omega (arith, same.spare)) in
-    record { accepted = more.accepted ∙ ap (λ (l : List Command). l ++ commands_asked es) same.accepted; turned = more.turned ∙ same.turned; spare = more.spare ∙ same.spare; room = (tt, more.room); taken = (same.answer, more.taken) }
+    record {
+      accepted = more.accepted ∙ ap (λ (l : List Command). l ++ commands_asked es) same.accepted;
+      turned = more.turned ∙ same.turned;
+      spare = more.spare ∙ same.spare;
+      room = (tt, more.room);
+      taken =
+          (same.answer, more.taken);
+    }
 takes (Step c ∷ es) s here kept some fit time names room =
     let same = step-same s c in
     let fixed = next-fixed s (Step c) in
     let more = takes es (next s (Step c)) (staggered_kept s (Step c) fit.0 here) (unchanged-later s (Step c) refl kept) (omega arith) (all-fit-next s (Step c) es fit.1) time.1
     (subst (λ (l : List Command). NamesDiffer (l ++ commands_asked es)) (sym same.accepted) names) (omega (arith, same.spare)) in
-    record { accepted = more.accepted ∙ ap (λ (l : List Command). l ++ commands_asked es) same.accepted; turned = more.turned ∙ same.turned; spare = more.spare ∙ same.spare; room = (tt, more.room); taken = (same.answer, more.taken) }
+    record {
+      accepted = more.accepted ∙ ap (λ (l : List Command). l ++ commands_asked es) same.accepted;
+      turned = more.turned ∙ same.turned;
+      spare = more.spare ∙ same.spare;
+      room = (tt, more.room);
+      taken =
+          (same.answer, more.taken);
+    }
 takes (Restagger p ∷ es) s here kept some fit time names room = absurd time.0
 takes (Arrive x ∷ es) s here kept some fit time names room =
     let same = taken-same s x (not-first x s.accepted (commands_asked es) names) (in_time-due s x here kept some time.0) in

@@ -31,7 +31,9 @@ raced-nothing c opening spare m = record {
     arrive = tt;
     feeding = tt;
     fair = λ orderly few. record {
-      in_time = none-got (others c.mirrors m) (ArriveInTime [] c.pace) (λ front back x e. absurd (let a = ap (λ (l : List Message). length l) e in let b = length-append front (Cmd x ∷ back) in omega arith));
+      in_time = none-got (others c.mirrors m) (ArriveInTime [] c.pace)
+          (λ front back x e. absurd (let a = ap (λ (l : List Message). length l) e in
+          let b = length-append front (Cmd x ∷ back) in omega arith));
       counts = λ x. sym (omega (arith, none-total (others c.mirrors m) (λ g. times (same_command x) (commands_in g)) refl));
       bounds = none-got (others c.mirrors m) (λ got. (0 ≤ last_mark got + c.pace) ⊎ (last_mark got ≡ c.length)) (inl (omega arith));
     };

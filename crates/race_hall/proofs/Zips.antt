@@ -44,7 +44,8 @@ zip-through P R Q (x ∷ xs) (y ∷ ys) [] step h k = absurd k
 zip-through P R Q (x ∷ xs) (y ∷ ys) (z ∷ zs) step h k = (step x y z h.0 k.0, zip-through P R Q xs ys zs step h.1 k.1)
 
 -- what holds of what goes with each, and of each
-pub zip-with_all : {X Y : Type 0} (A : X → Type 0) (P Q : X → Y → Type 0) → ((x : X) (y : Y) → A x → P x y → Q x y) → (xs : List X) (ys : List Y) → AllByRecursion A xs → AllZip P xs ys → AllZip Q xs ys
+pub zip-with_all : {X Y : Type 0} (A : X → Type 0) (P Q : X → Y → Type 0) → ((x : X) (y : Y) → A x → P x y → Q x y)
+    → (xs : List X) (ys : List Y) → AllByRecursion A xs → AllZip P xs ys → AllZip Q xs ys
 zip-with_all A P Q step [] [] a h = tt
 zip-with_all A P Q step [] (y ∷ ys) a h = absurd h
 zip-with_all A P Q step (x ∷ xs) [] a h = absurd h

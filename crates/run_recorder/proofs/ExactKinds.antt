@@ -45,11 +45,21 @@ copy_exact m small = let few = small.copies in number_exact 0 (length m.delays -
 
 unfoldable pub log_exact : (m : MatchData) → IsSmall m → ExactKind (log_kind m) (LogFits m)
 unfolding is_word
-log_exact m small = record { keyword = refl; longest = λ _. 9; form = λ _. then_exact (mirror_exact m small) (only_exact (number_exact 0 131072 6 (lit< tt) (lit< tt) (lit< tt))); short = λ _ _ _. lit≤ tt }
+log_exact m small = record {
+  keyword = refl;
+  longest = λ _. 9;
+  form = λ _. then_exact (mirror_exact m small) (only_exact (number_exact 0 131072 6 (lit< tt) (lit< tt) (lit< tt)));
+  short = λ _ _ _. lit≤ tt;
+}
 
 unfoldable pub arrive_exact : (m : MatchData) → IsSmall m → ExactKind (record_arrive_kind m) (ArriveFits m)
 unfolding is_word
-arrive_exact m small = record { keyword = refl; longest = λ _. 9; form = λ _. then_exact (mirror_exact m small) (only_exact (number_exact 0 999999 6 (lit< tt) (lit< tt) (lit< tt))); short = λ _ _ _. lit≤ tt }
+arrive_exact m small = record {
+  keyword = refl;
+  longest = λ _. 9;
+  form = λ _. then_exact (mirror_exact m small) (only_exact (number_exact 0 999999 6 (lit< tt) (lit< tt) (lit< tt)));
+  short = λ _ _ _. lit≤ tt;
+}
 
 unfoldable pub step_exact : (m : MatchData) → IsSmall m → ExactKind (record_step_kind m) (StepFits m)
 unfolding is_word
@@ -57,8 +67,21 @@ step_exact m small = record { keyword = refl; longest = λ _. 2; form = λ _. on
 
 unfoldable pub restagger_exact : (m : MatchData) → IsSmall m → ExactKind (record_restagger_kind m) (RestaggerFits m)
 unfolding is_word
-restagger_exact m small = let few = small.plans in record { keyword = refl; longest = λ _. 2; form = λ _. only_exact (number_exact 0 (length m.plans) 1 (lit< tt) (omega arith) (omega arith)); short = λ _ _ _. lit≤ tt }
+restagger_exact m small = let few = small.plans in
+    record {
+      keyword = refl;
+      longest = λ _. 2;
+      form = λ _. only_exact (number_exact 0 (length m.plans) 1 (lit< tt) (omega arith) (omega arith));
+      short =
+          λ _ _ _. lit≤ tt;
+    }
 
 unfoldable pub world_exact : (m : MatchData) → IsSmall m → ExactKind (record_world_kind m) (WorldFits m)
 unfolding is_word
-world_exact m small = record { keyword = refl; longest = λ _. 15; form = λ _. then_exact (mirror_exact m small) (then_exact (copy_exact m small) (only_exact (number_exact 0 (2 ^ 32 - 1) 10 (lit< tt) (lit< tt) (lit< tt)))); short = λ _ _ _. lit≤ tt }
+world_exact m small = record {
+  keyword = refl;
+  longest = λ _. 15;
+  form = λ _. then_exact (mirror_exact m small)
+      (then_exact (copy_exact m small) (only_exact (number_exact 0 (2 ^ 32 - 1) 10 (lit< tt) (lit< tt) (lit< tt))));
+  short = λ _ _ _. lit≤ tt;
+}

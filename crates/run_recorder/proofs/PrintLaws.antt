@@ -19,12 +19,15 @@ unfolding blocks_text
 one_block block = append-nil block
 
 -- the next block
-pub blocks_next : (xs : List (List ℕ)) (i : ℕ) (d : List ℕ) (old mid new : List ℕ) → i < length xs → mid ≡ old ++ blocks_text (take i xs) → new ≡ mid ++ get_or xs i d → new ≡ old ++ blocks_text (take (i + 1) xs)
+pub blocks_next : (xs : List (List ℕ)) (i : ℕ) (d : List ℕ) (old mid new : List ℕ) → i < length xs → mid ≡ old
+    ++ blocks_text (take i xs) → new ≡ mid ++ get_or xs i d → new ≡ old ++ blocks_text (take (i + 1) xs)
 blocks_next xs i d old mid new within so_far next =
     next ∙ rw (so_far, (take_at_read xs i d within).1, blocks_text-append, one_block (get_or xs i d)) (append_assoc old _ _)
 
 -- a log's first line, and its events
-pub log_puts : (mirror count : ℕ) (events : List Event) (old mid new : List ℕ) → mid ≡ old ++ as_line (log_line mirror count) → new ≡ mid ++ lines_text (map event_line events) → new ≡ old ++ log_text mirror count events
+pub log_puts : (mirror count : ℕ) (events : List Event) (old mid new : List ℕ) → mid ≡ old
+    ++ as_line (log_line mirror count) → new ≡ mid ++ lines_text (map event_line events) → new ≡ old
+    ++ log_text mirror count events
 unfolding lines_text
 log_puts mirror count events old mid new first more = more ∙ rw first (append_assoc old (as_line (log_line mirror count)) (lines_text (map event_line events)))
 
@@ -51,7 +54,8 @@ unfolding record_mirrors_text
 mirrors_end [] worlds old all none so_far = sym (append-nil old) ∙ so_far
 mirrors_end (log ∷ logs) worlds old all none so_far = absurd (omega arith)
 
-pub worlds_end : (logs more : List MirrorLog) (worlds : List (List (List ℕ))) (log : MirrorLog) (old all : List ℕ) → logs ≡ log ∷ more → length worlds ≡ 0 → old ++ record_mirrors_text logs worlds ≡ all → old ≡ all
+pub worlds_end : (logs more : List MirrorLog) (worlds : List (List (List ℕ))) (log : MirrorLog) (old all : List ℕ)
+    → logs ≡ log ∷ more → length worlds ≡ 0 → old ++ record_mirrors_text logs worlds ≡ all → old ≡ all
 unfolding record_mirrors_text
 worlds_end logs more [] log old all some none so_far = sym (append-nil old) ∙ rw some at so_far
 worlds_end logs more (blocks ∷ worlds) log old all some none so_far = absurd (omega arith)

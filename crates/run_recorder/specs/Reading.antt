@@ -14,7 +14,8 @@ use Rattle.match_file.specs.Data.{MatchData}
 use Rattle.run_recorder.specs.declared.race_record.RaceRecord.{RaceRecord}
 use Rattle.run_recorder.specs.declared.tail.Stage.TheVariants.{Between, Ended}
 use Rattle.run_recorder.specs.declared.tail.Tail.{Tail}
-use Rattle.run_recorder.specs.Kinds.{is_record_ended, is_in_world, is_event_due, is_end_due, closed, with_event, log_kind, record_arrive_kind, record_step_kind, record_restagger_kind, record_world_kind}
+use Rattle.run_recorder.specs.Kinds.{is_record_ended, is_in_world, is_event_due, is_end_due, closed, with_event, log_kind, record_arrive_kind}
+use Rattle.run_recorder.specs.Kinds.{record_step_kind, record_restagger_kind, record_world_kind}
 use Rattle.run_recorder.specs.Text.{record_head, last_line, is_block_line}
 
 -- the kinds of line behind the match that a first word names

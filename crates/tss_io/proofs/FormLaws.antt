@@ -1,5 +1,6 @@
 -- Forms both ways: what is read by a form is written so, and what is written by it is read.
-use Rattle.std.proofs.Common.{◌≡◌, ℕ, ◌+◌, ◌*◌, ◌^◌, ◌%◌, ◌<◌, ◌≤◌, Bool, true, false, cond, eqb, ltb, ◌&&◌, List, [], ◌∷◌, length, map, Option, Some, None, Result, Ok, Err, refl, sym, ap, subst, ◌∙◌, arith, length-append}
+use Rattle.std.proofs.Common.{◌≡◌, ℕ, ◌+◌, ◌*◌, ◌^◌, ◌%◌, ◌<◌, ◌≤◌, Bool, true, false, cond, eqb, ltb, ◌&&◌, List, [], ◌∷◌, length, map, Option, Some}
+use Rattle.std.proofs.Common.{None, Result, Ok, Err, refl, sym, ap, subst, ◌∙◌, arith, length-append}
 use Rattle.std.specs.Prelude.{bytes_eq, decimal}
 use Rattle.std.specs.List.{AllByRecursion, list_all}
 use Rattle.std.proofs.lemmas.Bool.{eqb-true, eq-eqb, ltb-false, ltb-true, le-ltb, lt-ltb, and_parts}
@@ -12,7 +13,8 @@ use Rattle.tss_io.proofs.Results.{bind_ok, then, guard_ok, unless_ok, unless_the
 use Rattle.tss_io.proofs.DecimalLaws.{number_of-some, number_of-decimal}
 use Rattle.tss_io.specs.declared.cause.Cause.{Cause}
 use Rattle.tss_io.specs.declared.cause.Cause.TheVariants.{Shape, Number}
-use Rattle.tss_io.specs.Forms.{is_word, front_at, last_at, Field, at_least, number_in, number, so_many_words, numbers_of, any_word, picked, choice, Form, only, ◌&◌, made, each_word, numbers_in, numbers, InRange, AreNumbers}
+use Rattle.tss_io.specs.Forms.{is_word, front_at, last_at, Field, at_least, number_in, number, so_many_words, numbers_of, any_word, picked, choice}
+use Rattle.tss_io.specs.Forms.{Form, only, ◌&◌, made, each_word, numbers_in, numbers, InRange, AreNumbers}
 use Rattle.tss_io.proofs.Spaced.{AreWords, IsWord-decimal, is_word-some}
 
 pub same_words : (a b : List ℕ) → bytes_eq a b ≡ true → a ≡ b
@@ -119,7 +121,9 @@ picked_fits P word (b ∷ values) w a all e =
     ] e
 
 -- one of the values, which are told apart by their words
-pub choice_exact : {A : Type 0} {P : A → Type 0} (word : A → List ℕ) (values : List A) (longest : ℕ) → AllByRecursion P values → ((a : A) → P a → Chosen word values a) → ((a : A) → length (word a) ≤ longest) → ExactField (choice word values) P (λ _. longest)
+pub choice_exact : {A : Type 0} {P : A → Type 0} (word : A → List ℕ) (values : List A) (longest : ℕ)
+    → AllByRecursion P values → ((a : A) → P a → Chosen word values a) → ((a : A) → length (word a) ≤ longest)
+    → ExactField (choice word values) P (λ _. longest)
 choice_exact {P = P} word values longest fits all short = record {
   takes = λ w r a _ see e. let same = see ∙ e in (picked_takes word values w a same, picked_fits P word values w a fits same);
   again = λ a h. (a, (all a h).0, refl);
@@ -271,7 +275,8 @@ numbers_takes least most [] (n ∷ ns) e = absurd cc
 numbers_takes least most (w ∷ ws) ns e = through _ _ _ e (λ n n_is e. through _ _ _ e (λ more more_is e.
     let t = number_takes least most w n n_is in
     let u = numbers_takes least most ws more more_is in
-    subst (λ (v : List ℕ). (w ∷ ws ≡ map decimal v) × AllByRecursion (InRange least most) v × (length (w ∷ ws) ≡ length v)) (ok_is (n ∷ more) ns e) (rw (t.0, u.0) refl, (t.1, u.1), omega (arith, u.2))))
+    subst (λ (v : List ℕ). (w ∷ ws ≡ map decimal v) × AllByRecursion (InRange least most) v ×
+    (length (w ∷ ws) ≡ length v)) (ok_is (n ∷ more) ns e) (rw (t.0, u.0) refl, (t.1, u.1), omega (arith, u.2))))
 
 numbers_again : (least most : ℕ) (ns : List ℕ) → most < 2 ^ 64 → AllByRecursion (InRange least most) ns → numbers_in least most (map decimal ns) ≡ Ok ns
 unfolding numbers_in

@@ -8,7 +8,8 @@ use Rattle.tss_io.proofs.Results.{then, guard_ok, unless_ok, unless_then}
 use Rattle.tss_io.specs.declared.cause.Cause.{Cause}
 use Rattle.tss_io.specs.declared.cause.Cause.TheVariants.{Shape, Number, Many, End, Long}
 use Rattle.tss_io.specs.Lines.{Lines, torn, line, words_of, spaced}
-use Rattle.tss_io.specs.Kinds.{keyword_step, line_at, keyword_line_at, is_long, checked, first_failing, fault_of, is_right, tests_of_value, all_tests, Kind, step, once, line_words, Hold, Sound, front_checks, keyword_checks}
+use Rattle.tss_io.specs.Kinds.{keyword_step, line_at, keyword_line_at, is_long, checked, first_failing, fault_of, is_right, tests_of_value, all_tests}
+use Rattle.tss_io.specs.Kinds.{Kind, step, once, line_words, Hold, Sound, front_checks, keyword_checks}
 use Rattle.tss_io.specs.Forms.{is_word, front_at}
 use Rattle.tss_io.proofs.Spaced.{AreWords, words_of-spaced, spaced-words_of}
 use Rattle.tss_io.proofs.FormLaws.{through, same_words, bytes_eq-same, width, ExactForm, front_takes, front_again, front_err}
@@ -67,11 +68,15 @@ value_fault : {S R A T : Type 0} (k : Kind S R A T) (s : S) (r : Result A Cause)
 value_fault k s (Ok a) h = checked_fault (k.tests s a) (k.put s a)
 value_fault k s (Err c) h = ap Some (h c refl)
 
-seen_fault : {S R A T : Type 0} (k : Kind S R A T) (s : S) (words : List (List ℕ)) (r : Result R Cause) → ((c : Cause) → r ≡ Err c → c ≡ Shape) → ((seen : R) (c : Cause) → (k.form s).value seen ≡ Err c → c ≡ Number)
+seen_fault : {S R A T : Type 0} (k : Kind S R A T) (s : S) (words : List (List ℕ)) (r : Result R Cause)
+    → ((c : Cause) → r ≡ Err c → c ≡ Shape) → ((seen : R) (c : Cause) → (k.form s).value seen ≡ Err c → c ≡ Number)
     → fault_of (r >>= λ seen. cond (k.room s words) ((k.form s).value seen >>= λ a. checked (k.tests s a) (k.put s a)) (Err Many))
     ≡ first_failing ((is_right r, Shape) ∷ (k.room s words, Many) ∷ (is_right (r >>= (k.form s).value), Number) ∷ tests_of_value k s (r >>= (k.form s).value))
 seen_fault k s words (Ok seen) h number =
-    elim (k.room s words) as (λ b. fault_of (cond b ((k.form s).value seen >>= λ a. checked (k.tests s a) (k.put s a)) (Err Many)) ≡ cond b (first_failing ((is_right ((k.form s).value seen), Number) ∷ tests_of_value k s ((k.form s).value seen))) (Some Many)) [
+    elim (k.room s words) as (λ b. fault_of
+    (cond b ((k.form s).value seen >>= λ a. checked (k.tests s a) (k.put s a)) (Err Many))
+    ≡ cond b (first_failing ((is_right ((k.form s).value seen), Number) ∷ tests_of_value k s
+    ((k.form s).value seen))) (Some Many)) [
       | true ↦ value_fault k s ((k.form s).value seen) (number seen)
       | false ↦ refl
     ]
@@ -82,7 +87,9 @@ pub step_fault : {S R A T : Type 0} {k : Kind S R A T} {Fits : S → A → Type 
 step_fault {k = k} x s words =
     let later = seen_fault k s words ((k.form s).see words) (λ c e. (x.form s).shape words c e) (λ r c e. (x.form s).number r c e) in
     elim (k.stands s) as (λ b. fault_of (cond b ((k.form s).see words >>= λ seen. cond (k.room s words) ((k.form s).value seen >>= λ a. checked (k.tests s a) (k.put s a)) (Err Many)) (Err Shape))
-    ≡ first_failing ((b && is_right ((k.form s).see words), Shape) ∷ (k.room s words, Many) ∷ (is_right ((k.form s).see words >>= (k.form s).value), Number) ∷ tests_of_value k s ((k.form s).see words >>= (k.form s).value))) [
+    ≡ first_failing ((b && is_right ((k.form s).see words), Shape) ∷ (k.room s words, Many) ∷
+    (is_right ((k.form s).see words >>= (k.form s).value), Number) ∷ tests_of_value k s
+    ((k.form s).see words >>= (k.form s).value))) [
       | true ↦ later
       | false ↦ refl
     ]
@@ -115,13 +122,15 @@ line_short {k = k} x s a h =
     le-ltb _ _ (omega arith)
 
 -- the first word and those behind it, of a line that was written by a kind
-pub line_front : {S R A T : Type 0} {k : Kind S R A T} {Fits : S → A → Type 0} → ExactKind k Fits → (s : S) (a : A) → Sound k Fits s a → front_at (words_of (line_text k s a)) ≡ Ok (k.keyword, (k.form s).words a)
+pub line_front : {S R A T : Type 0} {k : Kind S R A T} {Fits : S → A → Type 0} → ExactKind k Fits → (s : S) (a : A)
+    → Sound k Fits s a → front_at (words_of (line_text k s a)) ≡ Ok (k.keyword, (k.form s).words a)
 line_front {k = k} x s a h =
     let f = (x.form s).some a h.fits in
     rw (words_of-spaced k.keyword ((k.form s).words a) (line_fits x s a h), f.2) (front_again k.keyword f.0 f.1 x.keyword)
 
 -- a line whose first word is the kind's keyword
-pub line_is : {S R A T : Type 0} (k : Kind S R A T) (l : List ℕ) (front : List ℕ × List (List ℕ)) → front_at (words_of l) ≡ Ok front → bytes_eq front.0 k.keyword ≡ true → l ≡ spaced (k.keyword ∷ front.1)
+pub line_is : {S R A T : Type 0} (k : Kind S R A T) (l : List ℕ) (front : List ℕ × List (List ℕ))
+    → front_at (words_of l) ≡ Ok front → bytes_eq front.0 k.keyword ≡ true → l ≡ spaced (k.keyword ∷ front.1)
 line_is k l front e same = sym (spaced-words_of l) ∙ ap spaced (front_takes (words_of l) front e ∙ ap (λ (w : List ℕ). w ∷ front.1) (same_words front.0 k.keyword same))
 
 -- ---- lines that must come once
@@ -139,7 +148,10 @@ keyword_line_takes : (keyword : List ℕ) (lines : Lines) (x : List (List ℕ) �
 unfolding keyword_line_at
 keyword_line_takes keyword lines x e = through _ _ _ e (λ l l_is e. through _ _ _ e (λ front front_is e.
     let g = unless_ok (bytes_eq front.0 keyword) Shape (front.1, l.1) x e in
-    line_takes lines l l_is ∙ ap (λ (w : List ℕ). line w l.1) (sym (spaced-words_of l.0) ∙ ap spaced (front_takes (words_of l.0) front front_is ∙ ap (λ (w : List ℕ). w ∷ front.1) (same_words front.0 keyword g.0))) ∙ ap (λ (p : List (List ℕ) × Lines). line (spaced (keyword ∷ p.0)) p.1) g.1))
+    line_takes lines l l_is ∙ ap (λ (w : List ℕ). line w l.1)
+    (sym (spaced-words_of l.0) ∙ ap spaced
+    (front_takes (words_of l.0) front front_is ∙ ap (λ (w : List ℕ). w ∷ front.1) (same_words front.0 keyword g.0)))
+    ∙ ap (λ (p : List (List ℕ) × Lines). line (spaced (keyword ∷ p.0)) p.1) g.1))
 
 -- what the next line was read as
 pub record TookLine {S R A T : Type 0} (k : Kind S R A T) (Fits : S → A → Type 0) (s : S) (lines : Lines) (t : T) (rest : Lines) : Type 0 where
@@ -159,7 +171,8 @@ once_takes {T = T} {k = k} {Fits = Fits} kind s lines x e = through _ _ _ e (λ 
       put = took.put;
     })))
 
-pub once_again : {S R A T : Type 0} {k : Kind S R A T} {Fits : S → A → Type 0} → ExactKind k Fits → (s : S) (a : A) (rest : Lines) → Sound k Fits s a → once k s (line (line_text k s a) rest) ≡ Ok (k.put s a, rest)
+pub once_again : {S R A T : Type 0} {k : Kind S R A T} {Fits : S → A → Type 0} → ExactKind k Fits
+    → (s : S) (a : A) (rest : Lines) → Sound k Fits s a → once k s (line (line_text k s a) rest) ≡ Ok (k.put s a, rest)
 unfolding keyword_line_at
 once_again {k = k} kind s a rest h =
     then _ _ _ _ (then _ _ _ _ (line_again (line_text k s a) rest (line_short kind s a h)) (then _ _ _ _ (line_front kind s a h) (rw (bytes_eq-same k.keyword) refl)))
@@ -183,15 +196,21 @@ guarded keyword words rest = cond (bytes_eq words.0 keyword) (behind_it words.1 
 abbrev stepped : {S R A T : Type 0} → Kind S R A T → S → List (List ℕ) × Lines → Result (T × Lines) Cause
 stepped k s x = step k s x.0 >>= λ t. behind_it t x.1
 
-stepped_is : {S R A T : Type 0} (k : Kind S R A T) (s : S) (words : List ℕ × List (List ℕ)) (rest : Lines) (b : Bool) → (cond b (behind_it words.1 rest) (Err Shape) >>= stepped k s) ≡ (cond b (step k s words.1) (Err Shape) >>= λ t. behind_it t rest)
+stepped_is : {S R A T : Type 0} (k : Kind S R A T) (s : S) (words : List ℕ × List (List ℕ)) (rest : Lines) (b : Bool)
+    → (cond b (behind_it words.1 rest) (Err Shape) >>= stepped k s)
+    ≡ (cond b (step k s words.1) (Err Shape) >>= λ t. behind_it t rest)
 stepped_is k s words rest true = refl
 stepped_is k s words rest false = refl
 
-fronted_is : {S R A T : Type 0} (k : Kind S R A T) (s : S) (r : Result (List ℕ × List (List ℕ)) Cause) (rest : Lines) → ((r >>= λ words. guarded k.keyword words rest) >>= stepped k s) ≡ ((r >>= λ words. cond (bytes_eq words.0 k.keyword) (step k s words.1) (Err Shape)) >>= λ t. behind_it t rest)
+fronted_is : {S R A T : Type 0} (k : Kind S R A T) (s : S) (r : Result (List ℕ × List (List ℕ)) Cause) (rest : Lines)
+    → ((r >>= λ words. guarded k.keyword words rest) >>= stepped k s)
+    ≡ ((r >>= λ words. cond (bytes_eq words.0 k.keyword) (step k s words.1) (Err Shape)) >>= λ t. behind_it t rest)
 fronted_is k s (Ok words) rest = stepped_is k s words rest (bytes_eq words.0 k.keyword)
 fronted_is k s (Err c) rest = refl
 
-lined_is : {S R A T : Type 0} (k : Kind S R A T) (s : S) (r : Result (List ℕ × Lines) Cause) → ((r >>= λ l. front_at (words_of l.0) >>= λ words. guarded k.keyword words l.1) >>= stepped k s) ≡ (r >>= λ l. keyword_step k s l.0 >>= λ t. behind_it t l.1)
+lined_is : {S R A T : Type 0} (k : Kind S R A T) (s : S) (r : Result (List ℕ × Lines) Cause)
+    → ((r >>= λ l. front_at (words_of l.0) >>= λ words. guarded k.keyword words l.1) >>= stepped k s)
+    ≡ (r >>= λ l. keyword_step k s l.0 >>= λ t. behind_it t l.1)
 lined_is k s (Ok l) = fronted_is k s (front_at (words_of l.0)) l.1
 lined_is k s (Err c) = refl
 

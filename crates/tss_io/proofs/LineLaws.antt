@@ -17,7 +17,9 @@ parts_at-further b n bytes =
     let t : ltb (1 + n) (length (b ∷ bytes)) ≡ ltb n (length bytes) = grind (arith, nat_tests) in
     let e : 1 + n ≡ suc n = omega arith in
     let f : suc n + 1 ≡ suc (n + 1) = omega arith in
-    rw (t, e, f) (elim (ltb n (length bytes)) as (λ v. fronted b (cond v (Some (take n bytes, drop (n + 1) bytes)) None) ≡ cond v (Some (b ∷ take n bytes, drop (n + 1) bytes)) None) [ true ↦ refl | false ↦ refl ])
+    rw (t, e, f) (elim (ltb n (length bytes)) as
+    (λ v. fronted b (cond v (Some (take n bytes, drop (n + 1) bytes)) None)
+    ≡ cond v (Some (b ∷ take n bytes, drop (n + 1) bytes)) None) [ true ↦ refl | false ↦ refl ])
 
 cut_at-parts : (byte : ℕ) (bytes : List ℕ) → cut_at byte bytes ≡ parts_at (position_or_len (λ b. eqb b byte) bytes) bytes
 unfolding cut_at

@@ -26,7 +26,9 @@ line_at-torn_long bytes e long = let t : ltb LONGEST_LINE (length bytes) ≡ tru
 
 -- a line has at least one word
 some_word : (bytes : List ℕ) → (word : List ℕ) × (more : List (List ℕ)) × (words_of bytes ≡ word ∷ more)
-some_word bytes = rw words_of-cut (elim (cut_at 32 bytes) as (λ o. (word : List ℕ) × (more : List (List ℕ)) × (words_by bytes o ≡ word ∷ more)) [ None ↦ (bytes, [], refl) | Some x ↦ (x.0, words_of x.1, refl) ])
+some_word bytes = rw words_of-cut (elim (cut_at 32 bytes) as
+    (λ o. (word : List ℕ) × (more : List (List ℕ)) × (words_by bytes o ≡ word ∷ more))
+    [ None ↦ (bytes, [], refl) | Some x ↦ (x.0, words_of x.1, refl) ])
 
 pub front_at-word : (bytes : List ℕ) (x : List ℕ × List ℕ) → cut_at 32 bytes ≡ Some x → is_word x.0 ≡ true → front_at (words_of bytes) ≡ Ok (x.0, words_of x.1)
 unfolding front_at

@@ -1,5 +1,6 @@
 -- The laws of a text that a machine reads: what is read was written so, what is written is read, and a refusal names the first faulty line and its first failing check.
-use Rattle.std.proofs.Common.{◌≡◌, inl, inr, ℕ, ◌+◌, ◌≤◌, Bool, true, false, cond, ltb, List, [], ◌∷◌, ◌++◌, length, Result, Ok, Err, refl, sym, ap, subst, ◌∙◌, append_assoc, append-nil, length-append, arith}
+use Rattle.std.proofs.Common.{◌≡◌, inl, inr, ℕ, ◌+◌, ◌≤◌, Bool, true, false, cond, ltb, List, [], ◌∷◌, ◌++◌, length, Result, Ok, Err, refl, sym, ap}
+use Rattle.std.proofs.Common.{subst, ◌∙◌, append_assoc, append-nil, length-append, arith}
 use Rattle.std.specs.List.{AllByRecursion}
 use Rattle.std.specs.Prelude.{IfOk, IfErr}
 use Rattle.std.proofs.lemmas.Bool.{ltb-true, ltb-false}
@@ -146,7 +147,9 @@ lines_whole lines h = ap lines_of (sym (append-nil (lines_text lines))) ∙ line
 pub run_first : {S : Type 0} {m : Machine S} {Is : S → Type 0} {said : S → List ℕ} → ExactText m Is said
     → (n : ℕ) (s : S) (lines : Lines) (refused : Refused) → Is s → (run_to m.take m.is_last n s lines >>= ended) ≡ Err refused → FirstFault m.take m.checks m.is_last n s lines refused
 run_first {m = m} {Is = Is} x n s lines refused is e =
-    first_checked m.take m.checks m.is_last Is x.fault n s lines refused (λ front t good. (follows_text x s front t is good).1) (run_fault m.take m.is_last n s lines refused (run_is m.take m.is_last n s lines ∙ e))
+    first_checked m.take m.checks m.is_last Is x.fault n s lines refused
+    (λ front t good. (follows_text x s front t is good).1)
+    (run_fault m.take m.is_last n s lines refused (run_is m.take m.is_last n s lines ∙ e))
 
 same_refusal : {S : Type 0} (x y : Refused) → ◌≡◌ {A = Result S Refused} (Err x) (Err y) → y ≡ x
 same_refusal x y e = cc
@@ -198,10 +201,13 @@ run_inside {S = S} {T = T} take is_last outer at_last into next going step n s (
       | false ↦ elim (take s l) as (λ r. ◌≡◌ {A = Result (Stop T) Refused} (at n (r >>= λ u. Ok (cond (is_last u) (next u) (into u)))
           >>= λ t. run_to outer at_last (n + 1) t rest) ((at n r >>= λ t. run_to take is_last (n + 1) t rest) >>= λ (x : Stop S). run_to outer at_last x.next (next x.state) x.rest)) [
             | Err c ↦ refl
-            | Ok u ↦ elim (is_last u) as (λ b. is_last u ≡ b → ◌≡◌ {A = Result (Stop T) Refused} (run_to outer at_last (n + 1) (cond b (next u) (into u)) rest) (run_to take is_last (n + 1) u rest >>= λ (x : Stop S). run_to outer at_last x.next (next x.state) x.rest)) [
-              | true ↦ λ here. let stop = to_end take is_last (n + 1) u rest _ here refl in rw stop refl
-              | false ↦ λ on. run_inside take is_last outer at_last into next going step (n + 1) u rest on
-            ] refl
+            | Ok u ↦ elim (is_last u) as (λ b. is_last u ≡ b
+                → ◌≡◌ {A = Result (Stop T) Refused} (run_to outer at_last (n + 1) (cond b (next u) (into u)) rest)
+                (run_to take is_last (n + 1) u rest >>= λ (x : Stop S). run_to outer at_last x.next (next x.state)
+                x.rest)) [
+                  | true ↦ λ here. let stop = to_end take is_last (n + 1) u rest _ here refl in rw stop refl
+                  | false ↦ λ on. run_inside take is_last outer at_last into next going step (n + 1) u rest on
+                ] refl
           ]
     ])
 
@@ -211,9 +217,21 @@ pub run_as : {S T : Type 0} (take : S → List ℕ → Result S Cause) (is_last 
     → (n : ℕ) (s : S) (lines : Lines) → run_to outer at_last n (into s) lines ≡ (run_to take is_last n s lines >>= λ (x : Stop S). Ok (record { state = into x.state; next = x.next; rest = x.rest }))
 unfolding run_to
 run_as {S = S} {T = T} take is_last outer at_last into last step n s (torn bytes) =
-    rw (last s) (elim (is_last s) as (λ b. ◌≡◌ {A = Result (Stop T) Refused} (cond b (Ok (record { state = into s; next = n; rest = torn bytes })) (Err (refused_at n (cond (is_long bytes) Long End)))) (cond b (Ok (record { state = s; next = n; rest = torn bytes })) (Err (refused_at n (cond (is_long bytes) Long End))) >>= λ (x : Stop S). Ok (record { state = into x.state; next = x.next; rest = x.rest }))) [ true ↦ refl | false ↦ refl ])
+    rw (last s) (elim (is_last s) as (λ b. ◌≡◌ {A = Result (Stop T) Refused}
+    (cond b (Ok (record { state = into s; next = n; rest = torn bytes }))
+    (Err (refused_at n (cond (is_long bytes) Long End))))
+    (cond b (Ok (record { state = s; next = n; rest = torn bytes }))
+    (Err (refused_at n (cond (is_long bytes) Long End))) >>= λ (x : Stop S). Ok
+    (record { state = into x.state; next = x.next; rest = x.rest }))) [ true ↦ refl | false ↦ refl ])
 run_as {S = S} {T = T} take is_last outer at_last into last step n s (line l rest) =
-    rw (last s, step s l) (elim (is_last s) as (λ b. ◌≡◌ {A = Result (Stop T) Refused} (cond b (Ok (record { state = into s; next = n; rest = line l rest })) (cond (is_long l) (Err (refused_at n Long)) (at n (take s l >>= λ u. Ok (into u)) >>= λ t. run_to outer at_last (n + 1) t rest))) (cond b (Ok (record { state = s; next = n; rest = line l rest })) (cond (is_long l) (Err (refused_at n Long)) (at n (take s l) >>= λ t. run_to take is_last (n + 1) t rest)) >>= λ (x : Stop S). Ok (record { state = into x.state; next = x.next; rest = x.rest }))) [
+    rw (last s, step s l) (elim (is_last s) as
+    (λ b. ◌≡◌ {A = Result (Stop T) Refused}
+    (cond b (Ok (record { state = into s; next = n; rest = line l rest }))
+    (cond (is_long l) (Err (refused_at n Long))
+    (at n (take s l >>= λ u. Ok (into u)) >>= λ t. run_to outer at_last (n + 1) t rest)))
+    (cond b (Ok (record { state = s; next = n; rest = line l rest }))
+    (cond (is_long l) (Err (refused_at n Long)) (at n (take s l) >>= λ t. run_to take is_last (n + 1) t rest)) >>=
+    λ (x : Stop S). Ok (record { state = into x.state; next = x.next; rest = x.rest }))) [
       | true ↦ refl
       | false ↦ elim (is_long l) as (λ b. ◌≡◌ {A = Result (Stop T) Refused} (cond b (Err (refused_at n Long)) (at n (take s l >>= λ u. Ok (into u))
           >>= λ t. run_to outer at_last (n + 1) t rest)) (cond b (Err (refused_at n Long)) (at n (take s l) >>= λ t. run_to take is_last (n + 1) t rest)

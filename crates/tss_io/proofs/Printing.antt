@@ -30,7 +30,9 @@ front-front old more mid new e kept =
     sym (take-take (length old) (length mid) new le) ∙ ap (λ (l : List ℕ). take (length old) l) kept ∙ front-kept old more mid e
 
 -- a word, and the ones behind spaces
-pub spaced-put : {W : Type 0} (bytes : W → List ℕ) (words : List W) (first : W) (others : List W) (old mid new : List ℕ) → words ≡ first ∷ others → mid ≡ old ++ bytes first → new ≡ mid ++ behind_spaces bytes others → new ≡ old ++ spaced (map bytes words)
+pub spaced-put : {W : Type 0} (bytes : W → List ℕ) (words : List W) (first : W) (others : List W) (old mid new : List ℕ)
+    → words ≡ first ∷ others → mid ≡ old ++ bytes first → new ≡ mid ++ behind_spaces bytes others → new ≡ old
+    ++ spaced (map bytes words)
 spaced-put bytes words first others old mid new whole one more =
     more ∙ rw (one, whole, spaced-words bytes first others) (append_assoc old (bytes first) (behind_spaces bytes others))
 
@@ -54,7 +56,8 @@ pub puts_one : (l old new : List ℕ) → new ≡ old ++ as_line l → new ≡ o
 puts_one l old new e = e ∙ rw (one_line l) refl
 
 -- the line of the next item
-pub lines_next : {A : Type 0} (f : A → List ℕ) (xs : List A) (i : ℕ) (d : A) (old mid new : List ℕ) → i < length xs → mid ≡ old ++ lines_text (map f (take i xs)) → new ≡ mid ++ as_line (f (get_or xs i d))
+pub lines_next : {A : Type 0} (f : A → List ℕ) (xs : List A) (i : ℕ) (d : A) (old mid new : List ℕ) → i < length xs
+    → mid ≡ old ++ lines_text (map f (take i xs)) → new ≡ mid ++ as_line (f (get_or xs i d))
     → new ≡ old ++ lines_text (map f (take (i + 1) xs))
 lines_next f xs i d old mid new within so_far next =
     next ∙ rw (so_far, (take_at_read xs i d within).1, map-append, lines_text-append, one_line (f (get_or xs i d))) (append_assoc old _ _)

@@ -29,7 +29,9 @@ is_end_takes (torn []) e = refl
 is_end_takes (torn (b ∷ bytes)) e = absurd cc
 is_end_takes (line l rest) e = absurd cc
 
-pub at_cases : {S A P : Type 0} (n : ℕ) (r : Result S Cause) (f : S → Result A Refused) (x : Result A Refused) → ((c : Cause) → r ≡ Err c → Err (refused_at n c) ≡ x → P) → ((m : S) → r ≡ Ok m → f m ≡ x → P) → (at n r >>= f) ≡ x → P
+pub at_cases : {S A P : Type 0} (n : ℕ) (r : Result S Cause) (f : S → Result A Refused) (x : Result A Refused)
+    → ((c : Cause) → r ≡ Err c → Err (refused_at n c) ≡ x → P) → ((m : S) → r ≡ Ok m → f m ≡ x → P) → (at n r >>= f) ≡ x
+    → P
 at_cases n (Ok m) f x bad good e = good m refl e
 at_cases n (Err c) f x bad good e = bad c refl e
 
@@ -49,20 +51,25 @@ run_takes take is_last n s (line l rest) t e =
     let r = run_takes take is_last (n + 1) m rest t e in
     record { front = l ∷ r.front; whole = ap (line l) r.whole; good = (not_last, short, m, m_is, r.good); last = r.last }) e) e) e
 
-pub run_again : {S : Type 0} (take : S → List ℕ → Result S Cause) (is_last : S → Bool) (n : ℕ) (s : S) (front : List (List ℕ)) (t : S) → Follows take is_last s front t → is_last t ≡ true → run take is_last n s (ahead front (torn [])) ≡ Ok t
+pub run_again : {S : Type 0} (take : S → List ℕ → Result S Cause) (is_last : S → Bool) (n : ℕ) (s : S)
+    (front : List (List ℕ)) (t : S) → Follows take is_last s front t → is_last t ≡ true
+    → run take is_last n s (ahead front (torn [])) ≡ Ok t
 unfolding run ahead Follows
 run_again take is_last n s [] t good last = rw (good, last) refl
 run_again take is_last n s (l ∷ front) t good last = rw (good.0, good.1, good.3) (run_again take is_last (n + 1) good.2 front t good.4 last)
 
 -- ---- the first fault
 
-pub first : {S : Type 0} (take : S → List ℕ → Result S Cause) (is_last : S → Bool) (n : ℕ) (s : S) (lines : Lines) (refused : Refused) (cause : Cause) → ◌≡◌ {A = Result S Refused} (Err (refused_at n cause)) (Err refused) → stop_at take is_last s lines ≡ Some cause → StopsAt take is_last n s lines refused
+pub first : {S : Type 0} (take : S → List ℕ → Result S Cause) (is_last : S → Bool) (n : ℕ) (s : S) (lines : Lines)
+    (refused : Refused) (cause : Cause) → ◌≡◌ {A = Result S Refused} (Err (refused_at n cause)) (Err refused)
+    → stop_at take is_last s lines ≡ Some cause → StopsAt take is_last n s lines refused
 unfolding ahead Follows
 first take is_last n s lines refused cause e stop =
     let same : refused_at n cause ≡ refused = cc in
     record { front = []; met = s; rest = lines; whole = refl; good = refl; number = omega (arith, ap (λ (r : Refused). r.line) same); cause = stop ∙ ap (λ (r : Refused). Some r.cause) same }
 
-pub run_fault : {S : Type 0} (take : S → List ℕ → Result S Cause) (is_last : S → Bool) (n : ℕ) (s : S) (lines : Lines) (refused : Refused) → run take is_last n s lines ≡ Err refused → StopsAt take is_last n s lines refused
+pub run_fault : {S : Type 0} (take : S → List ℕ → Result S Cause) (is_last : S → Bool) (n : ℕ) (s : S) (lines : Lines)
+    (refused : Refused) → run take is_last n s lines ≡ Err refused → StopsAt take is_last n s lines refused
 unfolding run ahead Follows
 run_fault take is_last n s (torn bytes) refused e =
     either (is_last s) _ _ _
@@ -83,7 +90,8 @@ fault_is : {T E : Type 0} (r : Result T E) (c : E) → fault_of r ≡ Some c →
 fault_is (Ok t) c e = absurd cc
 fault_is (Err d) c e = ap Err (cc)
 
-fault_here : {S : Type 0} (take : S → List ℕ → Result S Cause) (is_last : S → Bool) (n : ℕ) (s : S) (lines : Lines) (cause : Cause) → stop_at take is_last s lines ≡ Some cause → run take is_last n s lines ≡ Err (refused_at n cause)
+fault_here : {S : Type 0} (take : S → List ℕ → Result S Cause) (is_last : S → Bool) (n : ℕ) (s : S) (lines : Lines)
+    (cause : Cause) → stop_at take is_last s lines ≡ Some cause → run take is_last n s lines ≡ Err (refused_at n cause)
 unfolding run
 fault_here take is_last n s (torn bytes) cause stop =
     either (is_last s) _ _ _
@@ -96,7 +104,10 @@ fault_here take is_last n s (line l rest) cause stop =
     (λ last stop. either (is_long l) _ _ _ (λ long stop. let same : Long ≡ cause = cc in rw (last, long, same) refl)
     (λ short stop. rw (last, short, fault_is (take s l) cause stop) refl) stop) stop
 
-pub fault_run : {S : Type 0} (take : S → List ℕ → Result S Cause) (is_last : S → Bool) (n : ℕ) (s : S) (front : List (List ℕ)) (met : S) (rest : Lines) (cause : Cause) → Follows take is_last s front met → stop_at take is_last met rest ≡ Some cause → run take is_last n s (ahead front rest) ≡ Err (refused_at (n + length front) cause)
+pub fault_run : {S : Type 0} (take : S → List ℕ → Result S Cause) (is_last : S → Bool) (n : ℕ) (s : S)
+    (front : List (List ℕ)) (met : S) (rest : Lines) (cause : Cause) → Follows take is_last s front met
+    → stop_at take is_last met rest ≡ Some cause → run take is_last n s (ahead front rest)
+    ≡ Err (refused_at (n + length front) cause)
 unfolding run ahead Follows
 fault_run take is_last n s [] met rest cause good stop =
     let none : n + 0 ≡ n = omega arith in
@@ -107,7 +118,9 @@ fault_run take is_last n s (l ∷ front) met rest cause good stop =
 
 -- ---- lines that follow
 
-pub follows_more : {S : Type 0} (take : S → List ℕ → Result S Cause) (is_last : S → Bool) (a : S) (xs : List (List ℕ)) (b : S) (ys : List (List ℕ)) (c : S) → Follows take is_last a xs b → Follows take is_last b ys c → Follows take is_last a (xs ++ ys) c
+pub follows_more : {S : Type 0} (take : S → List ℕ → Result S Cause) (is_last : S → Bool) (a : S) (xs : List (List ℕ))
+    (b : S) (ys : List (List ℕ)) (c : S) → Follows take is_last a xs b → Follows take is_last b ys c
+    → Follows take is_last a (xs ++ ys) c
 unfolding Follows
 follows_more take is_last a [] b ys c h k = subst (λ (v : _). Follows take is_last v ys c) (sym h) k
 follows_more take is_last a (x ∷ xs) b ys c h k = (h.0, h.1, h.2, h.3, follows_more take is_last h.2 xs b ys c h.4 k)
@@ -124,7 +137,9 @@ follows_says take is_last Is said one s (l ∷ front) t is good =
     (r.0 ∙ ap (λ (x : List (List ℕ)). x ++ front) k.0 ∙ append_assoc (said s) (l ∷ []) front, r.1)
 
 -- what each line keeps, all lines do
-pub follows_keeps : {S : Type 0} (take : S → List ℕ → Result S Cause) (is_last : S → Bool) (Is : S → Type 0) → ((s : S) (l : List ℕ) (t : S) → Is s → take s l ≡ Ok t → Is t) → (s : S) (front : List (List ℕ)) (t : S) → Is s → Follows take is_last s front t → Is t
+pub follows_keeps : {S : Type 0} (take : S → List ℕ → Result S Cause) (is_last : S → Bool) (Is : S → Type 0)
+    → ((s : S) (l : List ℕ) (t : S) → Is s → take s l ≡ Ok t → Is t) → (s : S) (front : List (List ℕ)) (t : S) → Is s
+    → Follows take is_last s front t → Is t
 unfolding Follows
 follows_keeps take is_last Is one s [] t is good = subst Is good is
 follows_keeps take is_last Is one s (l ∷ front) t is good = follows_keeps take is_last Is one good.2 front t (one s l good.2 is good.3) good.4
@@ -136,8 +151,15 @@ pub items_follow : {S A : Type 0} (take : S → List ℕ → Result S Cause) (is
 unfolding Follows EachAfter
 items_follow take is_last Right written with_items one before [] h = ap with_items (sym (append-nil before))
 items_follow take is_last Right written with_items one before (a ∷ more) h =
-    let k = one before a h.0 in
-    (k.0, k.1, with_items (before ++ a ∷ []), k.2, subst (λ (v : _). Follows take is_last (with_items (before ++ a ∷ [])) (map written more) (with_items v)) (append_assoc before (a ∷ []) more) (items_follow take is_last Right written with_items one (before ++ a ∷ []) more h.1))
+    let k = one before a h.0 in (
+      k.0,
+      k.1,
+      with_items (before ++ a ∷ []),
+      k.2,
+      subst (λ (v : _). Follows take is_last (with_items (before ++ a ∷ [])) (map written more) (with_items v))
+          (append_assoc before (a ∷ []) more) (items_follow take is_last Right written with_items one (before ++ a ∷ [])
+          more h.1),
+    )
 
 -- one item more
 pub each_push : {A : Type 0} (Right : List A → A → Type 0) (before xs : List A) (a : A) → EachAfter Right before xs → Right (before ++ xs) a → EachAfter Right before (xs ++ a ∷ [])
@@ -164,7 +186,9 @@ is_end-lines_of (b ∷ bytes) =
 -- ---- lists of items
 
 -- what holds of each item that is right, of the lines of all
-pub each_all : {A : Type 0} (Right : List A → A → Type 0) (written : A → List ℕ) (P : List ℕ → Type 0) → ((before : List A) (a : A) → Right before a → P (written a)) → (before more : List A) → EachAfter Right before more → AllByRecursion P (map written more)
+pub each_all : {A : Type 0} (Right : List A → A → Type 0) (written : A → List ℕ) (P : List ℕ → Type 0)
+    → ((before : List A) (a : A) → Right before a → P (written a)) → (before more : List A)
+    → EachAfter Right before more → AllByRecursion P (map written more)
 unfolding EachAfter
 each_all Right written P one before [] h = tt
 each_all Right written P one before (a ∷ more) h = (one before a h.0, each_all Right written P one (before ++ a ∷ []) more h.1)
@@ -179,7 +203,9 @@ at_takes n (Err c) s e = absurd cc
 
 -- ---- the first fault of a text whose lines come one by one
 
-pub later : {S : Type 0} (take : S → List ℕ → Result S Cause) (is_last : S → Bool) (n : ℕ) (s m : S) (l : List ℕ) (rest : Lines) (refused : Refused) → is_last s ≡ false → is_long l ≡ false → take s l ≡ Ok m → StopsAt take is_last (n + 1) m rest refused → StopsAt take is_last n s (line l rest) refused
+pub later : {S : Type 0} (take : S → List ℕ → Result S Cause) (is_last : S → Bool) (n : ℕ) (s m : S) (l : List ℕ)
+    (rest : Lines) (refused : Refused) → is_last s ≡ false → is_long l ≡ false → take s l ≡ Ok m
+    → StopsAt take is_last (n + 1) m rest refused → StopsAt take is_last n s (line l rest) refused
 unfolding ahead Follows
 later take is_last n s m l rest refused last short e r =
     let counted = r.number in

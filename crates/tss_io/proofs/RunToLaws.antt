@@ -16,24 +16,43 @@ use Rattle.tss_io.proofs.RunLaws.{either, at_cases}
 -- a run over a whole text ends where nothing stands behind
 pub run_is : {S : Type 0} (take : S → List ℕ → Result S Cause) (is_last : S → Bool) (n : ℕ) (s : S) (lines : Lines) → run take is_last n s lines ≡ (run_to take is_last n s lines >>= ended)
 unfolding run run_to
-run_is {S = S} take is_last n s (torn bytes) = elim (is_last s) as (λ b. cond b (cond (is_end (torn bytes)) (Ok s) (Err (refused_at n End))) (Err (refused_at n (cond (is_long bytes) Long End))) ≡ (cond b (Ok (record { state = s; next = n; rest = torn bytes })) (Err (refused_at n (cond (is_long bytes) Long End))) >>= λ (x : Stop S). ended x)) [ true ↦ refl | false ↦ refl ]
-run_is {S = S} take is_last n s (line l rest) = elim (is_last s) as (λ b. cond b (Err (refused_at n End)) (cond (is_long l) (Err (refused_at n Long)) (at n (take s l) >>= λ t. run take is_last (n + 1) t rest)) ≡ (cond b (Ok (record { state = s; next = n; rest = line l rest })) (cond (is_long l) (Err (refused_at n Long)) (at n (take s l) >>= λ t. run_to take is_last (n + 1) t rest)) >>= λ (x : Stop S). ended x)) [
-  | true ↦ refl
-  | false ↦ elim (is_long l) as (λ b. cond b (Err (refused_at n Long)) (at n (take s l) >>= λ t. run take is_last (n + 1) t rest) ≡ (cond b (Err (refused_at n Long)) (at n (take s l) >>= λ t. run_to take is_last (n + 1) t rest) >>= λ (x : Stop S). ended x)) [
-    | true ↦ refl
-    | false ↦ elim (take s l) as (λ r. (at n r >>= λ t. run take is_last (n + 1) t rest) ≡ ((at n r >>= λ t. run_to take is_last (n + 1) t rest) >>= λ (x : Stop S). ended x)) [ Ok t ↦ run_is take is_last (n + 1) t rest | Err c ↦ refl ]
-  ]
-]
+run_is {S = S} take is_last n s (torn bytes) =
+    elim (is_last s) as (λ b. cond b (cond (is_end (torn bytes)) (Ok s) (Err (refused_at n End)))
+    (Err (refused_at n (cond (is_long bytes) Long End)))
+    ≡ (cond b (Ok (record { state = s; next = n; rest = torn bytes }))
+    (Err (refused_at n (cond (is_long bytes) Long End))) >>= λ (x : Stop S). ended x)) [ true ↦ refl | false ↦ refl ]
+run_is {S = S} take is_last n s (line l rest) =
+    elim (is_last s) as (λ b. cond b (Err (refused_at n End))
+    (cond (is_long l) (Err (refused_at n Long)) (at n (take s l) >>= λ t. run take is_last (n + 1) t rest))
+    ≡ (cond b (Ok (record { state = s; next = n; rest = line l rest }))
+    (cond (is_long l) (Err (refused_at n Long)) (at n (take s l) >>= λ t. run_to take is_last (n + 1) t rest)) >>=
+    λ (x : Stop S). ended x)) [
+      | true ↦ refl
+      | false ↦ elim (is_long l) as (λ b. cond b (Err (refused_at n Long))
+          (at n (take s l) >>= λ t. run take is_last (n + 1) t rest)
+          ≡ (cond b (Err (refused_at n Long)) (at n (take s l) >>= λ t. run_to take is_last (n + 1) t rest) >>=
+          λ (x : Stop S). ended x)) [
+            | true ↦ refl
+            | false ↦ elim (take s l) as (λ r. (at n r >>= λ t. run take is_last (n + 1) t rest)
+                ≡ ((at n r >>= λ t. run_to take is_last (n + 1) t rest) >>= λ (x : Stop S). ended x))
+                [ Ok t ↦ run_is take is_last (n + 1) t rest | Err c ↦ refl ]
+          ]
+    ]
 
-pub to_takes : {S : Type 0} (take : S → List ℕ → Result S Cause) (is_last : S → Bool) (n : ℕ) (s : S) (lines : Lines) (x : Stop S) → run_to take is_last n s lines ≡ Ok x → RanTo take is_last n s lines x
+pub to_takes : {S : Type 0} (take : S → List ℕ → Result S Cause) (is_last : S → Bool) (n : ℕ) (s : S) (lines : Lines)
+    (x : Stop S) → run_to take is_last n s lines ≡ Ok x → RanTo take is_last n s lines x
 unfolding run_to ahead Follows
 to_takes {S = S} take is_last n s (torn bytes) x e =
     either (is_last s) _ _ _
-    (λ last e. let same : record { state = s; next = n; rest = torn bytes } ≡ x = cc in subst (RanTo take is_last n s (torn bytes)) same (record { front = []; whole = refl; good = refl; last = last; number = omega arith }))
+    (λ last e. let same : record { state = s; next = n; rest = torn bytes } ≡ x = cc in
+    subst (RanTo take is_last n s (torn bytes)) same
+    (record { front = []; whole = refl; good = refl; last = last; number = omega arith }))
     (λ _ e. absurd cc) e
 to_takes {S = S} take is_last n s (line l rest) x e =
     either (is_last s) _ _ _
-    (λ last e. let same : record { state = s; next = n; rest = line l rest } ≡ x = cc in subst (RanTo take is_last n s (line l rest)) same (record { front = []; whole = refl; good = refl; last = last; number = omega arith }))
+    (λ last e. let same : record { state = s; next = n; rest = line l rest } ≡ x = cc in
+    subst (RanTo take is_last n s (line l rest)) same
+    (record { front = []; whole = refl; good = refl; last = last; number = omega arith }))
     (λ not_last e. either (is_long l) _ _ _ (λ _ e. absurd cc)
     (λ short e. at_cases n (take s l) _ _ (λ c _ e. absurd cc)
     (λ m m_is e.
@@ -41,7 +60,10 @@ to_takes {S = S} take is_last n s (line l rest) x e =
     let counted = r.number in
     record { front = l ∷ r.front; whole = ap (line l) r.whole; good = (not_last, short, m, m_is, r.good); last = r.last; number = omega arith }) e) e) e
 
-pub to_again : {S : Type 0} (take : S → List ℕ → Result S Cause) (is_last : S → Bool) (n m : ℕ) (s : S) (front : List (List ℕ)) (t : S) (rest : Lines) → Follows take is_last s front t → is_last t ≡ true → m ≡ n + length front → run_to take is_last n s (ahead front rest) ≡ Ok (record { state = t; next = m; rest = rest })
+pub to_again : {S : Type 0} (take : S → List ℕ → Result S Cause) (is_last : S → Bool) (n m : ℕ) (s : S)
+    (front : List (List ℕ)) (t : S) (rest : Lines) → Follows take is_last s front t → is_last t ≡ true
+    → m ≡ n + length front → run_to take is_last n s (ahead front rest)
+    ≡ Ok (record { state = t; next = m; rest = rest })
 unfolding run_to ahead Follows
 to_again take is_last n m s [] t (torn bytes) good last e = let k : m ≡ n = omega arith in rw (good, last, k) refl
 to_again take is_last n m s [] t (line l rest) good last e = let k : m ≡ n = omega arith in rw (good, last, k) refl
@@ -53,21 +75,35 @@ to_again take is_last n m s (l ∷ front) t rest good last e = rw (good.0, good.
 to_steps : {S : Type 0} (take : S → List ℕ → Result S Cause) (is_last : S → Bool) (n : ℕ) (s : S) (lines : Lines) → is_last s ≡ false
     → run_to take is_last n s lines ≡ (at n (line_step take s lines) >>= λ (x : S × Lines). run_to take is_last (n + 1) x.0 x.1)
 unfolding run_to line_step line_at
-to_steps {S = S} take is_last n s (torn bytes) last = rw last (elim (is_long bytes) as (λ b. Err (refused_at n (cond b Long End)) ≡ (at n (cond b (Err Long) (Err End) >>= λ (l : List ℕ × Lines). take s l.0 >>= λ t. Ok (t, l.1)) >>= λ (x : S × Lines). run_to take is_last (n + 1) x.0 x.1)) [ true ↦ refl | false ↦ refl ])
+to_steps {S = S} take is_last n s (torn bytes) last =
+    rw last (elim (is_long bytes) as (λ b. Err (refused_at n (cond b Long End))
+    ≡ (at n (cond b (Err Long) (Err End) >>= λ (l : List ℕ × Lines). take s l.0 >>= λ t. Ok (t, l.1)) >>=
+    λ (x : S × Lines). run_to take is_last (n + 1) x.0 x.1)) [ true ↦ refl | false ↦ refl ])
 to_steps {S = S} take is_last n s (line l rest) last =
-    rw last (elim (is_long l) as (λ b. cond b (Err (refused_at n Long)) (at n (take s l) >>= λ t. run_to take is_last (n + 1) t rest) ≡ (at n (cond b (Err Long) (Ok (l, rest)) >>= λ (l : List ℕ × Lines). take s l.0 >>= λ t. Ok (t, l.1)) >>= λ (x : S × Lines). run_to take is_last (n + 1) x.0 x.1)) [
+    rw last (elim (is_long l) as (λ b. cond b (Err (refused_at n Long))
+    (at n (take s l) >>= λ t. run_to take is_last (n + 1) t rest)
+    ≡ (at n (cond b (Err Long) (Ok (l, rest)) >>= λ (l : List ℕ × Lines). take s l.0 >>= λ t. Ok (t, l.1)) >>=
+    λ (x : S × Lines). run_to take is_last (n + 1) x.0 x.1)) [
       | true ↦ refl
-      | false ↦ elim (take s l) as (λ r. (at n r >>= λ t. run_to take is_last (n + 1) t rest) ≡ (at n (r >>= λ t. Ok (t, rest)) >>= λ (x : S × Lines). run_to take is_last (n + 1) x.0 x.1)) [ Ok t ↦ refl | Err c ↦ refl ]
+      | false ↦ elim (take s l) as (λ r. (at n r >>= λ t. run_to take is_last (n + 1) t rest)
+          ≡ (at n (r >>= λ t. Ok (t, rest)) >>= λ (x : S × Lines). run_to take is_last (n + 1) x.0 x.1))
+          [ Ok t ↦ refl | Err c ↦ refl ]
     ])
 
-pub to_on : {S : Type 0} (take : S → List ℕ → Result S Cause) (is_last : S → Bool) (n : ℕ) (s t : S) (lines rest : Lines) (all : Result (Stop S) Refused) → is_last s ≡ false → line_step take s lines ≡ Ok (t, rest) → run_to take is_last n s lines ≡ all → run_to take is_last (n + 1) t rest ≡ all
+pub to_on : {S : Type 0} (take : S → List ℕ → Result S Cause) (is_last : S → Bool) (n : ℕ) (s t : S)
+    (lines rest : Lines) (all : Result (Stop S) Refused) → is_last s ≡ false → line_step take s lines ≡ Ok (t, rest)
+    → run_to take is_last n s lines ≡ all → run_to take is_last (n + 1) t rest ≡ all
 to_on take is_last n s t lines rest all last e h = sym (to_steps take is_last n s lines last ∙ rw e refl) ∙ h
 
-pub to_stop : {S : Type 0} (take : S → List ℕ → Result S Cause) (is_last : S → Bool) (n : ℕ) (s : S) (lines : Lines) (all : Result (Stop S) Refused) (fault : LineFault) → is_last s ≡ false → FailsLine fault (line_step take s lines) → run_to take is_last n s lines ≡ all → FailsAt n fault all
+pub to_stop : {S : Type 0} (take : S → List ℕ → Result S Cause) (is_last : S → Bool) (n : ℕ) (s : S) (lines : Lines)
+    (all : Result (Stop S) Refused) (fault : LineFault) → is_last s ≡ false → FailsLine fault (line_step take s lines)
+    → run_to take is_last n s lines ≡ all → FailsAt n fault all
 to_stop take is_last n s lines all line_faults.NoMemory last e h = tt
 to_stop take is_last n s lines all (line_faults.Refused c) last e h = sym h ∙ to_steps take is_last n s lines last ∙ rw e refl
 
-pub to_end : {S : Type 0} (take : S → List ℕ → Result S Cause) (is_last : S → Bool) (n : ℕ) (s : S) (lines : Lines) (all : Result (Stop S) Refused) → is_last s ≡ true → run_to take is_last n s lines ≡ all → all ≡ Ok (record { state = s; next = n; rest = lines })
+pub to_end : {S : Type 0} (take : S → List ℕ → Result S Cause) (is_last : S → Bool) (n : ℕ) (s : S) (lines : Lines)
+    (all : Result (Stop S) Refused) → is_last s ≡ true → run_to take is_last n s lines ≡ all
+    → all ≡ Ok (record { state = s; next = n; rest = lines })
 unfolding run_to
 to_end take is_last n s (torn bytes) all last h = sym h ∙ rw last refl
 to_end take is_last n s (line l rest) all last h = sym h ∙ rw last refl

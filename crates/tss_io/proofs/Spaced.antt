@@ -75,7 +75,9 @@ pub Lacks-spaced : (words : List (List ℕ)) → AreWords words → Lacks 10 (sp
 unfolding spaced
 Lacks-spaced [] fit = tt
 Lacks-spaced (word ∷ []) fit = Lacks-word 10 word (lit< tt) (is_word-bytes word fit.0)
-Lacks-spaced (word ∷ next ∷ words) fit = Lacks-append 10 word (32 ∷ join_with_byte 32 (next ∷ words)) (Lacks-word 10 word (lit< tt) (is_word-bytes word fit.0)) (refl, Lacks-spaced (next ∷ words) fit.1)
+Lacks-spaced (word ∷ next ∷ words) fit =
+    Lacks-append 10 word (32 ∷ join_with_byte 32 (next ∷ words))
+    (Lacks-word 10 word (lit< tt) (is_word-bytes word fit.0)) (refl, Lacks-spaced (next ∷ words) fit.1)
 
 -- ---- a text of lines
 

@@ -23,7 +23,9 @@ count_on bytes x e = rw (words_of_some bytes x e) (omega arith)
 abbrev onto_all : List ℕ → Result (List ℕ) Cause → Result (List ℕ) Cause
 onto_all so_far r = r >>= λ ns. Ok (so_far ++ ns)
 
-push_goes : (so_far : List ℕ) (r : Result ℕ Cause) (q : Result (List ℕ) Cause) (more : List ℕ) → (r >>= λ n. Ok (so_far ++ n ∷ [])) ≡ Ok more → onto_all so_far (r >>= λ n. q >>= λ ns. Ok (n ∷ ns)) ≡ onto_all more q
+push_goes : (so_far : List ℕ) (r : Result ℕ Cause) (q : Result (List ℕ) Cause) (more : List ℕ)
+    → (r >>= λ n. Ok (so_far ++ n ∷ [])) ≡ Ok more
+    → onto_all so_far (r >>= λ n. q >>= λ ns. Ok (n ∷ ns)) ≡ onto_all more q
 push_goes so_far (Ok n) (Ok ns) more e = let same : so_far ++ n ∷ [] ≡ more = cc in rw (← same, append_assoc so_far (n ∷ []) ns) refl
 push_goes so_far (Ok n) (Err c) more e = refl
 push_goes so_far (Err c) q more e = absurd cc
@@ -37,11 +39,14 @@ pub numbers_on : (least most : ℕ) (so_far more bytes : List ℕ) (x : List ℕ
 unfolding numbers_in
 numbers_on least most so_far more bytes x all e push h = sym (rw (words_of_some bytes x e) (push_goes so_far (number_in least most x.0) (numbers_in least most (words_of x.1)) more push)) ∙ h
 
-pub numbers_fail : (least most : ℕ) (so_far bytes : List ℕ) (x : List ℕ × List ℕ) (all : Result (List ℕ) Cause) (fault : LineFault) → cut_at 32 bytes ≡ Some x → FailsLine fault (pushed_number so_far least most x.0)
+pub numbers_fail : (least most : ℕ) (so_far bytes : List ℕ) (x : List ℕ × List ℕ) (all : Result (List ℕ) Cause)
+    (fault : LineFault) → cut_at 32 bytes ≡ Some x → FailsLine fault (pushed_number so_far least most x.0)
     → (numbers_in least most (words_of bytes) >>= λ ns. Ok (so_far ++ ns)) ≡ all → FailsLine fault all
 unfolding numbers_in
 numbers_fail least most so_far bytes x all line_faults.NoMemory e push h = tt
-numbers_fail least most so_far bytes x all (line_faults.Refused c) e push h = sym h ∙ rw (words_of_some bytes x e) (push_stops so_far (number_in least most x.0) (numbers_in least most (words_of x.1)) c push)
+numbers_fail least most so_far bytes x all (line_faults.Refused c) e push h = sym h
+    ∙ rw (words_of_some bytes x e) (push_stops so_far (number_in least most x.0) (numbers_in least most (words_of x.1))
+    c push)
 
 pub numbers_end : (least most : ℕ) (so_far more bytes : List ℕ) (all : Result (List ℕ) Cause) → cut_at 32 bytes ≡ None → pushed_number so_far least most bytes ≡ Ok more
     → (numbers_in least most (words_of bytes) >>= λ ns. Ok (so_far ++ ns)) ≡ all → all ≡ Ok more

@@ -39,7 +39,10 @@ use Rattle.tss_program.specs.declared.status.Status.{Status}
 use Rattle.tss_program.specs.declared.status.Status.TheVariants.{Complete, WrongWords, Refusal, NotLegal as NotLegalRecord, TooLate as NoTickLeft}
 use Rattle.tss_program.specs.declared.due.Due.{Due}
 use Rattle.tss_words.specs.Subcommands.{is_race, races}
-use Rattle.tss_program.specs.Due.{IsDueFor, answer, refusal, IsMatchText, IsMatchAnswer, IsRaced, raced, no_pace, pace_line, IsJoined, joined, no_mirror, mirrors_line, due_of_join, due_of_rewind, are_within, due_of_lossy, net_of, complete, order_text, arena_shown, IsRecordText, IsAudited, IsAnswer, IsDueOf, due_of_number, usage_due, refusal_due, code, IsVerdictOf, status_of, due_of_verdict}
+use Rattle.tss_program.specs.Due.{IsDueFor, answer, refusal, IsMatchText, IsMatchAnswer, IsRaced, raced, no_pace, pace_line, IsJoined, joined}
+use Rattle.tss_program.specs.Due.{no_mirror, mirrors_line, due_of_join, due_of_rewind, are_within, due_of_lossy, net_of, complete, order_text}
+use Rattle.tss_program.specs.Due.{arena_shown, IsRecordText, IsAudited, IsAnswer, IsDueOf, due_of_number, usage_due, refusal_due, code, IsVerdictOf}
+use Rattle.tss_program.specs.Due.{status_of, due_of_verdict}
 use Rattle.tss_program.specs.Promises.{keeps_logs, PlaysMatch, KeepsPlayed, KeepsPainted, KeepsNet, KeepsLogsOf, SaysIfLegal, IsLegalAnswer}
 use Rattle.tss_program.proofs.Texts.{one-for, some-for, match-exact, record-exact, lossy-exact}
 

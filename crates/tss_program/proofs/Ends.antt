@@ -17,7 +17,8 @@ use Rattle.tss_program.specs.declared.stop.Stop.{Stop}
 use Rattle.tss_program.specs.declared.stop.Stop.TheVariants as stops
 use Rattle.tss_program.specs.declared.due.Due.{Due}
 use Rattle.tss_words.specs.Subcommands.{most_read, most_asked, races}
-use Rattle.tss_program.specs.Due.{IsDueFor, answer, refusal, refusal_due, complete, IsMatchText, IsFaultyMatch, IsMatchAnswer, IsRecordText, IsFaultyRecord, IsLossyText, IsFaultyLossy, IsAudited, due_of_lossy, due_of_number, IsAnswer}
+use Rattle.tss_program.specs.Due.{IsDueFor, answer, refusal, refusal_due, complete, IsMatchText, IsFaultyMatch, IsMatchAnswer, IsRecordText}
+use Rattle.tss_program.specs.Due.{IsFaultyRecord, IsLossyText, IsFaultyLossy, IsAudited, due_of_lossy, due_of_number, IsAnswer}
 use Rattle.tss_program.specs.Run.{Seen, Taken, OfInput, ReadsAtMost, WhyStopped, Answers, Gives, IsPut, IsStopped, IsEnded, Run, asked, Ends, no_memory, unread, answered, IsRun}
 use Rattle.tss_program.proofs.Inputs.{some-input, behind-none, reads-none}
 
@@ -106,7 +107,9 @@ pub given-lossy :
     (ws : List Behaviour) (s : Subcommand) (x : LossyData) (old new : Seen) (due : Due) → s ≡ Lossy
     → OfInput (most_read Lossy) old new (λ input. IsLossyText x input) → due ≡ due_of_lossy x → Answers ws (Some s) old new (Ok due)
 given-lossy ws s x old new due asks read given =
-    answers-as ws s Lossy old new (Ok due) asks (answers-given ws Lossy (λ input. IsLossyText x input) (λ due. due ≡ due_of_lossy x) old new (Ok due) (λ input due text is. answer x text is) read given)
+    answers-as ws s Lossy old new (Ok due) asks
+    (answers-given ws Lossy (λ input. IsLossyText x input) (λ due. due ≡ due_of_lossy x) old new (Ok due)
+    (λ input due text is. answer x text is) read given)
 
 -- of a number, and of nothing
 pub given-number : (ws : List Behaviour) (s : Subcommand) (n : ℕ) (old : Seen) (due : Due) → s ≡ Soak n → due ≡ due_of_number n → Answers ws (Some s) old old (Ok due)

@@ -20,7 +20,8 @@ use Rattle.tss_words.specs.declared.subcommand.MatchTask.TheVariants.{Race, Join
 use Rattle.tss_program.specs.declared.status.Status.{Status}
 use Rattle.tss_program.specs.declared.due.Due.{Due}
 use Rattle.tss_words.specs.Subcommands.{most_asked, races}
-use Rattle.tss_program.specs.Due.{IsDueFor, answer, refusal, IsMatchText, IsRecordText, IsLossyText, IsRaced, IsJoined, joined, no_mirror, arena_shown, due_of_lossy, IsDueOf, IsAnswer, due_of_number, code}
+use Rattle.tss_program.specs.Due.{IsDueFor, answer, refusal, IsMatchText, IsRecordText, IsLossyText, IsRaced, IsJoined, joined, no_mirror}
+use Rattle.tss_program.specs.Due.{arena_shown, due_of_lossy, IsDueOf, IsAnswer, due_of_number, code}
 use Rattle.tss_program.specs.Run.{IsInput, behind, OfInput, ReadsAtMost, IsSilent, IsPut, whole, front, Run, asked, Ends, no_memory, unread, answered, IsRun}
 use Rattle.tss_program.specs.Promises.{keeps_logs, PlaysMatch, KeepsLogsOf, KeepsAMatch, KeepsSome, KeepsNet, SoaksWhole, SaysIfLegal, AuditsARecord, EndsWith, IsComplete}
 use Rattle.tss_program.specs.Promises as promises
@@ -87,7 +88,8 @@ run-whole r run no_read no_write = by-end ((r.status ≡ 1) ⊎ IsComplete r) r 
 pub run-at_most_seven : (r : Run) → IsRun r → r.status ≤ 7
 run-at_most_seven r run = by-end (r.status ≤ 7) r run.ends
     (λ is asks steady silent. omega arith) (λ is asks rose silent. omega arith) (λ due has is rose kept. omega arith)
-    (λ due has is steady kept gains. (let most = due-status r.watchers (λ s. code s ≤ 7) (asked r) has.input due has.holds (λ none. lit≤ tt) (lit≤ tt) (lit≤ tt) (λ audits. lit≤ tt) (λ joins. lit≤ tt) in omega arith))
+    (λ due has is steady kept gains. (let most = due-status r.watchers (λ s. code s ≤ 7) (asked r) has.input due
+    has.holds (λ none. lit≤ tt) (lit≤ tt) (lit≤ tt) (λ audits. lit≤ tt) (λ joins. lit≤ tt) in omega arith))
 
 pub run-wrong_words : (r : Run) → IsRun r → asked r ≡ None → (r.status ≡ 2) ⊎ (r.status ≡ 4)
 run-wrong_words r run none = by-end ((r.status ≡ 2) ⊎ (r.status ≡ 4)) r run.ends
@@ -344,7 +346,8 @@ pub run-joins-late :
     (r : Run) (input : List ℕ) (m : MatchData) (number lines : ℕ) → IsRun r → asked r ≡ Some (OfMatch (Join number lines)) → r.source_old.left ≡ Some input → IsMatchText m input
     → r.status ≡ 7 → IsTooLate (opening_world m.layout) m number lines
 run-joins-late r input m number lines run asks told text seven = by-due (IsTooLate (opening_world m.layout) m number lines) r 7 run refl refl refl seven
-    (λ due has is kept gains. join-due (IsTooLate (opening_world m.layout) m number lines) r input m number lines asks told text due has (by due is) (λ five. absurd (not 5 7 (code due.status) refl five is)))
+    (λ due has is kept gains. join-due (IsTooLate (opening_world m.layout) m number lines) r input m number lines asks
+    told text due has (by due is) (λ five. absurd (not 5 7 (code due.status) refl five is)))
   where
     by : (due : Due) → code due.status ≡ 7 → IsJoined number lines m due → IsTooLate (opening_world m.layout) m number lines
     by due is (joined (Told t) there tells same) = absurd (not 0 7 (code due.status) refl (ap (λ (d : Due). code d.status) same) is)

@@ -69,7 +69,8 @@ ten_digits n small = length-decimal-le 10 n (lit< tt) (omega (arith, small)) (om
 
 arrive_length : (from number : ℕ) → from < 10 → number < 1000000 → length (spaced (codes "arrive" ∷ decimal from ∷ decimal number ∷ [])) ≤ 15
 arrive_length from number one six =
-    let words : length (spaced (codes "arrive" ∷ decimal from ∷ decimal number ∷ [])) ≡ 6 + 1 + length (decimal from) + 1 + length (decimal number) = three_words (codes "arrive") (decimal from) (decimal number) in
+    let words : length (spaced (codes "arrive" ∷ decimal from ∷ decimal number ∷ [])) ≡ 6 + 1 + length (decimal from)
+    + 1 + length (decimal number) = three_words (codes "arrive") (decimal from) (decimal number) in
     omega (arith, words, one_digit from one, six_digits number six)
 
 step_length : (copy : ℕ) → copy < 10 → length (spaced (codes "step" ∷ decimal copy ∷ [])) ≤ 15
@@ -103,7 +104,9 @@ events_short opening m is [] named = tt
 events_short opening m is (e ∷ events) named = (event_length opening m is e named.0, events_short opening m is events named.1)
 
 -- a log's first line, and at most 131,072 lines of events
-log_text_length : {W : Type 0} (opening : W) (m : MatchData) → IsMatch m → (mirror : ℕ) (events : List Event) → mirror < 10 → length events ≤ MOST_LOGGED_EVENTS → AllByRecursion (NamesWhatIsThere m.commands (start opening m)) events
+log_text_length : {W : Type 0} (opening : W) (m : MatchData) → IsMatch m → (mirror : ℕ) (events : List Event)
+    → mirror < 10 → length events ≤ MOST_LOGGED_EVENTS
+    → AllByRecursion (NamesWhatIsThere m.commands (start opening m)) events
     → length (log_text mirror (length events) events) ≤ 2097168
 log_text_length opening m is mirror events one few named =
     let long = lines_length 15 (log_line mirror (length events) ∷ map event_line events) (log_length mirror (length events) one (omega (arith, few)), events_short opening m is events named) in
@@ -111,17 +114,33 @@ log_text_length opening m is mirror events one few named =
 
 -- ---- worlds
 
-block_length : (m : MatchData) (number : ℕ) (opening : World) (copy ticks : ℕ) (end : World) (run : List Item) → number < 10 → copy < 10 → ticks < 2 ^ 32 → beats run ≡ ticks → world_of arena_rules opening run ≡ end
+block_length : (m : MatchData) (number : ℕ) (opening : World) (copy ticks : ℕ) (end : World) (run : List Item)
+    → number < 10 → copy < 10 → ticks < 2 ^ 32 → beats run ≡ ticks → world_of arena_rules opening run ≡ end
     → IsShownIn 128 (block_of end m.names) → length (copy_block (arena_shown m) number opening copy run) ≤ 15509
 block_length m number opening copy ticks end run mirror_one copy_one small ended world shown =
     let late : beats run < 2 ^ 32 = subst (λ (n : ℕ). n < 2 ^ 32) (sym ended) small in
     let lines = shown_length (block_of (world_of arena_rules opening run) m.names) (subst (λ (w : World). IsShownIn 128 (block_of w m.names)) (sym world) shown) in
     let words : List (List ℕ) = codes "world" ∷ decimal number ∷ decimal copy ∷ decimal (beats run) ∷ [] in
-    let head : length (spaced words) ≡ 5 + 1 + length (decimal number) + 1 + length (decimal copy) + 1 + length (decimal (beats run)) = four_words (codes "world") (decimal number) (decimal copy) (decimal (beats run)) in
-    omega (arith, lines, head, one_digit number mirror_one, one_digit copy copy_one, ten_digits (beats run) late, length-append (as_line (spaced words)) (block_of (world_of arena_rules opening run) m.names), length-append (spaced words) (10 ∷ []))
+    let head : length (spaced words) ≡ 5 + 1 + length (decimal number) + 1 + length (decimal copy) + 1
+    + length (decimal (beats run)) = four_words (codes "world") (decimal number) (decimal copy)
+    (decimal (beats run)) in
+    omega (
+      arith,
+      lines,
+      head,
+      one_digit number mirror_one,
+      one_digit copy copy_one,
+      ten_digits (beats run) late,
+      length-append (as_line (spaced words)) (block_of (world_of arena_rules opening run) m.names),
+      length-append (spaced words) (10 ∷ []),
+    )
 
-blocks_length : (m : MatchData) (number : ℕ) (opening : World) (ticks : ℕ) (end : World) (copy : ℕ) (runs : List (List Item)) → number < 10 → copy + length runs ≤ 8 → ticks < 2 ^ 32 → IsShownIn 128 (block_of end m.names)
-    → AllByRecursion (λ run. beats run ≡ ticks) runs → AllByRecursion (λ run. world_of arena_rules opening run ≡ end) runs → length (blocks_text (blocks_from (arena_shown m) number opening copy runs)) ≤ length runs * 15509
+blocks_length : (m : MatchData) (number : ℕ) (opening : World) (ticks : ℕ) (end : World) (copy : ℕ)
+    (runs : List (List Item)) → number < 10 → copy + length runs ≤ 8 → ticks < 2 ^ 32
+    → IsShownIn 128 (block_of end m.names)
+    → AllByRecursion (λ run. beats run ≡ ticks) runs
+    → AllByRecursion (λ run. world_of arena_rules opening run ≡ end) runs
+    → length (blocks_text (blocks_from (arena_shown m) number opening copy runs)) ≤ length runs * 15509
 unfolding blocks_text blocks_from
 blocks_length m number opening ticks end copy [] one few small shown ended worlds = omega arith
 blocks_length m number opening ticks end copy (run ∷ runs) one few small shown ended worlds =
@@ -131,7 +150,9 @@ blocks_length m number opening ticks end copy (run ∷ runs) one few small shown
 
 -- ---- mirrors
 
-worlds_length : (m : MatchData) (number : ℕ) (t : MirrorState World) → number < 10 → IsMatch m → EndsAtFold arena_rules (course_of m) (opening_world m.layout) t → length (blocks_text (blocks_from (arena_shown m) number t.opening 0 t.runs)) ≤ 124072
+worlds_length : (m : MatchData) (number : ℕ) (t : MirrorState World) → number < 10 → IsMatch m
+    → EndsAtFold arena_rules (course_of m) (opening_world m.layout) t
+    → length (blocks_text (blocks_from (arena_shown m) number t.opening 0 t.runs)) ≤ 124072
 worlds_length m number t one is ends =
     let opening = opening_world m.layout in
     let small : m.length < 2 ^ 32 = omega (arith, is.ticks.1) in
@@ -150,18 +171,29 @@ mirror_length m number t one is ends =
     let worlds = worlds_length m number t one is ends in
     omega (arith, log, worlds, length-append (log_text number (length t.history) t.history) (blocks_text (blocks_from (arena_shown m) number t.opening 0 t.runs)))
 
-mirrors_length : (m : MatchData) (number : ℕ) (mirrors : List (MirrorState World)) → number + length mirrors ≤ 8 → IsMatch m → AllByRecursion (EndsAtFold arena_rules (course_of m) (opening_world m.layout)) mirrors
+mirrors_length : (m : MatchData) (number : ℕ) (mirrors : List (MirrorState World)) → number + length mirrors ≤ 8
+    → IsMatch m → AllByRecursion (EndsAtFold arena_rules (course_of m) (opening_world m.layout)) mirrors
     → length (record_mirrors_text (logs_from number mirrors) (worlds_from (arena_shown m) number mirrors)) ≤ length mirrors * 2221240
 unfolding record_mirrors_text logs_from worlds_from
 mirrors_length m number [] few is each = omega arith
 mirrors_length m number (t ∷ mirrors) few is each =
     let first = mirror_length m number t (omega (arith, few)) is each.0 in
     let rest = mirrors_length m (number + 1) mirrors (omega (arith, few)) is each.1 in
-    omega (arith, first, rest, length-append (log_text number (length t.history) t.history ++ blocks_text (blocks_from (arena_shown m) number t.opening 0 t.runs)) (record_mirrors_text (logs_from (number + 1) mirrors) (worlds_from (arena_shown m) (number + 1) mirrors)))
+    omega (
+      arith,
+      first,
+      rest,
+      length-append
+          (log_text number (length t.history) t.history
+          ++ blocks_text (blocks_from (arena_shown m) number t.opening 0 t.runs))
+          (record_mirrors_text (logs_from (number + 1) mirrors) (worlds_from (arena_shown m) (number + 1) mirrors)),
+    )
 
 -- ---- the record
 
-record_length : (m : MatchData) (mirrors : List (MirrorState World)) → IsMatch m → AreRaced arena_rules m (opening_world m.layout) mirrors → length (record_text (record_of (arena_shown m) m mirrors)) ≤ LONGEST_RECORD_TEXT
+record_length : (m : MatchData) (mirrors : List (MirrorState World)) → IsMatch m
+    → AreRaced arena_rules m (opening_world m.layout) mirrors
+    → length (record_text (record_of (arena_shown m) m mirrors)) ≤ LONGEST_RECORD_TEXT
 record_length m mirrors is raced =
     let count : length mirrors ≤ 8 = omega (arith, raced.count, is.mirrors.1) in
     let all = mirrors_length m 0 mirrors (omega (arith, count)) is raced.each in
@@ -169,7 +201,17 @@ record_length m mirrors is raced =
     let mirrors_text = record_mirrors_text (logs_from 0 mirrors) (worlds_from (arena_shown m) 0 mirrors) in
     let head : length (as_line record_head) ≡ 13 = refl in
     let last : length (as_line last_line) ≡ 5 = refl in
-    omega (arith, all, count, game, head, last, length-append (as_line record_head) (match_text m ++ (mirrors_text ++ as_line last_line)), length-append (match_text m) (mirrors_text ++ as_line last_line), length-append mirrors_text (as_line last_line))
+    omega (
+      arith,
+      all,
+      count,
+      game,
+      head,
+      last,
+      length-append (as_line record_head) (match_text m ++ (mirrors_text ++ as_line last_line)),
+      length-append (match_text m) (mirrors_text ++ as_line last_line),
+      length-append mirrors_text (as_line last_line),
+    )
 
 pub fits_text : (m : MatchData) (mirrors : List (MirrorState World)) → IsMatch m → AreRaced arena_rules m (opening_world m.layout) mirrors → FitsText (arena_shown m) (opening_world m.layout) m mirrors
 fits_text m mirrors is raced = record { lines = shown_lines 128 _ (end_shown m is); short = record_length m mirrors is raced }

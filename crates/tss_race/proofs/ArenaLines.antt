@@ -1,5 +1,6 @@
 -- A world of the arena is shown by lines that may stand in a block, and by few of them.
-use Rattle.std.proofs.Common.{◌≡◌, ℕ, zero, suc, ◌+◌, ◌*◌, ◌^◌, ◌<◌, ◌≤◌, ℤ, pos, negsuc, neg_ℤ, ◌≤ℤ◌, Bool, true, List, [], ◌∷◌, ◌++◌, flat_map, length, Ok, Err, refl, sym, ap, ◌∙◌, arith, lit<, lit≤, append-nil, length-append}
+use Rattle.std.proofs.Common.{◌≡◌, ℕ, zero, suc, ◌+◌, ◌*◌, ◌^◌, ◌<◌, ◌≤◌, ℤ, pos, negsuc, neg_ℤ, ◌≤ℤ◌, Bool, true, List, [], ◌∷◌, ◌++◌, flat_map}
+use Rattle.std.proofs.Common.{length, Ok, Err, refl, sym, ap, ◌∙◌, arith, lit<, lit≤, append-nil, length-append}
 use Rattle.std.specs.Prelude.{if◌then◌else◌, codes, decimal, nat_le, nat_lt, not, ◌&&◌}
 use Rattle.std.specs.Fmt.{signed_decimal}
 use Rattle.std.specs.List.{All, AllByRecursion, list_all, join_with_byte}
@@ -55,7 +56,8 @@ spaced_length (word ∷ []) h = omega (arith, h.0.short)
 spaced_length (word ∷ next ∷ words) h = omega (arith, h.0.short, spaced_length (next ∷ words) h.1, length-append word (32 ∷ join_with_byte 32 (next ∷ words)))
 
 -- such a line may stand in a block, where its first word opens one
-block_line : (keyword next : List ℕ) (words : List (List ℕ)) → is_shown keyword ≡ true → AllByRecursion IsShort (keyword ∷ next ∷ words) → length words ≤ 6 → IsBlockLine (spaced (keyword ∷ next ∷ words))
+block_line : (keyword next : List ℕ) (words : List (List ℕ)) → is_shown keyword ≡ true
+    → AllByRecursion IsShort (keyword ∷ next ∷ words) → length words ≤ 6 → IsBlockLine (spaced (keyword ∷ next ∷ words))
 unfolding is_block_line front_at
 block_line keyword next words opens short few =
     let all = keyword ∷ next ∷ words in
@@ -206,13 +208,32 @@ near grid x y is free =
 state_fits : (grid : Grid) (name score : List ℕ) (state : State) → IsGrid grid → IsShort name → IsShort score → IsState grid state → IsBlockLine (spaced (state_words name score state))
 state_fits grid name score (Live b) is named scored body =
     let cell = near grid b.spot.x b.spot.y is body.free in
-    block_line (codes "live") name (decimal b.spot.x ∷ decimal b.spot.y ∷ face_word b.spot.face ∷ decimal b.health ∷ decimal b.ammo ∷ score ∷ []) refl
-    (live_short, (named, (number_short b.spot.x (omega (arith, cell.column)), (number_short b.spot.y (omega (arith, cell.row)), (face_short b.spot.face, (number_short b.health (omega (arith, body.health.1)), (number_short b.ammo (omega (arith, body.ammo)), (scored, tt))))))))
+    block_line (codes "live") name (decimal b.spot.x ∷ decimal b.spot.y ∷ face_word b.spot.face ∷ decimal b.health ∷ decimal b.ammo ∷ score ∷ []) refl (
+      live_short,
+      (
+        named,
+        (
+          number_short b.spot.x (omega (arith, cell.column)),
+          (
+            number_short b.spot.y (omega (arith, cell.row)),
+            (
+              face_short b.spot.face,
+              (
+                number_short b.health (omega (arith, body.health.1)),
+                (number_short b.ammo (omega (arith, body.ammo)), (scored, tt)),
+              ),
+            ),
+          ),
+        ),
+      ),
+    )
     (lit≤ tt)
 state_fits grid name score (Dead wait) is named scored short =
     block_line (codes "dead") name (decimal wait ∷ score ∷ []) refl (dead_short, (named, (number_short wait (omega (arith, short)), (scored, tt)))) (lit≤ tt)
 
-players_shown : (grid : Grid) (names : List (List ℕ)) (number : ℕ) (players : List Player) → IsGrid grid → AllByRecursion (λ n. is_name n ≡ true) names → All (IsPlayer grid) players → IsShownIn (length players) (state_lines names number players)
+players_shown : (grid : Grid) (names : List (List ℕ)) (number : ℕ) (players : List Player) → IsGrid grid
+    → AllByRecursion (λ n. is_name n ≡ true) names → All (IsPlayer grid) players
+    → IsShownIn (length players) (state_lines names number players)
 unfolding state_lines state_line
 players_shown grid names number [] is named each = no_line
 players_shown grid names number (p ∷ players) is named each =
@@ -221,7 +242,9 @@ players_shown grid names number (p ∷ players) is named each =
     (state_fits grid (name_of names number) (signed_decimal p.score) p.state is (named_short names number named) (score_short p.score possible.score.0 possible.score.1) possible.state)
     (players_shown grid names (number + 1) players is named (All-tail (IsPlayer grid) p players each))
 
-shots_shown : (grid : Grid) (names : List (List ℕ)) (count : ℕ) (shots : List Shot) → IsGrid grid → AllByRecursion (λ n. is_name n ≡ true) names → All (IsShot grid count) shots → IsShownIn (length shots) (flat_map (shot_line names) shots)
+shots_shown : (grid : Grid) (names : List (List ℕ)) (count : ℕ) (shots : List Shot) → IsGrid grid
+    → AllByRecursion (λ n. is_name n ≡ true) names → All (IsShot grid count) shots
+    → IsShownIn (length shots) (flat_map (shot_line names) shots)
 unfolding shot_line
 shots_shown grid names count [] is named each = no_line
 shots_shown grid names count (s ∷ shots) is named each =
@@ -229,8 +252,19 @@ shots_shown grid names count (s ∷ shots) is named each =
     let cell = near grid s.spot.x s.spot.y is possible.free in
     let behind : List (List ℕ) = decimal s.spot.x ∷ decimal s.spot.y ∷ face_word s.spot.face ∷ decimal s.left ∷ [] in
     line_more (length shots) (spaced (codes "shot" ∷ name_of names s.owner ∷ behind)) (flat_map (shot_line names) shots)
-    (block_line (codes "shot") (name_of names s.owner) behind refl
-    (shot_short, (named_short names s.owner named, (number_short s.spot.x (omega (arith, cell.column)), (number_short s.spot.y (omega (arith, cell.row)), (face_short s.spot.face, (number_short s.left (omega (arith, possible.left.1)), tt))))))
+    (block_line (codes "shot") (name_of names s.owner) behind refl (
+      shot_short,
+      (
+        named_short names s.owner named,
+        (
+          number_short s.spot.x (omega (arith, cell.column)),
+          (
+            number_short s.spot.y (omega (arith, cell.row)),
+            (face_short s.spot.face, (number_short s.left (omega (arith, possible.left.1)), tt)),
+          ),
+        ),
+      ),
+    )
     (lit≤ tt))
     (shots_shown grid names count shots is named (All-tail (IsShot grid count) s shots each))
 
@@ -242,8 +276,16 @@ items_shown grid (p ∷ pickups) is each =
     let cell = near grid p.place.x p.place.y is possible.free in
     let behind : List (List ℕ) = decimal p.place.y ∷ kind_word p.place.kind ∷ decimal p.wait ∷ [] in
     line_more (length pickups) (spaced (codes "item" ∷ decimal p.place.x ∷ behind)) (flat_map item_line pickups)
-    (block_line (codes "item") (decimal p.place.x) behind refl
-    (item_short, (number_short p.place.x (omega (arith, cell.column)), (number_short p.place.y (omega (arith, cell.row)), (kind_short p.place.kind, (number_short p.wait (omega (arith, possible.wait)), tt)))))
+    (block_line (codes "item") (decimal p.place.x) behind refl (
+      item_short,
+      (
+        number_short p.place.x (omega (arith, cell.column)),
+        (
+          number_short p.place.y (omega (arith, cell.row)),
+          (kind_short p.place.kind, (number_short p.wait (omega (arith, possible.wait)), tt)),
+        ),
+      ),
+    )
     (lit≤ tt))
     (items_shown grid pickups is (All-tail (IsPickup grid) p pickups each))
 
@@ -256,9 +298,12 @@ world_shown world names sound named =
     let items = items_shown world.grid world.pickups sound.grid sound.pickups.each in
     let few = sound.players.count in
     let rest = both_texts (length world.shots) (length world.pickups) (flat_map (shot_line names) world.shots) (flat_map item_line world.pickups) shots items in
-    more_room (length world.players + (length world.shots + length world.pickups)) 128 (state_lines names 0 world.players ++ (flat_map (shot_line names) world.shots ++ flat_map item_line world.pickups))
+    more_room (length world.players + (length world.shots + length world.pickups)) 128
+    (state_lines names 0 world.players ++ (flat_map (shot_line names) world.shots
+    ++ flat_map item_line world.pickups))
     (omega (arith, few, sound.shots.count, sound.pickups.count))
-    (both_texts (length world.players) (length world.shots + length world.pickups) (state_lines names 0 world.players) (flat_map (shot_line names) world.shots ++ flat_map item_line world.pickups) players rest)
+    (both_texts (length world.players) (length world.shots + length world.pickups) (state_lines names 0 world.players)
+    (flat_map (shot_line names) world.shots ++ flat_map item_line world.pickups) players rest)
 
 pub shown_lines : (most : ℕ) (text : List ℕ) → IsShownIn most text → AreBlockLines text
 shown_lines most text h = (h.lines, h.each, h.whole)

@@ -24,7 +24,8 @@ use Rattle.race_hall.specs.Raced.{AreRaced, course_of}
 use Rattle.tss_race.specs.Record.{blocks_from, worlds_from, record_of}
 
 -- the blocks of the copies behind these are stated as they are
-blocks_stated : {W : Type 0} (show : Showing W) (number : ℕ) (s : MirrorState W) (opening : W) (front behind : List (List Item)) (copy : ℕ) → s.opening ≡ opening → s.runs ≡ front ++ behind → copy ≡ length front
+blocks_stated : {W : Type 0} (show : Showing W) (number : ℕ) (s : MirrorState W) (opening : W)
+    (front behind : List (List Item)) (copy : ℕ) → s.opening ≡ opening → s.runs ≡ front ++ behind → copy ≡ length front
     → EachNumbered (IsStated show number s) copy (blocks_from show number opening copy behind)
 unfolding EachNumbered blocks_from
 blocks_stated show number s opening front [] copy same runs count = tt
@@ -35,26 +36,33 @@ blocks_stated show number s opening front (run ∷ behind) copy same runs count 
     )
 
 -- a mirror that ends so is right
-pub mirror_right : {W : Type 0} (show : Showing W) (opening : W) (m : MatchData) (number : ℕ) (t : MirrorState W) → EndsAtFold show.rules (course_of m) opening t → IsRight show opening m number t.history (blocks_from show number t.opening 0 t.runs)
+pub mirror_right : {W : Type 0} (show : Showing W) (opening : W) (m : MatchData) (number : ℕ) (t : MirrorState W)
+    → EndsAtFold show.rules (course_of m) opening t
+    → IsRight show opening m number t.history (blocks_from show number t.opening 0 t.runs)
 mirror_right {W} show opening m number t ends =
     let begun : first_state t ≡ start opening m = λ i. opening_state (ends.same_opening i) (ends.same_length i) (ends.same_plans i) 0 0 in
     let reached : without_room t ≡ without_room (after (start opening m) t.history) = from_history_reached t ends.from_history ∙ ap (λ (s : MirrorState W). without_room (after s t.history)) begun in
     let legal : IsLegal m.commands (first_state t) t.history = legal-same m.commands (opening_of t) (first_state t) t.history refl ends.legal in
     record {
       legal = subst (λ (s : MirrorState W). IsLegal m.commands s t.history) begun legal;
-      worlds = blocks_stated show number (after (start opening m) t.history) t.opening [] t.runs 0 (ap (λ (s : MirrorState W). s.opening) (sym reached)) (ap (λ (s : MirrorState W). s.runs) (sym reached)) refl;
+      worlds = blocks_stated show number (after (start opening m) t.history) t.opening [] t.runs 0
+          (ap (λ (s : MirrorState W). s.opening) (sym reached)) (ap (λ (s : MirrorState W). s.runs) (sym reached)) refl;
     }
 
-all_right : {W : Type 0} (show : Showing W) (opening : W) (m : MatchData) (n : ℕ) (mirrors : List (MirrorState W)) → AllByRecursion (EndsAtFold show.rules (course_of m) opening) mirrors → AllRight show opening m n (logs_from n mirrors) (worlds_from show n mirrors)
+all_right : {W : Type 0} (show : Showing W) (opening : W) (m : MatchData) (n : ℕ) (mirrors : List (MirrorState W))
+    → AllByRecursion (EndsAtFold show.rules (course_of m) opening) mirrors
+    → AllRight show opening m n (logs_from n mirrors) (worlds_from show n mirrors)
 unfolding AllRight logs_from worlds_from
 all_right show opening m n [] each = tt
 all_right show opening m n (t ∷ mirrors) each = (mirror_right show opening m n t each.0, all_right show opening m (n + 1) mirrors each.1)
 
-pub record_legal : {W : Type 0} (show : Showing W) (opening : W) (m : MatchData) (mirrors : List (MirrorState W)) → AreRaced show.rules m opening mirrors → IsLegalRecord show opening (record_of show m mirrors)
+pub record_legal : {W : Type 0} (show : Showing W) (opening : W) (m : MatchData) (mirrors : List (MirrorState W))
+    → AreRaced show.rules m opening mirrors → IsLegalRecord show opening (record_of show m mirrors)
 record_legal show opening m mirrors raced = all_right show opening m 0 mirrors raced.each
 
 -- a verdict on the record says so
-pub record_verdict : {W : Type 0} (show : Showing W) (opening : W) (m : MatchData) (mirrors : List (MirrorState W)) (v : Verdict) → AreRaced show.rules m opening mirrors → Tells show opening (record_of show m mirrors) v
+pub record_verdict : {W : Type 0} (show : Showing W) (opening : W) (m : MatchData) (mirrors : List (MirrorState W))
+    (v : Verdict) → AreRaced show.rules m opening mirrors → Tells show opening (record_of show m mirrors) v
     → v ≡ Legal (event_count (logs_from 0 mirrors))
 record_verdict show opening m mirrors v raced tells =
     one_verdict show opening (record_of show m mirrors) v (Legal (event_count (logs_from 0 mirrors))) tells (record_legal show opening m mirrors raced, refl)

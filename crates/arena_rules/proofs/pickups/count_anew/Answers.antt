@@ -5,4 +5,6 @@ use Rattle.arena_rules.specs.Kept.{counted_anew}
 use Rattle.arena_rules.proofs.pickups.count_anew.Goals as goal
 
 pub loop-pickup-preserved : goal.loop-pickup-preserved
-loop-pickup-preserved c = rw c.counted_anew.ensures (map_over_more (counted_anew c.args.beats) c.args.pickups.now c.loop-pickup.pickups c.loop-pickup.pickup-index _ c.loop-pickup-test.true c.loop-pickup.invariant (grind (arith, elements)))
+loop-pickup-preserved c = rw c.counted_anew.ensures
+    (map_over_more (counted_anew c.args.beats) c.args.pickups.now c.loop-pickup.pickups c.loop-pickup.pickup-index _
+    c.loop-pickup-test.true c.loop-pickup.invariant (grind (arith, elements)))

@@ -17,15 +17,32 @@ use Rattle.arena_rules.proofs.possible.worlds.Goals as goal
 pub returns : goal.returns
 unfolding computing IsDistinct
 returns c = record {
-  least = IsWorld-one (live ann_home (at 4 1 N) 1 0 (neg_ℤ (pos 1000000))) (record { home = refl; score = (omega arith, omega arith); state = record { free = refl; health = (lit≤ tt, lit≤ tt); ammo = lit≤ tt } });
-  most = IsWorld-one (live ann_home (at 4 1 N) 3 9 (pos 1000000)) (record { home = refl; score = (omega arith, omega arith); state = record { free = refl; health = (lit≤ tt, lit≤ tt); ammo = lit≤ tt } });
+  least = IsWorld-one (live ann_home (at 4 1 N) 1 0 (neg_ℤ (pos 1000000)))
+      (record {
+        home = refl;
+        score = (omega arith, omega arith);
+        state = record { free = refl; health = (lit≤ tt, lit≤ tt); ammo = lit≤ tt };
+      });
+  most = IsWorld-one (live ann_home (at 4 1 N) 3 9 (pos 1000000))
+      (record {
+        home = refl;
+        score = (omega arith, omega arith);
+        state = record { free = refl; health = (lit≤ tt, lit≤ tt); ammo = lit≤ tt };
+      });
   dead = record {
     grid = IsGrid-yard;
     players = record {
       count = lit≤ tt;
-      each = All-cons (IsPlayer yard) (dead ann_home 10 (pos 0)) (dead ann_home 0 (pos 0) ∷ live bob_home ann_home 3 5 (pos 0) ∷ []) (record { home = refl; score = (omega arith, omega arith); state = lit≤ tt })
+      each = All-cons (IsPlayer yard) (dead ann_home 10 (pos 0))
+          (dead ann_home 0 (pos 0) ∷ live bob_home ann_home 3 5 (pos 0) ∷ [])
+          (record { home = refl; score = (omega arith, omega arith); state = lit≤ tt })
           (All-cons (IsPlayer yard) (dead ann_home 0 (pos 0)) (live bob_home ann_home 3 5 (pos 0) ∷ []) (record { home = refl; score = (omega arith, omega arith); state = lit≤ tt })
-          (All-cons (IsPlayer yard) (live bob_home ann_home 3 5 (pos 0)) [] (record { home = refl; score = (omega arith, omega arith); state = record { free = refl; health = (lit≤ tt, lit≤ tt); ammo = lit≤ tt } })
+          (All-cons (IsPlayer yard) (live bob_home ann_home 3 5 (pos 0)) []
+          (record {
+            home = refl;
+            score = (omega arith, omega arith);
+            state = record { free = refl; health = (lit≤ tt, lit≤ tt); ammo = lit≤ tt };
+          })
           (All-nil (IsPlayer yard))));
       apart = ((refl, (refl, tt)), ((refl, tt), (tt, tt)));
     };
@@ -37,7 +54,13 @@ returns c = record {
     grid = IsGrid-lane;
     players = record {
       count = lit≤ tt;
-      each = All-map (IsPlayer lane) (λ x. live (at x 0 N) (at x 0 N) 3 5 (pos 0)) (range_with_len 0 32) (All-from_test (λ x. is_open lane x 0) (λ x. IsPlayer lane (live (at x 0 N) (at x 0 N) 3 5 (pos 0))) (range_with_len 0 32) (λ x free. record { home = free; score = (omega arith, omega arith); state = record { free = free; health = (lit≤ tt, lit≤ tt); ammo = lit≤ tt } }) refl);
+      each = All-map (IsPlayer lane) (λ x. live (at x 0 N) (at x 0 N) 3 5 (pos 0)) (range_with_len 0 32)
+          (All-from_test (λ x. is_open lane x 0) (λ x. IsPlayer lane (live (at x 0 N) (at x 0 N) 3 5 (pos 0)))
+          (range_with_len 0 32) (λ x free. record {
+            home = free;
+            score = (omega arith, omega arith);
+            state = record { free = free; health = (lit≤ tt, lit≤ tt); ammo = lit≤ tt };
+          }) refl);
       apart = IsDistinct-from_test same_place (map place (crowd 32).players) refl;
     };
     shots = no_shots lane 32;
@@ -46,10 +69,19 @@ returns c = record {
   };
   shots = record {
     grid = IsGrid-yard;
-    players = record { count = lit≤ tt; each = All-cons (IsPlayer yard) (dead ann_home 1 (pos 0)) [] (record { home = refl; score = (omega arith, omega arith); state = lit≤ tt }) (All-nil (IsPlayer yard)); apart = (tt, tt) };
+    players = record {
+      count = lit≤ tt;
+      each = All-cons (IsPlayer yard) (dead ann_home 1 (pos 0)) []
+          (record { home = refl; score = (omega arith, omega arith); state = lit≤ tt }) (All-nil (IsPlayer yard));
+      apart =
+          (tt, tt);
+    };
     shots = record {
       count = lit≤ tt;
-      each = All-cons (IsShot yard 1) (shot 0 (at 2 2 N) 1) (replicate 63 (shot 0 (at 2 2 N) 8)) (record { owner = lit< tt; free = refl; left = (lit≤ tt, lit≤ tt) }) (All-replicate (IsShot yard 1) 63 (shot 0 (at 2 2 N) 8) (record { owner = lit< tt; free = refl; left = (lit≤ tt, lit≤ tt) }));
+      each = All-cons (IsShot yard 1) (shot 0 (at 2 2 N) 1) (replicate 63 (shot 0 (at 2 2 N) 8))
+          (record { owner = lit< tt; free = refl; left = (lit≤ tt, lit≤ tt) })
+          (All-replicate (IsShot yard 1) 63 (shot 0 (at 2 2 N) 8)
+          (record { owner = lit< tt; free = refl; left = (lit≤ tt, lit≤ tt) }));
     };
     pickups = no_pickups yard;
     time = lit< tt;
@@ -60,7 +92,9 @@ returns c = record {
     shots = no_shots lane 0;
     pickups = record {
       count = lit≤ tt;
-      each = All-map (IsPickup lane) (λ x. item x 0 Gold 20) (range_with_len 0 32) (All-from_test (λ x. is_open lane x 0) (λ x. IsPickup lane (item x 0 Gold 20)) (range_with_len 0 32) (λ x free. record { free = free; wait = lit≤ tt }) refl);
+      each = All-map (IsPickup lane) (λ x. item x 0 Gold 20) (range_with_len 0 32)
+          (All-from_test (λ x. is_open lane x 0) (λ x. IsPickup lane (item x 0 Gold 20)) (range_with_len 0 32)
+          (λ x free. record { free = free; wait = lit≤ tt }) refl);
       apart = IsDistinct-from_test same_cell (map (λ (p : Pickup). pickup_cell p.place) (spread 32).pickups) refl;
     };
     time = lit< tt;

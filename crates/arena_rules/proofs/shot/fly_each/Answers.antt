@@ -16,10 +16,13 @@ pub loop-at-preserved : goal.loop-at-preserved
 loop-at-preserved c =
     let same = drop-next c.loop-at.shots.items c.args.shots.now.items c.loop-at.at no_shot (omega arith) (omega arith) c.loop-at.invariant.ahead in
     let flight = rw (c.deref.ensures.0, same.0) at c.fly.ensures.flown in
-    let next = flights-next c.args.ground.now c.args.players.now c.loop-at.players c.fly.new.players c.args.shots.now.items _ c.loop-at.at no_shot c.fly.result (omega arith) flight c.loop-at.invariant.so_far in
+    let next = flights-next c.args.ground.now c.args.players.now c.loop-at.players c.fly.new.players
+    c.args.shots.now.items _ c.loop-at.at no_shot c.fly.result (omega arith) flight c.loop-at.invariant.so_far in
     elim c.match-fly.branch [
       | in-Some w ↦
-          let items : c.match-fly.shots.items ≡ set c.loop-at.shots.items c.loop-at.kept w.in-Some.shot = rw (w.shots-is, w.deref_mut.ensures.value) (refill-set c.loop-at.shots.items c.loop-at.kept w.in-Some.shot) in
+          let items : c.match-fly.shots.items ≡ set c.loop-at.shots.items c.loop-at.kept w.in-Some.shot =
+          rw (w.shots-is, w.deref_mut.ensures.value)
+          (refill-set c.loop-at.shots.items c.loop-at.kept w.in-Some.shot) in
           record {
             players = c.fly.ensures.count ∙ c.loop-at.invariant.players;
             front = rw w.kept-is (omega (arith, c.loop-at.invariant.front));

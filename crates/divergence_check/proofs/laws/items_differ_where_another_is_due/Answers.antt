@@ -5,7 +5,9 @@ use Rattle.game_trait.specs.declared.command.Item.{Item}
 use Rattle.divergence_check.specs.Divergence.{DiffersFirstAt}
 use Rattle.divergence_check.proofs.laws.items_differ_where_another_is_due.Goals as goal
 
-place : (items due : List Item) (n : ℕ) → n < length due → (slice_get items n ≡ slice_get due n → ⊥) → ((x : Item) × (n < length due) × (slice_get due n ≡ Some x) × (get_or due n x ≡ x)) ⊎ ((length due ≤ n) × (slice_get due n ≡ None))
+place : (items due : List Item) (n : ℕ) → n < length due → (slice_get items n ≡ slice_get due n → ⊥)
+    → ((x : Item) × (n < length due) × (slice_get due n ≡ Some x) × (get_or due n x ≡ x)) ⊎
+    ((length due ≤ n) × (slice_get due n ≡ None))
     → (item : Item) × (slice_get due n ≡ Some item) × (slice_get items n ≡ Some item → ⊥)
 place items due n few other (inl at) = (at.0, at.2, λ e. other (e ∙ sym at.2))
 place items due n few other (inr past) = absurd (let long = past.0 in omega arith)

@@ -44,7 +44,9 @@ loop-line-preserved g c =
     let s = c.index_mut.result.now in
     let here = c.index_mut.ensures.value ∙ ap (λ (n : ℕ). get_or c.loop-line.mirrors.items n s) at in
     let show : Showing _ = record { rules = g.G.Game.rules; lines = g.G.Shown.lines; names = c.args.m.now.names } in
-    subst (λ (n : ℕ). IsMadeTo show c.args.m.now c.as_slice-script.result.now (c.loop-line.line-index + 1) c.args.mirrors.now.items (set c.loop-line.mirrors.items n c.play_line.new.mirror) c.args.out.now.items c.play_line.new.out.items) (sym at)
+    subst (λ (n : ℕ). IsMadeTo show c.args.m.now c.as_slice-script.result.now (c.loop-line.line-index + 1)
+    c.args.mirrors.now.items (set c.loop-line.mirrors.items n c.play_line.new.mirror) c.args.out.now.items
+    c.play_line.new.out.items) (sym at)
     (made-more show c.args.m.now _ c.loop-line.line-index _ _ _ _ _ (Tick 0) s _ c.loop-line-test.true made next here c.in_ok-play_line.ensures.state c.in_ok-play_line.ensures.ok)
 
 pub returns-in_err-play_line-clause-count : goal.returns-in_err-play_line-clause-count

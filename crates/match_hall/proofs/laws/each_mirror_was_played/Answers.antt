@@ -8,7 +8,8 @@ use Rattle.match_hall.specs.Script.{opening_mirror}
 use Rattle.match_hall.specs.Headline.{IsPlayed, AllPlayed}
 use Rattle.match_hall.proofs.laws.each_mirror_was_played.Goals as goal
 
-count : {W : Type 0} (rules : Rules W) (opening : W) (m : MatchData) (number : ℕ) (ends : List (MirrorState W)) (logs : List MirrorLog) → AllPlayed rules opening m number ends logs → length logs ≡ length ends
+count : {W : Type 0} (rules : Rules W) (opening : W) (m : MatchData) (number : ℕ) (ends : List (MirrorState W))
+    (logs : List MirrorLog) → AllPlayed rules opening m number ends logs → length logs ≡ length ends
 unfolding AllPlayed
 count rules opening m number [] [] all = refl
 count rules opening m number [] (log ∷ logs) all = absurd all
@@ -27,7 +28,9 @@ each {W} rules opening m number zero (e ∷ ends) (l ∷ logs) end log all at th
     let same : e ≡ end = cc in
     let named : l ≡ log = cc in
     let here : number + 0 ≡ number = omega arith in
-    subst (IsThere rules opening m end log) (sym here) (subst (λ (x : MirrorState W). IsThere rules opening m x log number) same (subst (λ (x : MirrorLog). IsThere rules opening m e x number) named (all.0, all.1)))
+    subst (IsThere rules opening m end log) (sym here)
+    (subst (λ (x : MirrorState W). IsThere rules opening m x log number) same
+    (subst (λ (x : MirrorLog). IsThere rules opening m e x number) named (all.0, all.1)))
 each rules opening m number (suc place) (e ∷ ends) (l ∷ logs) end log all at there =
     let next : (number + 1) + place ≡ number + suc place = omega arith in
     subst (IsThere rules opening m end log) next (each rules opening m (number + 1) place ends logs end log all.2 at there)

@@ -7,5 +7,7 @@ loop-place-preserved g c =
     let kept = c.loop-place.invariant in
     record {
       end = kept.end;
-      text = marks-more _ c.loop-place.place c.run_item.result _ _ _ _ c.run_item.ensures (subst (λ (n : ℕ). c.loop-place.place < n) c.run_len-place-end.ensures c.loop-place-test.true) kept.text c.in_ok-run_mark.ensures.ok;
+      text = marks-more _ c.loop-place.place c.run_item.result _ _ _ _ c.run_item.ensures
+          (subst (λ (n : ℕ). c.loop-place.place < n) c.run_len-place-end.ensures c.loop-place-test.true) kept.text
+          c.in_ok-run_mark.ensures.ok;
     }

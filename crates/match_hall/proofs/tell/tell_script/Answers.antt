@@ -12,11 +12,15 @@ loop-line-init g c =
 
 pub wait_line-requires-clause-line : goal.wait_line-requires-clause-line
 wait_line-requires-clause-line g c =
-    (own-line c.args.m.now c.args.number _ c.loop-line.line-index _ _ _ _ _ _ _ (Tick 0) (subst IsMatch c.m.view_is c.m.invariant) c.loop-line-test.true (sym c.names.ensures ∙ c.if-not-names.false) c.loop-line.invariant).line
+    (own-line c.args.m.now c.args.number _ c.loop-line.line-index _ _ _ _ _ _ _ (Tick 0)
+    (subst IsMatch c.m.view_is c.m.invariant) c.loop-line-test.true (sym c.names.ensures ∙ c.if-not-names.false)
+    c.loop-line.invariant).line
 
 pub wait_line-requires-clause-waiting : goal.wait_line-requires-clause-waiting
 wait_line-requires-clause-waiting g c =
-    (own-line c.args.m.now c.args.number _ c.loop-line.line-index _ _ _ _ _ _ _ (Tick 0) (subst IsMatch c.m.view_is c.m.invariant) c.loop-line-test.true (sym c.names.ensures ∙ c.if-not-names.false) c.loop-line.invariant).waiting
+    (own-line c.args.m.now c.args.number _ c.loop-line.line-index _ _ _ _ _ _ _ (Tick 0)
+    (subst IsMatch c.m.view_is c.m.invariant) c.loop-line-test.true (sym c.names.ensures ∙ c.if-not-names.false)
+    c.loop-line.invariant).waiting
 
 pub loop-line-preserved-then-not-names : goal.loop-line-preserved-then-not-names
 loop-line-preserved-then-not-names g c =
@@ -36,7 +40,8 @@ tell_events-requires-clause-room g c = rw c.as_slice-left.ensures.value c.loop-l
 pub returns-clause-state : goal.returns-clause-state
 returns-clause-state g c =
     on_ok_weaker c.tell_events.result
-    (λ made. told_to-all c.args.m.now c.args.number _ c.loop-line.line-index _ _ c.tell_events.new.mirror _ _ _ _ _ c.loop-line-test.false c.loop-line.invariant (rw c.as_slice-left.ensures.value at made))
+    (λ made. told_to-all c.args.m.now c.args.number _ c.loop-line.line-index _ _ c.tell_events.new.mirror _ _ _ _ _
+    c.loop-line-test.false c.loop-line.invariant (rw c.as_slice-left.ensures.value at made))
     c.tell_events.ensures.state
 
 pub returns-clause-told : goal.returns-clause-told

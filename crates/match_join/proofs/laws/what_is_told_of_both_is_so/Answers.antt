@@ -11,7 +11,8 @@ use Rattle.sync_model.specs.Drafts.{run_of}
 use Rattle.sync_model.specs.History.{repairs}
 use Rattle.match_hall.specs.Report.{line_of_mirror}
 use Rattle.late_joiner.specs.Joiner.{JoinerState, accepted_at}
-use Rattle.match_join.specs.Join.{join_text, ends_text, join_head, joiner_text, joiner_counts, joiner_head, joiner_before, lines_after, last_copy, mirror_before, mirror_end, joiner_end, mirror_world, joiner_world}
+use Rattle.match_join.specs.Join.{join_text, ends_text, join_head, joiner_text, joiner_counts, joiner_head, joiner_before, lines_after, last_copy}
+use Rattle.match_join.specs.Join.{mirror_before, mirror_end, joiner_end, mirror_world, joiner_world}
 use Rattle.match_join.proofs.laws.what_is_told_of_both_is_so.Goals as goal
 
 lines-differ : same_line true ≡ same_line false → ⊥
@@ -38,11 +39,15 @@ texts-differ show opening m number k e =
     (append_cancel_left (joiner_text m.commands (lines_after m number k) (joiner_before show.rules opening m number k)) _ _
     (append_cancel_left (join_head number k (last_clock (mirror_before opening m number k).runs)) _ _ e))
 
-yes : {W : Type 0} (show : Showing W) (opening : W) (m : MatchData) (number k : ℕ) (text : List ℕ) (P : Type 0) (same : Bool) → (IsTrue same ↔ P) → text ≡ join_text show opening m number k same → text ≡ join_text show opening m number k true → P
+yes : {W : Type 0} (show : Showing W) (opening : W) (m : MatchData) (number k : ℕ) (text : List ℕ) (P : Type 0)
+    (same : Bool) → (IsTrue same ↔ P) → text ≡ join_text show opening m number k same
+    → text ≡ join_text show opening m number k true → P
 yes show opening m number k text P true decided is says = decided.0 refl
 yes show opening m number k text P false decided is says = absurd (texts-differ show opening m number k (sym says ∙ is))
 
-no : {W : Type 0} (show : Showing W) (opening : W) (m : MatchData) (number k : ℕ) (text : List ℕ) (P : Type 0) (same : Bool) → (IsTrue same ↔ P) → text ≡ join_text show opening m number k same → text ≡ join_text show opening m number k false → P → ⊥
+no : {W : Type 0} (show : Showing W) (opening : W) (m : MatchData) (number k : ℕ) (text : List ℕ) (P : Type 0)
+    (same : Bool) → (IsTrue same ↔ P) → text ≡ join_text show opening m number k same
+    → text ≡ join_text show opening m number k false → P → ⊥
 no show opening m number k text P true decided is says p = texts-differ show opening m number k (sym is ∙ says)
 no show opening m number k text P false decided is says p = (let e : false ≡ true = decided.1 p in absurd cc)
 

@@ -16,7 +16,9 @@ unfolding rewind_text looks_text hits_of
 one show opening m room tick =
     ap (λ (t : List ℕ). t ++ (hits_line (hits_of room [] (tick ∷ [])) ++ done_line)) (append-nil _)
 
-more : {W : Type 0} (show : Showing W) (opening : W) (commands : List Command) (ts us : List ℕ) → looks_text show opening commands (ts ++ us) ≡ looks_text show opening commands ts ++ looks_text show opening commands us
+more : {W : Type 0} (show : Showing W) (opening : W) (commands : List Command) (ts us : List ℕ)
+    → looks_text show opening commands (ts ++ us) ≡ looks_text show opening commands ts
+    ++ looks_text show opening commands us
 unfolding looks_text
 more show opening commands [] us = refl
 more show opening commands (t ∷ ts) us =

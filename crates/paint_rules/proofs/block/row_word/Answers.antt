@@ -12,4 +12,6 @@ push-requires c =
 
 pub loop-x-preserved : goal.loop-x-preserved
 loop-x-preserved c =
-    c.push.ensures.items ∙ rw (c.loop-x.invariant, c.cell_byte.ensures) (sym (map-range_with_len_more (λ (x : ℕ). cell_byte c.args.ground.now c.args.cells.now x c.args.y) 0 c.loop-x.x c.loop-x.x (omega arith)))
+    c.push.ensures.items ∙ rw (c.loop-x.invariant, c.cell_byte.ensures)
+    (sym (map-range_with_len_more (λ (x : ℕ). cell_byte c.args.ground.now c.args.cells.now x c.args.y) 0 c.loop-x.x
+    c.loop-x.x (omega arith)))

@@ -13,7 +13,8 @@ loop-lock-init g c =
       record {
         room =
             (let a = ap (λ l. length l) gives in let b = c.args.locks.ok.0 in let d = ap (λ l. length l) c.requires.empty.0 in let e = ap (λ l. length l) c.requires.empty.1 in
-            let f = c.args.mirrors.ok.0 in let h = c.args.feeders.ok.0 in let i = c.requires.room.0 in let j = c.requires.room.1 in let k = c.requires.room.2 in (omega arith, omega arith, omega arith));
+            let f = c.args.mirrors.ok.0 in let h = c.args.feeders.ok.0 in let i = c.requires.room.0 in let j =
+            c.requires.room.1 in let k = c.requires.room.2 in (omega arith, omega arith, omega arith));
         seats = c.requires.seats;
         going = λ course opening spare jobs count by.
             going-begins _ (AllClosed course opening spare) jobs _ _ _ _ _ c.requires.empty.1 c.requires.empty.0 (none-closed course opening spare) gives by;

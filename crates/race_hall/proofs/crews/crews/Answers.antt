@@ -18,7 +18,8 @@ loop-feeder-init g c = (
 pub man-requires-clause-feeder : goal.man-requires-clause-feeder
 man-requires-clause-feeder g c =
     let r = c.requires.feeders in
-    let at = numbered-at (IsFeederOf (course_of c.args.m.now) r.0) 0 c.args.m.now.mirrors c.args.feeders.items c.loop-feeder.yielded c.loop-feeder.feeder-iterator.rest.items c.next.new.self.rest.items c.in-Some.feeder
+    let at = numbered-at (IsFeederOf (course_of c.args.m.now) r.0) 0 c.args.m.now.mirrors c.args.feeders.items
+    c.loop-feeder.yielded c.loop-feeder.feeder-iterator.rest.items c.next.new.self.rest.items c.in-Some.feeder
     r.2 c.loop-feeder.invariant.2 c.in-Some.ensures.steps.0 in
     subst (λ (n : ℕ). IsFeederOf (course_of c.args.m.now) n c.in-Some.feeder.mirror c.in-Some.feeder) (sym at.0.budget_is)
     (subst (λ (k : ℕ). IsFeederOf (course_of c.args.m.now) r.0 k c.in-Some.feeder) (sym at.0.mirror) at.0)
@@ -26,21 +27,24 @@ man-requires-clause-feeder g c =
 pub man-requires-clause-there : goal.man-requires-clause-there
 man-requires-clause-there g c =
     let r = c.requires.feeders in
-    let at = numbered-at (IsFeederOf (course_of c.args.m.now) r.0) 0 c.args.m.now.mirrors c.args.feeders.items c.loop-feeder.yielded c.loop-feeder.feeder-iterator.rest.items c.next.new.self.rest.items c.in-Some.feeder
+    let at = numbered-at (IsFeederOf (course_of c.args.m.now) r.0) 0 c.args.m.now.mirrors c.args.feeders.items
+    c.loop-feeder.yielded c.loop-feeder.feeder-iterator.rest.items c.next.new.self.rest.items c.in-Some.feeder
     r.2 c.loop-feeder.invariant.2 c.in-Some.ensures.steps.0 in
     (let a = at.0.mirror in let b = at.1 in omega arith)
 
 pub man-requires-clause-budget : goal.man-requires-clause-budget
 man-requires-clause-budget g c =
     let r = c.requires.feeders in
-    let at = numbered-at (IsFeederOf (course_of c.args.m.now) r.0) 0 c.args.m.now.mirrors c.args.feeders.items c.loop-feeder.yielded c.loop-feeder.feeder-iterator.rest.items c.next.new.self.rest.items c.in-Some.feeder
+    let at = numbered-at (IsFeederOf (course_of c.args.m.now) r.0) 0 c.args.m.now.mirrors c.args.feeders.items
+    c.loop-feeder.yielded c.loop-feeder.feeder-iterator.rest.items c.next.new.self.rest.items c.in-Some.feeder
     r.2 c.loop-feeder.invariant.2 c.in-Some.ensures.steps.0 in
     (let a = at.0.budget_is in let b = r.1 in omega arith)
 
 pub loop-feeder-preserved : goal.loop-feeder-preserved
 loop-feeder-preserved g c =
     let r = c.requires.feeders in
-    let at = numbered-at (IsFeederOf (course_of c.args.m.now) r.0) 0 c.args.m.now.mirrors c.args.feeders.items c.loop-feeder.yielded c.loop-feeder.feeder-iterator.rest.items c.next.new.self.rest.items c.in-Some.feeder
+    let at = numbered-at (IsFeederOf (course_of c.args.m.now) r.0) 0 c.args.m.now.mirrors c.args.feeders.items
+    c.loop-feeder.yielded c.loop-feeder.feeder-iterator.rest.items c.next.new.self.rest.items c.in-Some.feeder
     r.2 c.loop-feeder.invariant.2 c.in-Some.ensures.steps.0 in
     let long = by_mirror-long _ 0 _ _ _ c.loop-feeder.invariant.3 in
     let manned = c.in_ok-lock.ensures.manned in
@@ -48,8 +52,11 @@ loop-feeder-preserved g c =
       search rules,
       search rules,
       parts-more c.args.feeders.items c.loop-feeder.yielded c.loop-feeder.feeder-iterator.rest.items c.next.new.self.rest.items c.in-Some.feeder c.loop-feeder.invariant.2 c.in-Some.ensures.steps.0,
-      by_mirror-pushed _ _ _ c.loop-feeder.yielded _ _ manned.crew _ c.in-Some.feeder c.in_ok-push.ensures.items manned.parts c.loop-feeder.invariant.3
-          (subst (λ (k : ℕ). IsCrew (λ s. s.seat) g.G.Game.rules c.in-Some.feeder.copies k c.in_ok-lock.lock.lock.table.shared.table_id c.in-Some.feeder manned.crew) here manned.manned, c.in_ok-lock.ensures.locked),
+      by_mirror-pushed _ _ _ c.loop-feeder.yielded _ _ manned.crew _ c.in-Some.feeder c.in_ok-push.ensures.items manned.parts c.loop-feeder.invariant.3 (
+        subst (λ (k : ℕ). IsCrew (λ s. s.seat) g.G.Game.rules c.in-Some.feeder.copies k
+            c.in_ok-lock.lock.lock.table.shared.table_id c.in-Some.feeder manned.crew) here manned.manned,
+        c.in_ok-lock.ensures.locked,
+      ),
     )
 
 pub returns : goal.returns

@@ -35,5 +35,7 @@ line_up-requires-clause-rows c =
 pub returns : goal.returns
 returns c =
     IfOk-weaker c.line_up.result _ _
-    (λ jobs lined. feeders-made c.args.m.now c.args.budget c.in_ok-plans.rooms.items _ _ _ jobs.items (subst IsMatch c.m.view_is c.m.invariant) c.in_ok-plans.ensures.rooms c.deref.ensures.value c.in_ok-sends.ensures lined)
+    (λ jobs lined. feeders-made c.args.m.now c.args.budget c.in_ok-plans.rooms.items _ _ _ jobs.items
+    (subst IsMatch c.m.view_is c.m.invariant) c.in_ok-plans.ensures.rooms c.deref.ensures.value
+    c.in_ok-sends.ensures lined)
     c.line_up.ensures

@@ -13,7 +13,9 @@ use Rattle.race_hall.proofs.Numbered.{numbered-length, numbered-none, numbered-m
 
 pub loop-mirror-init : goal.loop-mirror-init
 loop-mirror-init c = record {
-  plans = (let e : c.args.m.now.mirrors ≡ c.args.m.now.mirrors - 0 = omega arith in subst (λ (n : ℕ). AllZip (IsPlanOf (course_of c.args.m.now)) (count_from 0 n) c.args.plans.items) e c.requires.plans);
+  plans = (let e : c.args.m.now.mirrors ≡ c.args.m.now.mirrors - 0 = omega arith in
+      subst (λ (n : ℕ). AllZip (IsPlanOf (course_of c.args.m.now)) (count_from 0 n) c.args.plans.items) e
+      c.requires.plans);
   each = numbered-none (HasPlan (course_of c.args.m.now) c.args.budget) _ c.new-jobs.ensures.items;
   lines = lines-begin _ _ _ c.new-jobs.ensures.items;
 }
@@ -30,7 +32,9 @@ pub overflow_sub-len : goal.overflow_sub-len
 overflow_sub-len c =
     let m = c.args.m.now in
     let here : c.loop-mirror.mirror < m.mirrors = (let b = ap (λ (d : MatchData). d.mirrors) c.m.view_is in let t = c.loop-mirror-test.true in omega arith) in
-    let off = numbered-off (IsPlanOf (course_of m)) c.loop-mirror.mirror (m.mirrors - c.loop-mirror.mirror) _ _ c.remove-plan.result c.loop-mirror.invariant.plans (omega arith) c.remove-plan.ensures.value c.remove-plan.ensures.items in
+    let off = numbered-off (IsPlanOf (course_of m)) c.loop-mirror.mirror (m.mirrors - c.loop-mirror.mirror) _ _
+    c.remove-plan.result c.loop-mirror.invariant.plans (omega arith) c.remove-plan.ensures.value
+    c.remove-plan.ensures.items in
     let a = ap (λ (l : List Command). length l) off.0 in
     let b = plan-short (course_of m) c.loop-mirror.mirror in
     let d = ap (λ (d : MatchData). length d.commands) c.m.view_is in
@@ -53,14 +57,18 @@ pub loop-mirror-preserved : goal.loop-mirror-preserved
 loop-mirror-preserved c =
     let m = c.args.m.now in
     let here : c.loop-mirror.mirror < m.mirrors = (let b = ap (λ (d : MatchData). d.mirrors) c.m.view_is in let t = c.loop-mirror-test.true in omega arith) in
-    let off = numbered-off (IsPlanOf (course_of m)) c.loop-mirror.mirror (m.mirrors - c.loop-mirror.mirror) _ _ c.remove-plan.result c.loop-mirror.invariant.plans (omega arith) c.remove-plan.ensures.value c.remove-plan.ensures.items in
+    let off = numbered-off (IsPlanOf (course_of m)) c.loop-mirror.mirror (m.mirrors - c.loop-mirror.mirror) _ _
+    c.remove-plan.result c.loop-mirror.invariant.plans (omega arith) c.remove-plan.ensures.value
+    c.remove-plan.ensures.items in
     let long = numbered-length (HasPlan (course_of m) c.args.budget) 0 c.loop-mirror.mirror c.loop-mirror.jobs.items c.loop-mirror.invariant.each in
     let sends_long = front-left (λ job. job.sends) c.loop-mirror.jobs.items c.loop-mirror.sends.items c.args.sends.items c.loop-mirror.invariant.lines.sends_are in
     let rows_long = front-left (λ job. job.receives) c.loop-mirror.jobs.items c.loop-mirror.rows.items c.args.rows.items c.loop-mirror.invariant.lines.rows_are in
     let sends_all = c.requires.sends in
     let rows_all = c.requires.rows in
     record {
-      plans = (let e : m.mirrors - c.loop-mirror.mirror - 1 ≡ m.mirrors - (c.loop-mirror.mirror + 1) = omega arith in subst (λ (n : ℕ). AllZip (IsPlanOf (course_of m)) (count_from (c.loop-mirror.mirror + 1) n) c.remove-plan.new.self.items) e off.1);
+      plans = (let e : m.mirrors - c.loop-mirror.mirror - 1 ≡ m.mirrors - (c.loop-mirror.mirror + 1) = omega arith in
+          subst (λ (n : ℕ). AllZip (IsPlanOf (course_of m)) (count_from (c.loop-mirror.mirror + 1) n)
+          c.remove-plan.new.self.items) e off.1);
       each =
           numbered-more (HasPlan (course_of m) c.args.budget) c.loop-mirror.mirror _ _ _ c.loop-mirror.invariant.each c.in_ok-push.ensures.items
           (record {

@@ -22,20 +22,25 @@ new-requires-clause-equal_copies g c =
 
 pub shares-requires-clause-plan : goal.shares-requires-clause-plan
 shares-requires-clause-plan g c =
-    (let a = ap (λ (l : List Command). length l) c.requires.feeder.of.plan in let b = plan-short (course_of c.args.m.now) c.args.feeder.mirror in let d = few-commands c.args.m.now (subst IsMatch c.m.view_is c.m.invariant) in
+    (let a = ap (λ (l : List Command). length l) c.requires.feeder.of.plan in
+    let b = plan-short (course_of c.args.m.now) c.args.feeder.mirror in let d =
+    few-commands c.args.m.now (subst IsMatch c.m.view_is c.m.invariant) in
     let e = c.args.feeder.plan.ok.0 in omega arith)
 
 pub shares-requires-clause-foreign : goal.shares-requires-clause-foreign
 shares-requires-clause-foreign g c =
     let is = subst IsMatch c.m.view_is c.m.invariant in
-    (let a = foreign-whole (course_of c.args.m.now) c.args.feeder.mirror (match-course c.args.m.now is).from c.requires.there in let b = c.requires.feeder.of.foreign in let d = few-commands c.args.m.now is in omega arith)
+    (let a = foreign-whole (course_of c.args.m.now) c.args.feeder.mirror (match-course c.args.m.now is).from
+    c.requires.there in let b = c.requires.feeder.of.foreign in let d = few-commands c.args.m.now is in omega arith)
 
 pub start-requires-clause-calls : goal.start-requires-clause-calls
 start-requires-clause-calls g c =
     let is = subst IsMatch c.m.view_is c.m.invariant in
     few-calls c.args.feeder.copies c.args.feeder.budget _ c.args.feeder.foreign _ (c.deref.ensures.value ∙ c.in_ok-shares.ensures)
     (let a = c.requires.feeder.copies in let b = is.delays.few_copies in omega arith) c.requires.budget
-    (let a = ap (λ (l : List Command). length l) c.requires.feeder.of.plan in let b = plan-short (course_of c.args.m.now) c.args.feeder.mirror in let d = few-commands c.args.m.now is in let e = c.args.feeder.plan.ok.0 in omega arith)
+    (let a = ap (λ (l : List Command). length l) c.requires.feeder.of.plan in
+    let b = plan-short (course_of c.args.m.now) c.args.feeder.mirror in let d = few-commands c.args.m.now is in
+    let e = c.args.feeder.plan.ok.0 in omega arith)
 
 pub start-requires-clause-arrivals : goal.start-requires-clause-arrivals
 start-requires-clause-arrivals g c =
@@ -54,12 +59,15 @@ pub returns-clause-manned : goal.returns-clause-manned
 returns-clause-manned g c =
     let is = subst IsMatch c.m.view_is c.m.invariant in
     let pushed = c.in_ok-push_crew.ensures in
-    let opened = opens c.args.m.now c.args.opening.now c.args.plans.now c.len-room.result c.in_ok-mirror.mirror c.requires.plans (c.len-room.ensures ∙ ap (λ (d : MatchData). length d.commands) c.m.view_is) c.in_ok-mirror.ensures in
+    let opened = opens c.args.m.now c.args.opening.now c.args.plans.now c.len-room.result c.in_ok-mirror.mirror
+    c.requires.plans (c.len-room.ensures ∙ ap (λ (d : MatchData). length d.commands) c.m.view_is)
+    c.in_ok-mirror.ensures in
     record {
       crew = pushed.0;
       parts = pushed.1;
       manned =
-          manned-crew g.G.Game.rules (λ s. s.seat) c.in_ok-mirror.mirror c.args.m.now _ c.args.feeder pushed.0 c.in_ok-lock.seats.items c.deref.result.now is c.requires.there c.requires.feeder c.requires.budget
+          manned-crew g.G.Game.rules (λ s. s.seat) c.in_ok-mirror.mirror c.args.m.now _ c.args.feeder pushed.0
+          c.in_ok-lock.seats.items c.deref.result.now is c.requires.there c.requires.feeder c.requires.budget
           (ap (λ (s : MirrorState _). s.length) opened)
           (ap (λ (s : MirrorState _). length s.runs) opened ∙ length-map _ _ ∙ sym c.requires.feeder.copies)
           (c.deref.ensures.value ∙ c.in_ok-shares.ensures ∙ ap (λ (n : ℕ). shares_of c.args.feeder.copies c.args.feeder.budget n c.args.feeder.foreign) c.args.feeder.plan.ok.0)
@@ -68,8 +76,12 @@ returns-clause-manned g c =
 
 pub returns-clause-locked : goal.returns-clause-locked
 returns-clause-locked g c =
-    let opened = opens c.args.m.now c.args.opening.now c.args.plans.now c.len-room.result c.in_ok-mirror.mirror c.requires.plans (c.len-room.ensures ∙ ap (λ (d : MatchData). length d.commands) c.m.view_is) c.in_ok-mirror.ensures in
+    let opened = opens c.args.m.now c.args.opening.now c.args.plans.now c.len-room.result c.in_ok-mirror.mirror
+    c.requires.plans (c.len-room.ensures ∙ ap (λ (d : MatchData). length d.commands) c.m.view_is)
+    c.in_ok-mirror.ensures in
     record {
       held_is = c.in_ok-lock.ensures.opening ∙ opened;
-      seats_is = c.in_ok-lock.ensures.counted ∙ shares-long c.args.feeder.copies c.args.feeder.budget _ c.args.feeder.foreign _ (c.deref.ensures.value ∙ c.in_ok-shares.ensures) ∙ ap (λ (n : ℕ). n + 1) c.requires.feeder.copies;
+      seats_is = c.in_ok-lock.ensures.counted
+          ∙ shares-long c.args.feeder.copies c.args.feeder.budget _ c.args.feeder.foreign _
+          (c.deref.ensures.value ∙ c.in_ok-shares.ensures) ∙ ap (λ (n : ℕ). n + 1) c.requires.feeder.copies;
     }

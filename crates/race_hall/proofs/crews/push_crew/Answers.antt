@@ -8,7 +8,8 @@ loop-copy-init g c = posted-none c.args.feeder c.args.jobs.now.items c.args.seat
 
 pub remove-seat-requires : goal.remove-seat-requires
 remove-seat-requires g c =
-    (let a = posted-left _ c.loop-copy.copy _ _ _ _ c.loop-copy.invariant in let b = c.requires in let d = c.args.seats.ok.0 in let e = c.loop-copy.seats.ok.0 in let t = c.loop-copy-test.true in omega arith)
+    (let a = posted-left _ c.loop-copy.copy _ _ _ _ c.loop-copy.invariant in let b = c.requires in
+    let d = c.args.seats.ok.0 in let e = c.loop-copy.seats.ok.0 in let t = c.loop-copy-test.true in omega arith)
 
 pub loop-copy-preserved : goal.loop-copy-preserved
 loop-copy-preserved g c =
@@ -25,7 +26,9 @@ loop-copy-preserved g c =
 
 pub remove-seat-requires-2 : goal.remove-seat-requires-2
 remove-seat-requires-2 g c =
-    (let a = posted-left _ c.loop-copy.copy _ _ _ _ c.loop-copy.invariant in let b = c.requires in let d = c.args.seats.ok.0 in let e = c.loop-copy.seats.ok.0 in let t = c.loop-copy.invariant.within in omega arith)
+    (let a = posted-left _ c.loop-copy.copy _ _ _ _ c.loop-copy.invariant in let b = c.requires in
+    let d = c.args.seats.ok.0 in let e = c.loop-copy.seats.ok.0 in let t = c.loop-copy.invariant.within in
+    omega arith)
 
 pub returns : goal.returns
 returns g c =

@@ -8,7 +8,8 @@ use Rattle.race_hall.proofs.finish.finish_mirror.Goals as goal
 
 pub take_unissued-requires-clause-can : goal.take_unissued-requires-clause-can
 take_unissued-requires-clause-can g c =
-    subst (λ (u : MirrorState _). CanTake u (unissued_in c.args.senders.now)) (sym c.take_links.ensures) (can-later c.args.mirror.now (left_in c.args.links.now) (unissued_in c.args.senders.now) c.requires.can)
+    subst (λ (u : MirrorState _). CanTake u (unissued_in c.args.senders.now)) (sym c.take_links.ensures)
+    (can-later c.args.mirror.now (left_in c.args.links.now) (unissued_in c.args.senders.now) c.requires.can)
 
 pub returns : goal.returns
 returns g c =

@@ -23,10 +23,13 @@ finish_one-requires g c =
 pub loop-number-preserved : goal.loop-number-preserved
 loop-number-preserved g c =
     let below : c.loop-number.number < length c.loop-number.mirrors = (let t = c.loop-number-test.true in let a = c.loop-number.auto.mirrors in omega arith) in
-    let low : c.loop-number.number < length c.loop-number.rows = (let a = c.loop-number.auto.rows in let b = c.requires.held.1.mirrors_count in let d = c.requires.held.1.rows_count in let e = c.loop-number.auto.mirrors in omega arith) in
+    let low : c.loop-number.number < length c.loop-number.rows =
+    (let a = c.loop-number.auto.rows in let b = c.requires.held.1.mirrors_count in
+    let d = c.requires.held.1.rows_count in let e = c.loop-number.auto.mirrors in omega arith) in
     record {
       sends = all-sends-trans c.args.sends.now c.loop-number.sends c.finish_one.new.sends c.loop-number.invariant.sends c.finish_one.ensures.sends;
-      mirrors = up_to-more (λ a b. Unit {0}) c.loop-number.number c.args.mirrors.now c.loop-number.mirrors c.index-mirrors-number.result c.finish_one.new.mirror below tt c.loop-number.invariant.mirrors;
+      mirrors = up_to-more (λ a b. Unit {0}) c.loop-number.number c.args.mirrors.now c.loop-number.mirrors
+          c.index-mirrors-number.result c.finish_one.new.mirror below tt c.loop-number.invariant.mirrors;
       rows = up_to-more (λ a b. Unit {0}) c.loop-number.number c.args.rows.now c.loop-number.rows c.index-rows-number.result _ low tt c.loop-number.invariant.rows;
       done = λ h held. done-more (λ s. EndsAtFold g.G.Game.rules h.course h.opening s) c.loop-number.number c.loop-number.mirrors c.finish_one.new.mirror below
           (c.finish_one.ensures.ends h

@@ -32,4 +32,5 @@ loop-link-preserved g c =
 pub returns : goal.returns
 returns g c =
     let long = up_to-length (λ a b. Unit {0}) c.loop-link.link-index c.args.links.now c.loop-link.links c.loop-link.invariant.others in
-    piece-ends (λ (r : LinkReceive). commands_in (waiting_of r)) c.loop-link.mirror c.args.links.now c.loop-link.link-index (let e = c.loop-link-test.false in omega arith) ∙ c.loop-link.invariant.state
+    piece-ends (λ (r : LinkReceive). commands_in (waiting_of r)) c.loop-link.mirror c.args.links.now
+    c.loop-link.link-index (let e = c.loop-link-test.false in omega arith) ∙ c.loop-link.invariant.state

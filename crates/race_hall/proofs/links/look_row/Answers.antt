@@ -17,7 +17,9 @@ look_one-requires c =
     let far = c.loop-link.auto.sends in
     let mirrors = c.requires.mirrors in
     let which = c.sender_of-sender.ensures in
-    row-linked c.args.mirror c.loop-link.link c.args.sends.now c.loop-link.sends c.args.row.now c.loop-link.row c.index-row-link.result c.index-sends-sender.result c.sender_of-sender.result c.place_of.result c.deref_mut.result.now
+    row-linked c.args.mirror c.loop-link.link c.args.sends.now c.loop-link.sends c.args.row.now c.loop-link.row
+    c.index-row-link.result c.index-sends-sender.result c.sender_of-sender.result c.place_of.result
+    c.deref_mut.result.now
     c.requires.linked c.loop-link.invariant.sends c.loop-link.invariant.row (let t = c.loop-link-test.true in omega arith)
     (sender-below c.args.mirror c.loop-link.link (length c.args.row.now) (length c.loop-link.sends) c.sender_of-sender.result (let t = c.loop-link-test.true in omega arith) (omega arith) which)
     which c.place_of.ensures c.deref_mut.ensures.value
@@ -29,7 +31,8 @@ loop-link-preserved c =
     let mirrors = c.requires.mirrors in
     let which = c.sender_of-sender.ensures in
     let below : c.loop-link.link < length c.loop-link.row = (let t = c.loop-link-test.true in omega arith) in
-    let there = sender-below c.args.mirror c.loop-link.link (length c.args.row.now) (length c.loop-link.sends) c.sender_of-sender.result (let t = c.loop-link-test.true in omega arith) (omega arith) which in
+    let there = sender-below c.args.mirror c.loop-link.link (length c.args.row.now) (length c.loop-link.sends)
+    c.sender_of-sender.result (let t = c.loop-link-test.true in omega arith) (omega arith) which in
     let v = get_or c.loop-link.sends c.sender_of-sender.result c.index-sends-sender.result in
     let items = with_items_is (get_or c.loop-link.sends c.sender_of-sender.result c.index-sends-sender.result) c.look_one.new.sends (c.look_one.auto.sends ∙ c.deref_mut.ensures.len) in
     let now = subst (λ (l : List LinkSend). AllZip SameSent l c.look_one.new.sends) c.deref_mut.ensures.value c.look_one.ensures.sends in
@@ -39,13 +42,16 @@ loop-link-preserved c =
           (subst (λ (l : List LinkSend). AllZip SameSent (get_or c.loop-link.sends c.sender_of-sender.result c.index-sends-sender.result).items l) (sym items) now);
       row = up_to-more SameReceived c.loop-link.link c.args.row.now c.loop-link.row c.index-row-link.result c.look_one.new.link below
           (subst (λ (r : LinkReceive). SameReceived r c.look_one.new.link) (sym same_row) c.look_one.ensures.received) c.loop-link.invariant.row;
-      whole = row-whole c.args.mirror c.loop-link.link c.args.sends.now c.loop-link.sends c.loop-link.row c.index-sends-sender.result c.sender_of-sender.result c.deref_mut.result.now c.look_one.new.link
+      whole = row-whole c.args.mirror c.loop-link.link c.args.sends.now c.loop-link.sends c.loop-link.row
+          c.index-sends-sender.result c.sender_of-sender.result c.deref_mut.result.now c.look_one.new.link
           c.loop-link.invariant.sends below there which c.deref_mut.ensures.value c.look_one.ensures.whole c.loop-link.invariant.whole;
     }
 
 pub returns-clause-row : goal.returns-clause-row
 returns-clause-row c =
-    up_to-end SameReceived c.loop-link.link c.args.row.now c.loop-link.row (let long = c.loop-link.auto.row in let t = c.loop-link-test.false in let e = c.loop-link.auto.link-end in omega arith) c.loop-link.invariant.row
+    up_to-end SameReceived c.loop-link.link c.args.row.now c.loop-link.row
+    (let long = c.loop-link.auto.row in let t = c.loop-link-test.false in let e = c.loop-link.auto.link-end in
+    omega arith) c.loop-link.invariant.row
 
 pub returns-clause-whole : goal.returns-clause-whole
 returns-clause-whole c = λ sent all j r below here. c.loop-link.invariant.whole sent all j r (let t = c.loop-link-test.false in omega arith) here

@@ -12,7 +12,8 @@ loop-link-preserved c =
     let far = c.loop-link.auto.sends in
     let count = c.requires.count in
     let there = c.requires.there in
-    row-more c.args.mirror c.loop-link.link c.sender_of-sender.result c.args.rooms.now c.args.sends.now c.loop-link.sends c.loop-link.row c.join_mirrors.new.row c.index-sends-sender.result c.join_mirrors.new.sends
+    row-more c.args.mirror c.loop-link.link c.sender_of-sender.result c.args.rooms.now c.args.sends.now
+    c.loop-link.sends c.loop-link.row c.join_mirrors.new.row c.index-sends-sender.result c.join_mirrors.new.sends
     c.sender_of-sender.ensures
     (sender-below c.args.mirror c.loop-link.link (length c.args.rooms.now - 1) (length c.loop-link.sends) c.sender_of-sender.result t (omega arith) c.sender_of-sender.ensures)
     c.in_ok-join_mirrors.ensures c.loop-link.invariant

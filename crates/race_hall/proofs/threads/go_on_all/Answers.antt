@@ -29,7 +29,8 @@ loop-one-preserved g c = (
     passed = λ jobs zip.
         passed-more _ _ jobs c.loop-one.going.items c.push_reserved.new.self.items c.go_on.result c.in-Some.one c.next.new.self.rest.items c.loop-one.one-iterator.rest.items
         c.push_reserved.ensures.items c.in-Some.ensures.steps.0 (λ job h. c.go_on.ensures job h) (c.loop-one.invariant.2.passed jobs zip);
-    room = (let is = ap (λ l. length l) c.in-Some.ensures.steps.0 in let old = c.loop-one.invariant.2.room in let a = c.push_reserved.ensures.len in let b = c.push_reserved.ensures.capacity in omega arith);
+    room = (let is = ap (λ l. length l) c.in-Some.ensures.steps.0 in let old = c.loop-one.invariant.2.room in
+        let a = c.push_reserved.ensures.len in let b = c.push_reserved.ensures.capacity in omega arith);
   },
 )
 

@@ -12,5 +12,18 @@ parts line number word = simp append_assoc
 pub returns : goal.returns
 unfolding refused_text
 returns c =
-    rw (c.push_str-7.ensures.bytes, c.push_str-6.ensures.bytes, c.push_str-5.ensures.bytes, c.push_str-4.ensures.bytes, c.push_str-3.ensures.bytes, c.push_str-2.ensures.bytes, c.push_str.ensures.bytes, c.new-line.ensures, c.format.ensures.text, c.format-2.ensures.text, c.number.ensures, c.word.ensures)
+    rw (
+      c.push_str-7.ensures.bytes,
+      c.push_str-6.ensures.bytes,
+      c.push_str-5.ensures.bytes,
+      c.push_str-4.ensures.bytes,
+      c.push_str-3.ensures.bytes,
+      c.push_str-2.ensures.bytes,
+      c.push_str.ensures.bytes,
+      c.new-line.ensures,
+      c.format.ensures.text,
+      c.format-2.ensures.text,
+      c.number.ensures,
+      c.word.ensures,
+    )
     (parts _ _ _)

@@ -24,12 +24,14 @@ unfolding agreement_text
 texts-differ number mirrors e =
     lines-differ (append_cancel_right _ _ done_line (append_cancel_left (lines_of_mirrors 0 mirrors) _ _ (append_cancel_left (soak_line number 4096) _ _ e)))
 
-yes : {W : Type 0} (rules : Rules W) (world : W) (number : ℕ) (mirrors : List (MirrorState W)) (text : List ℕ) (same : Bool) → (IsTrue same ↔ AreAllAt rules world mirrors) → text ≡ agreement_text number mirrors same
+yes : {W : Type 0} (rules : Rules W) (world : W) (number : ℕ) (mirrors : List (MirrorState W)) (text : List ℕ)
+    (same : Bool) → (IsTrue same ↔ AreAllAt rules world mirrors) → text ≡ agreement_text number mirrors same
     → text ≡ agreement_text number mirrors true → AreAllAt rules world mirrors
 yes rules world number mirrors text true decided is says = decided.0 refl
 yes rules world number mirrors text false decided is says = absurd (texts-differ number mirrors (sym says ∙ is))
 
-no : {W : Type 0} (rules : Rules W) (world : W) (number : ℕ) (mirrors : List (MirrorState W)) (text : List ℕ) (same : Bool) → (IsTrue same ↔ AreAllAt rules world mirrors) → text ≡ agreement_text number mirrors same
+no : {W : Type 0} (rules : Rules W) (world : W) (number : ℕ) (mirrors : List (MirrorState W)) (text : List ℕ)
+    (same : Bool) → (IsTrue same ↔ AreAllAt rules world mirrors) → text ≡ agreement_text number mirrors same
     → text ≡ agreement_text number mirrors false → AreAllAt rules world mirrors → ⊥
 no rules world number mirrors text true decided is says all = texts-differ number mirrors (sym is ∙ says)
 no rules world number mirrors text false decided is says all = (let e : false ≡ true = decided.1 all in absurd cc)

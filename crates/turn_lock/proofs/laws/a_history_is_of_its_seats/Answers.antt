@@ -15,7 +15,9 @@ all-behind : {X : Type 0} (P : X → Type 0) (front rest : List X) (x : X) → A
 all-behind P [] rest x all = all.0
 all-behind P (y ∷ front) rest x all = all-behind P front rest x all.1
 
-unseen-at : {C R : Type 0} (seats : List (Member C R)) (k : ℕ) (log : List (Entry C R)) → AllByRecursion (λ m. m.seen ≡ []) seats → k < length (map (λ (m : Member C R). m.seen) seats) → slice_index_or (map (λ (m : Member C R). m.seen) seats) k log ≡ log → log ≡ []
+unseen-at : {C R : Type 0} (seats : List (Member C R)) (k : ℕ) (log : List (Entry C R))
+    → AllByRecursion (λ m. m.seen ≡ []) seats → k < length (map (λ (m : Member C R). m.seen) seats)
+    → slice_index_or (map (λ (m : Member C R). m.seen) seats) k log ≡ log → log ≡ []
 unseen-at [] k log all few at = absurd (omega arith)
 unseen-at (m ∷ seats) zero log all few at = sym at ∙ all.0
 unseen-at (m ∷ seats) (suc k) log all few at = unseen-at seats k log all.1 (omega arith) at

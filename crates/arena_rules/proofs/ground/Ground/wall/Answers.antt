@@ -28,4 +28,5 @@ returns-clause-cells c =
     let height : c.self.inside.height ≡ c.args.self.now.height = ap (λ (g : Grid). g.height) c.self.view_is in
     let rows : length c.self.inside.walls ≡ length c.args.self.now.walls = ap (λ (g : Grid). length g.walls) c.self.view_is in
     let within : c.args.y < length c.args.self.now.walls = omega (arith, height, rows, c.requires.row, c.self.invariant.rows, c.self.invariant.height.1) in
-    λ a b. subst (λ (g : Grid). IsWalled g a b ↔ (IsWalled c.args.self.now a b ⊎ ((a ≡ c.args.x) × (b ≡ c.args.y)))) (sym (returns-clause-walled c)) (IsWalled-with_wall c.args.self.now c.args.x c.args.y a b within)
+    λ a b. subst (λ (g : Grid). IsWalled g a b ↔ (IsWalled c.args.self.now a b ⊎ ((a ≡ c.args.x) × (b ≡ c.args.y))))
+    (sym (returns-clause-walled c)) (IsWalled-with_wall c.args.self.now c.args.x c.args.y a b within)

@@ -12,6 +12,8 @@ invariant_of-self c =
     let p = c.args.player in
     rw (c.deref_mut.ensures.value, refill-set, c.place_number.ensures) (record {
       count = omega (arith, length-set items n p, c.self.invariant.count);
-      front = rw (length-set items n p) (take-set c.self.inside.numbers n (length items) (place_number p.state) ∙ ap (λ l. set l n (place_number p.state)) c.self.invariant.front ∙ sym (map-set (λ q. place_number q.state) items n p));
+      front = rw (length-set items n p) (take-set c.self.inside.numbers n (length items) (place_number p.state)
+          ∙ ap (λ l. set l n (place_number p.state)) c.self.invariant.front
+          ∙ sym (map-set (λ q. place_number q.state) items n p));
       live = are_live-put items n p c.self.inside.may_be_dead c.is_live.result c.is_live.ensures c.self.invariant.live;
     })

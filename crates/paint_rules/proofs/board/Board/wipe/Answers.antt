@@ -11,4 +11,5 @@ invariant_of-self c = record {
 
 pub returns-else-self : goal.returns-else-self
 returns-else-self c =
-    rw (← c.self.view_is) (ap (λ o. record { owners = o; pickups = c.self.inside.pickups.items }) (sym (wiped-clean c.self.inside.pickups.items c.self.inside.cells (c.self.invariant.clean c.if-self.false))))
+    rw (← c.self.view_is) (ap (λ o. record { owners = o; pickups = c.self.inside.pickups.items })
+    (sym (wiped-clean c.self.inside.pickups.items c.self.inside.cells (c.self.invariant.clean c.if-self.false))))

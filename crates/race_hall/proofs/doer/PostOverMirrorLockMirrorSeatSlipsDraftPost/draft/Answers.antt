@@ -7,7 +7,9 @@ use Rattle.race_hall.proofs.Posting.{draft-fits, drawn-told, readied-draft}
 use Rattle.race_hall.proofs.doer.PostOverMirrorLockMirrorSeatSlipsDraftPost.draft.Goals as goal
 
 pub draft_into-requires-clause-fits : goal.draft_into-requires-clause-fits
-draft_into-requires-clause-fits g c = draft-fits g.G.Game.rules (view c.self.inside.seat.seat) c.args.copy (subst (λ s. FitsSeat (mirror_rules g.G.Game.rules) (view s.seat) (Event (Step c.args.copy))) (sym c.self.view_is) c.requires.takes)
+draft_into-requires-clause-fits g c = draft-fits g.G.Game.rules (view c.self.inside.seat.seat) c.args.copy
+    (subst (λ s. FitsSeat (mirror_rules g.G.Game.rules) (view s.seat) (Event (Step c.args.copy))) (sym c.self.view_is)
+    c.requires.takes)
 
 pub invariant_of-self : goal.invariant_of-self
 invariant_of-self g c = (
@@ -18,7 +20,8 @@ invariant_of-self g c = (
 
 pub returns-clause-drawn : goal.returns-clause-drawn
 returns-clause-drawn g c =
-    rw c.drawn_in.ensures (drawn-told g.G.Game.rules (view c.self.inside.seat.seat) (view c.draft_into.new.seat.seat) c.args.copy c.draft_into.new.reply c.self.inside.seat.opened c.draft_into.ensures.called)
+    rw c.drawn_in.ensures (drawn-told g.G.Game.rules (view c.self.inside.seat.seat) (view c.draft_into.new.seat.seat)
+    c.args.copy c.draft_into.new.reply c.self.inside.seat.opened c.draft_into.ensures.called)
 
 pub returns-clause-takes : goal.returns-clause-takes
 returns-clause-takes g c = λ e h. c.draft_into.ensures.fits (Event e) (subst (λ s. FitsSeat (mirror_rules g.G.Game.rules) (view s.seat) (Event e)) (sym c.self.view_is) h)
