@@ -18,7 +18,7 @@ abbrev Near : Spot → Type 0
 Near home = (home.x < 64) × (home.y < 64)
 
 -- other cells have their owners elsewhere
-apart : (a b : Cell) → a.x < 64 → b.x < 64 → same_cell a b ≡ false → cell_place a ≢ cell_place b
+pub apart : (a b : Cell) → a.x < 64 → b.x < 64 → same_cell a b ≡ false → cell_place a ≢ cell_place b
 apart a b near close other = λ same.
     let column : a.x ≡ b.x = omega (arith, same) in
     let row : a.y ≡ b.y = omega (arith, same, column) in

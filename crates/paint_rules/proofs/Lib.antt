@@ -5,3 +5,4 @@ mod Lines
 mod Computing
 mod Homes
 mod Marks
+mod Left

@@ -5,6 +5,7 @@
 mod block;
 mod board;
 mod cells;
+pub mod laws;
 mod paint;
 mod painting;
 mod players;
