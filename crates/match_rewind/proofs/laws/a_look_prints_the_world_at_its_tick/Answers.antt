@@ -25,5 +25,10 @@ more show opening commands (t ∷ ts) us =
     ap (λ (l : List ℕ). block_text show.lines show.names (at_head t) (time_ordered show.rules opening commands t) ++ l) (more show opening commands ts us)
     ∙ sym (append_assoc (block_text show.lines show.names (at_head t) (time_ordered show.rules opening commands t)) (looks_text show opening commands ts) (looks_text show opening commands us))
 
+all : {W : Type 0} (show : Showing W) (opening : W) (m : MatchData) (room : ℕ) (ticks : List ℕ)
+    → rewind_text show opening m room ticks ≡ looks_text show opening m.commands ticks ++ (hits_line (hits_of room [] ticks) ++ done_line)
+unfolding rewind_text
+all show opening m room ticks = refl
+
 pub returns : goal.returns
-returns g c = record { one = λ show opening m room tick. one show opening m room tick; more = λ show opening commands ts us. more show opening commands ts us }
+returns g c = record { one = λ show opening m room tick. one show opening m room tick; all = λ show opening m room ticks. all show opening m room ticks; more = λ show opening commands ts us. more show opening commands ts us }
