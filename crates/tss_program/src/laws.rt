@@ -2,6 +2,7 @@
 //! contract of a function without parameters that does nothing.
 
 ghost use Rattle.std.specs.Prelude.{◌≡◌, ◌<◌, ◌≤◌, ◌⊎◌, ◌↔◌, ℕ, true, false, Option, List, [], None, Some, ◌++◌, length, take};
+ghost use Rattle.std.specs.List.{AllByRecursion};
 ghost use Rattle.tss_io.specs.Streams.{Rose, Gains};
 ghost use Rattle.tss_io.specs.declared.cause.Cause.TheVariants.{Number};
 ghost use Rattle.game_trait.specs.Ordered.{time_ordered};
@@ -16,7 +17,11 @@ ghost use Rattle.run_recorder.specs.declared.log.MirrorLog.{MirrorLog};
 ghost use Rattle.run_recorder.specs.Data.{IsRecord};
 ghost use Rattle.run_recorder.specs.Text.{record_text};
 ghost use Rattle.run_auditor.specs.Audit.{IsLegalRecord};
+ghost use Rattle.report_text.specs.Ends.{done_line};
+ghost use Rattle.report_text.specs.Soak.{soak_line, same_line};
 ghost use Rattle.report_text.specs.Worlds.{Showing};
+ghost use Rattle.soak.specs.Soak.{IsSoaked};
+ghost use Rattle.soak.specs.Answer.{soak_opening, soaked, whole_lines};
 ghost use Rattle.match_hall.specs.Report.{play_text};
 ghost use Rattle.run_recorder.specs.declared.race_record.RaceRecord.{RaceRecord};
 ghost use Rattle.run_auditor.specs.declared.verdict.Verdict.TheVariants.{Legal};
@@ -198,6 +203,21 @@ pub fn kept_logs_are_of_the_match()
 pub fn soaks_are_whole()
     ensures { (r : Run) (number : ℕ) → IsRun r → asked r ≡ Some (Soak number) → r.status ≡ 0
         → SoaksWhole number r.sink_old.bytes r.sink_new.bytes r.kept }
+{}
+
+/// What a whole soak is: the match of its number has 8 mirrors, each of which was played as soaking
+/// promises, and whose logs are kept. The text has a line for each of them and says that the copies
+/// agree.
+pub fn a_whole_soak_tells_of_each_mirror()
+    ensures mirrors { (number : ℕ) (old new : Option (List ℕ)) (kept : List MirrorLog)
+        → SoaksWhole number old new kept → (length (soaked number) ≡ 8)
+        × AllByRecursion (IsSoaked arena_rules soak_opening number) (soaked number)
+        × (kept ≡ logs_from 0 (soaked number)) }
+    ensures text { (number : ℕ) (old new : Option (List ℕ)) (kept : List MirrorLog)
+        (bytes : List ℕ) → SoaksWhole number old new kept → old ≡ Some bytes
+        → (repairs : List ℕ) × (length repairs ≡ 8)
+        × (new ≡ Some (bytes ++ (soak_line number 4096
+        ++ (whole_lines 0 repairs ++ (same_line true ++ done_line))))) }
 {}
 
 /// A mirror that joins late: at status 7 no tick was left for it, and at status 0 what was put
