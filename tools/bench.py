@@ -318,7 +318,7 @@ def time_races(program, kind, runs):
 
 
 def main():
-    parser = argparse.ArgumentParser()
+    parser = argparse.ArgumentParser(description=__doc__, formatter_class=argparse.RawDescriptionHelpFormatter)
     parser.add_argument("program")
     parser.add_argument("--word", choices=("order", "play", "score", "audit", "soak", "race", "beside", "lock"), default="order")
     parser.add_argument("--text", choices=("plain", "script", "late", "copies", "falling", "arena", "large", *HALLS))

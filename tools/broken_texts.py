@@ -2,7 +2,7 @@
 """Damages match texts at random, and takes each count at its limit and one past it, and compares the reader's answers with a slow
 reader that is written after the page of the format.
 
-Usage: broken_texts.py PROGRAM SEED COUNT [WORD ..]
+    python3 tools/broken_texts.py PROGRAM SEED COUNT [WORD ..]
 
 PROGRAM is run with the WORDs (default: `lift`) for each text on its standard input. A text that it refuses gets status 5 and the line
 `refused line L cause C WORD`. Where the slow reader finds no fault, PROGRAM must not answer status 5 with one of a line above 0.
@@ -10,6 +10,7 @@ With `--batch` as the first WORD, PROGRAM reads many texts at once, each as a li
 for each: `ok`, or the refusal.
 """
 
+import argparse
 import random
 import subprocess
 import sys
@@ -353,7 +354,13 @@ def told(fault):
 
 
 def main():
-    program, seed, count, words = sys.argv[1], int(sys.argv[2]), int(sys.argv[3]), sys.argv[4:] or ["lift"]
+    parser = argparse.ArgumentParser(description=__doc__, formatter_class=argparse.RawDescriptionHelpFormatter)
+    parser.add_argument("program", metavar="PROGRAM")
+    parser.add_argument("seed", metavar="SEED", type=int)
+    parser.add_argument("count", metavar="COUNT", type=int, help="how many texts are drawn")
+    parser.add_argument("words", metavar="WORD", nargs=argparse.REMAINDER, help="what PROGRAM is run with (default: lift)")
+    given = parser.parse_args()
+    program, seed, count, words = given.program, given.seed, given.count, given.words or ["lift"]
     r = random.Random(seed)
     texts = [damaged(r, good_text(r)) if r.random() < 0.95 else "".join(x + "\n" for x in good_text(r)).encode() for _ in range(count)]
     texts += limit_texts()

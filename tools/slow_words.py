@@ -9,6 +9,7 @@ at some ticks have to print what `slow_model.py` says, which is written from the
 and the exit status is then 1. Default: 200 matches of seed 1.
 """
 
+import argparse
 import random
 import subprocess
 import sys
@@ -95,8 +96,12 @@ def runs_of(draw, match):
 
 
 def main():
-    program = sys.argv[1]
-    seed, count = (int(word) for word in (sys.argv[2:] + ["1", "200"][len(sys.argv) - 2:])[:2])
+    parser = argparse.ArgumentParser(description=__doc__, formatter_class=argparse.RawDescriptionHelpFormatter)
+    parser.add_argument("program", metavar="PROGRAM")
+    parser.add_argument("seed", metavar="SEED", type=int, nargs="?", default=1)
+    parser.add_argument("count", metavar="COUNT", type=int, nargs="?", default=200, help="how many matches are drawn")
+    given = parser.parse_args()
+    program, seed, count = given.program, given.seed, given.count
     draw, runs = random.Random(seed), 0
     for number in range(count):
         for words, given, status, lines in runs_of(draw, match_of(draw)):

@@ -60,6 +60,18 @@ class Files(unittest.TestCase):
         return path
 
 
+class Helps(unittest.TestCase):
+    def test_each_tool_says_its_use(self):
+        folder = os.path.join(TOP, "tools")
+        for name in sorted(name for name in os.listdir(folder) if name.endswith(".py")):
+            if not read(os.path.join(folder, name)).startswith("#!"):
+                continue  # what tools share, which nobody runs
+            with self.subTest(name):
+                printed, said, status = tool(name, "--help")
+                self.assertEqual((said, status), ("", 0))
+                self.assertIn(f"    python3 tools/{name}", printed)
+
+
 class Traces(Files):
     def test_the_program_accepts_what_a_trace_makes(self):
         text, said, status = tool("match_of_trace.py", SAMPLE)
