@@ -60,6 +60,28 @@ class Files(unittest.TestCase):
         return path
 
 
+class Failures(unittest.TestCase):
+    """What `main` does with a failure: no test of a crate sees the real streams and standard error."""
+
+    def ended(self, given, taken):
+        done = subprocess.run([PROGRAM, "order"], stdin=given, stdout=taken, stderr=subprocess.PIPE)
+        return done.returncode, done.stderr.decode()
+
+    def test_a_folder_is_no_input(self):
+        folder = os.open(TOP, os.O_RDONLY)
+        self.addCleanup(os.close, folder)
+        self.assertEqual(self.ended(folder, subprocess.DEVNULL), (3, "tss: reading standard input failed\n"))
+
+    def test_a_full_device_takes_nothing(self):
+        with open(os.path.join(TOP, "examples", "late.match"), "rb") as match, open("/dev/full", "wb") as full:
+            self.assertEqual(self.ended(match, full), (4, "tss: writing standard output failed\n"))
+
+    def test_nothing_is_said_where_nothing_failed(self):
+        with open(os.path.join(TOP, "examples", "late.match"), "rb") as match:
+            self.assertEqual(self.ended(match, subprocess.DEVNULL), (0, ""))
+        self.assertEqual(self.ended(subprocess.DEVNULL, subprocess.DEVNULL), (5, ""))
+
+
 class Helps(unittest.TestCase):
     def test_each_tool_says_its_use(self):
         folder = os.path.join(TOP, "tools")
