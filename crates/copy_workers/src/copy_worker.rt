@@ -76,12 +76,12 @@ pub fn run_copy<G: Game, P: DraftPost<G>, Q: Gate>(post: &mut P, gate: &Q, job: 
     ensures same { (p : P) → P.same p post.old → P.same p post.new }
 {
     let mut end = CopyEnd { ran: 0, turns: 0 };
-    let mut rest = Rest::new();
+    let mut rest = Rest::new(job.copy);
     'turns: while end.ran < job.length && end.turns < job.budget {
         gate.pass(job.mirror, job.copy, end.turns);
-        rest.until_due::<G, P>(post, job.copy);
+        rest.until_due::<G, P>(post);
         let turn = run_turn::<G, P>(post, job.copy);
-        rest.after(turn.idle);
+        rest.after(post, turn.idle);
         end.ran += turn.ran;
         end.turns += 1;
     }

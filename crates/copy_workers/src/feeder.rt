@@ -284,12 +284,12 @@ pub fn run_feeder<P: Post, Q: Gate>(post: &mut P, gate: &Q, job: FeederJob) -> F
         taken: 0,
         turns: 0,
     };
-    let mut rest = Rest::new();
+    let mut rest = Rest::new(copies);
     while feeder.clock < end && feeder.turns < budget {
         let before = feeder.progress();
         gate.pass(mirror, copies, feeder.turns);
         feeder.turn(post);
-        rest.after(feeder.progress() == before);
+        rest.after(post, feeder.progress() == before);
     }
     feeder.ended()
 }

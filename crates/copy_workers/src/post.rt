@@ -70,4 +70,13 @@ pub trait Post {
         ensures takes { (e : AnEvent) → takes self.old e → takes self.new e }
         ensures same { (p : Self) → same p self.old → same p self.new }
         ensures bare { bare self.new };
+
+    /// Sleeps for a moment, as short as the system has them. Nothing is proved of it: it asks
+    /// nothing, and uses up no call.
+    fn nap(&self);
+
+    /// How many naps in a row are worth while for a worker that finds nothing to do: for that of the
+    /// copy of this number, or for the feeder, whose number is that of copies. It is a guess that
+    /// nothing is proved of.
+    fn patience(&self, worker: u8) -> u32;
 }

@@ -1,102 +1,67 @@
 //! How a worker that finds nothing to do leaves the processor to the others.
 
 use crate::draft_post::DraftPost;
+use crate::post::Post;
 use game_trait::Game;
-use std::thread;
 
-// The most yields of one rest.
-const MOST_YIELDS: u32 = 64;
+// The most naps between two turns of a copy's worker.
+const MOST_WAITS: u32 = 64;
 
-// The most yields between two turns of a copy's worker.
-const MOST_WAITS: u32 = 256;
+// How many naps of a worker its rests may have in all.
+const ALL_NAPS: u32 = 8_192;
 
-// How many yields of a worker its rests may have in all.
-const ALL_YIELDS: u32 = 131_072;
-
-// How many yields a worker may make in a row that finds nothing to do.
-const PATIENCE: u32 = 8_192;
-
-// How many turns go by without a yield once a worker has no yields left, or no patience.
-const HURRIED_TURNS: u32 = 63;
-
-/// How long a worker rests that finds nothing to do: the longer the oftener it found nothing. One
-/// that found nothing for long, or that has rested so long in all, hurries: it yields only once in 64
-/// turns, so that one that never finds anything to do is soon done with its turns. The idle ones
-/// would else take most turns of the lock that they share with the others.
+/// How a worker rests that finds nothing to do: by naps, in which it sleeps, so that others have
+/// the processor and the lock. One that napped for so long in a row as its post finds worth while,
+/// or so long in all, hurries: it naps no more, and is soon done with its turns.
 #[derive(Clone, Copy)]
 pub struct Rest {
-    // How many yields the next rest has.
-    yields: u32,
-    // How many are left in all, and in a row.
+    // Who rests: a copy, or the feeder, whose number is that of copies.
+    worker: u8,
+    // How many naps it took in a row.
+    taken: u32,
+    // How many are left in all.
     left: u32,
-    patience: u32,
-    // How many turns went by since the last yield of one that hurries.
-    hurried: u32,
 }
 
 impl Rest {
-    /// Before anything was found or not.
-    pub fn new() -> Rest {
+    /// Before this worker found anything to do or nothing.
+    pub fn new(worker: u8) -> Rest {
         Rest {
-            yields: 1,
-            left: ALL_YIELDS,
-            patience: PATIENCE,
-            hurried: 0,
+            worker,
+            taken: 0,
+            left: ALL_NAPS,
         }
     }
 
-    // Whether no yield is left, in all or in a row.
-    fn hurries(&self) -> bool {
-        self.left == 0 || self.patience == 0
+    // Whether no nap is left, in all or in a row.
+    fn hurries<P: Post>(&self, post: &P) -> bool {
+        self.left == 0 || self.taken >= post.patience(self.worker)
     }
 
-    // Counts so many yields.
-    fn spend(&mut self, yields: u32) {
-        self.left = self.left.saturating_sub(yields);
-        self.patience = self.patience.saturating_sub(yields);
+    // Takes a nap.
+    fn nap<P: Post>(&mut self, post: &P) {
+        post.nap();
+        self.taken = self.taken.saturating_add(1);
+        self.left = self.left.saturating_sub(1);
     }
 
-    // Lets turns go by, and yields the processor once in a while.
-    fn hurry(&mut self) {
-        if self.hurried < HURRIED_TURNS {
-            self.hurried += 1;
-        } else {
-            self.hurried = 0;
-            thread::yield_now();
-        }
-    }
-
-    /// After a turn. Where nothing was found to do, it yields the processor to other threads, each
-    /// time twice as often as before, up to a bound.
-    pub fn after(&mut self, idle: bool) {
+    /// After a turn: it naps where nothing was found to do, unless it hurries.
+    pub fn after<P: Post>(&mut self, post: &P, idle: bool) {
         if !idle {
-            self.yields = 1;
-            self.patience = PATIENCE;
-            return;
-        }
-        if self.hurries() {
-            self.hurry();
-            return;
-        }
-        let yields = self.yields;
-        for _ in 0..yields {
-            thread::yield_now();
-        }
-        self.spend(yields);
-        if self.yields < MOST_YIELDS {
-            self.yields *= 2;
+            self.taken = 0;
+        } else if !self.hurries(post) {
+            self.nap(post);
         }
     }
 
-    /// Before a turn of a copy's worker: it yields the processor until a tick of the copy seems to
-    /// be due, up to a bound and unless it hurries.
-    pub fn until_due<G: Game, P: DraftPost<G>>(&mut self, post: &P, copy: u8) {
+    /// Before a turn of a copy's worker: it naps until a tick of its copy seems to be due, up to a
+    /// bound and unless it hurries.
+    pub fn until_due<G: Game, P: DraftPost<G>>(&mut self, post: &P) {
         for _ in 0..MOST_WAITS {
-            if self.hurries() || post.seems_due(copy) {
+            if post.seems_due(self.worker) || self.hurries(post) {
                 return;
             }
-            thread::yield_now();
-            self.spend(1);
+            self.nap(post);
         }
     }
 }

@@ -13,7 +13,7 @@ ghost use Rattle.mirror_lock.specs.declared.calls.LockCall.TheVariants.{Commit a
 ghost use Rattle.mirror_lock.specs.declared.calls.LockReply.TheVariants.{Draft as ToDraft};
 ghost use Rattle.copy_workers.specs.Trail.{draw_of};
 
-use crate::board::Board;
+use crate::board::{Board, Notes};
 use crate::threads::{Doer, Task};
 use copy_workers::{
     CopyEnd, CopyJob, DraftPost, Draw, FeederEnd, FeederJob, Gate, Post, run_copy, run_feeder,
@@ -82,7 +82,7 @@ fn feed_over<R: Wait, G: Game, P: Gate>(
     rt: &R,
     gate: &P,
     lock: &MirrorLock<G>,
-    board: Option<&Board>,
+    notes: Notes,
     seat: MirrorSeat<G>,
     job: FeederJob,
 ) -> (MirrorSeat<G>, FeederEnd)
@@ -91,8 +91,11 @@ fn feed_over<R: Wait, G: Game, P: Gate>(
     ensures same { SameSeat seat.seat result.0.seat }
     ensures fed { FeederEnds job result.1 [] (asked_by (view result.0.seat)) }
 {
-    let mut post = PostOver::new(rt, lock, board, seat, Slips::new());
+    let mut post = PostOver::new(rt, lock, notes, seat, Slips::new());
+    let worker = job.copies;
+    notes.begin(worker);
     let end = run_feeder(&mut post, gate, job);
+    notes.end(worker);
     (post.into_seat(), end)
 }
 
@@ -101,7 +104,7 @@ fn copy_over<R: Wait, G: Game, P: Gate>(
     rt: &R,
     gate: &P,
     lock: &MirrorLock<G>,
-    board: Option<&Board>,
+    notes: Notes,
     seat: MirrorSeat<G>,
     job: CopyJob,
 ) -> (MirrorSeat<G>, CopyEnd)
@@ -111,8 +114,10 @@ fn copy_over<R: Wait, G: Game, P: Gate>(
     ensures ran { CopyEnds job result.1 [] (asked_by (view result.0.seat))
         [] (trail_by (view result.0.seat)) }
 {
-    let mut post = PostOver::new(rt, lock, board, seat, Slips::new());
+    let mut post = PostOver::new(rt, lock, notes, seat, Slips::new());
+    notes.begin(job.copy);
     let end = run_copy::<G, _, P>(&mut post, gate, job);
+    notes.end(job.copy);
     (post.into_seat(), end)
 }
 
@@ -123,7 +128,7 @@ pub fn do_job<R: Wait, G: Game, P: Gate>(
     rt: &R,
     gate: &P,
     lock: &MirrorLock<G>,
-    board: Option<&Board>,
+    notes: Notes,
     job: JobOver<MirrorSeat<G>>,
 ) -> EndOver<MirrorSeat<G>>
     requires own { job.seat.seat.table_id ≡ lock.now.lock.table.shared.table_id }
@@ -133,7 +138,7 @@ pub fn do_job<R: Wait, G: Game, P: Gate>(
     let JobOver { mirror, seat, work } = job;
     match work {
         Work::Copy(job) => {
-            let (seat, end) = copy_over(rt, gate, lock, board, seat, job);
+            let (seat, end) = copy_over(rt, gate, lock, notes, seat, job);
             EndOver {
                 mirror,
                 seat,
@@ -141,7 +146,7 @@ pub fn do_job<R: Wait, G: Game, P: Gate>(
             }
         }
         Work::Feeder(job) => {
-            let (seat, end) = feed_over(rt, gate, lock, board, seat, job);
+            let (seat, end) = feed_over(rt, gate, lock, notes, seat, job);
             EndOver {
                 mirror,
                 seat,
@@ -196,8 +201,8 @@ impl<'a, R: Wait, P: Gate, G: Game> Doer<JobOver<MirrorSeat<G>>, EndOver<MirrorS
 
     fn work(&self, task: JobOver<MirrorSeat<G>>) -> EndOver<MirrorSeat<G>> {
         let lock = &self.locks[usize::from(task.mirror)];
-        let board = self.boards.get(usize::from(task.mirror));
-        do_job(self.rt, self.gate, lock, board, task)
+        let notes = Notes::new(self.boards, task.mirror);
+        do_job(self.rt, self.gate, lock, notes, task)
     }
 }
 
@@ -238,7 +243,7 @@ impl<G: Game> Keeps<MirrorSeat<G>> for Slips<G> {
 pub struct PostOver<'a, R: Wait, L: Named, T: Named, B: Keeps<T>> {
     rt: &'a R,
     lock: &'a L,
-    board: Option<&'a Board>,
+    notes: Notes<'a>,
     seat: T,
     slips: B,
 }
@@ -260,7 +265,7 @@ impl<'a, R: Wait, L: Named, T: Named, B: Keeps<T>> PostOver<'a, R, L, T, B> {
     pub fn new(
         rt: &'a R,
         lock: &'a L,
-        board: Option<&'a Board>,
+        notes: Notes<'a>,
         seat: T,
         slips: B,
     ) -> PostOver<'a, R, L, T, B>
@@ -271,7 +276,7 @@ impl<'a, R: Wait, L: Named, T: Named, B: Keeps<T>> PostOver<'a, R, L, T, B> {
         PostOver {
             rt,
             lock,
-            board,
+            notes,
             seat,
             slips,
         }
@@ -286,7 +291,7 @@ impl<'a, R: Wait, L: Named, T: Named, B: Keeps<T> + Drop> PostOver<'a, R, L, T, 
         let PostOver {
             rt: _,
             lock: _,
-            board: _,
+            notes: _,
             seat,
             slips: _,
         } = self;
@@ -294,19 +299,10 @@ impl<'a, R: Wait, L: Named, T: Named, B: Keeps<T> + Drop> PostOver<'a, R, L, T, 
     }
 }
 
-// Notes an answer on the board.
-fn note(board: Option<&Board>, event: &Event, reply: Reply) {
-    if let Some(board) = board {
-        board.note(event, reply);
-    }
-}
-
 // Notes on the board that a copy ran a tick, where it did.
-fn note_ran(board: Option<&Board>, copy: u8, committed: &Committed) {
-    if let Some(board) = board {
-        if let Committed::Ran { repaired: _ } = committed {
-            board.note_ran(copy);
-        }
+fn note_ran(notes: Notes, copy: u8, committed: &Committed) {
+    if let Committed::Ran { repaired: _ } = committed {
+        notes.note_ran(copy);
     }
 }
 
@@ -361,8 +357,16 @@ impl<'a, R: Wait, G: Game> Post for PostOver<'a, R, MirrorLock<G>, MirrorSeat<G>
 
     fn ask(&mut self, event: &Event) -> Reply {
         let reply = self.lock.ask(self.rt, &mut self.seat, event);
-        note(self.board, event, reply);
+        self.notes.note(event, reply);
         reply
+    }
+
+    fn nap(&self) {
+        turn_lock::nap(self.rt);
+    }
+
+    fn patience(&self, worker: u8) -> u32 {
+        self.notes.patience(worker)
     }
 }
 
@@ -406,15 +410,12 @@ impl<'a, R: Wait, G: Game> DraftPost<G>
         let committed = self
             .lock
             .commit_from(self.rt, &mut self.seat, &self.slips.ready);
-        note_ran(self.board, copy, &committed);
+        note_ran(self.notes, copy, &committed);
         committed
     }
 
     fn seems_due(&self, copy: u8) -> bool {
-        match self.board {
-            Some(board) => board.seems_due(copy),
-            None => true,
-        }
+        self.notes.seems_due(copy)
     }
 
     ghost laws = { λ p none. none };

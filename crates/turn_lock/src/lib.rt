@@ -8,14 +8,16 @@
 //!
 //! A thread waits by tickets. It looks for a while whether nobody is in the queue, and draws a ticket
 //! then, or all the same after so many looks; with it, it looks whether its ticket is served, again
-//! and again. Between two looks it pauses a little, and every so often it yields the processor; it
-//! never sleeps. Where it needn't wait, a call costs two atomic additions, three atomic loads, two
-//! moves of a pointer, since the object lies on the heap, and what the object does. Each call hands
-//! the turn to the thread that drew the next ticket, and that one may be off its processor, which
-//! holds up all behind. So hardly anyone is put off with a ticket in its hand, who had to yield
-//! while it waited yields some more after its call, and the queue stays short. `start` takes all
-//! memory; `call` and `close` take none. The lock's rule counts tickets: each that was drawn is
-//! passed on, or a seat holds it, so none is lost, for which all behind would wait for good.
+//! and again. Between two looks it pauses a little, and every so often it naps: it sleeps for as
+//! short a time as the system has, some sixty microseconds, and no one has to wake it. A thread that
+//! yields the processor would give up its share of it instead, and beside other work get it back
+//! milliseconds later. Where a thread needn't wait, a call costs two atomic additions, three atomic
+//! loads, two moves of a pointer, since the object lies on the heap, and what the object does. Each
+//! call hands the turn to the thread that drew the next ticket, and that one may be off its
+//! processor, which holds up all behind: so hardly anyone is put off with a ticket in its hand.
+//! `start` takes all memory; `call` and `close` take none. The lock's rule counts tickets: each that
+//! was drawn is passed on, or a seat holds it, so none is lost, for which all behind would wait for
+//! good.
 //!
 //! What isn't promised: that a turn ever comes, or when. A seat that was dropped can't be brought
 //! to `close`. Before `close` no clause says how what two seats have seen compares.
@@ -33,6 +35,7 @@ mod law;
 pub mod laws;
 mod lock;
 mod named;
+mod napping;
 mod place;
 mod plays;
 mod seat;
@@ -46,6 +49,7 @@ pub use history::Entry;
 pub use law::{Law, Plan};
 pub use lock::{Counts, LockOver, TurnLock};
 pub use named::Named;
+pub use napping::nap;
 pub use place::Place;
 pub use seat::{Rests, SeatOver, TurnSeat};
 pub use share::Share;
