@@ -165,7 +165,7 @@ fn push_crew<T: Drop>(
 }
 
 // Locks a mirror of a match as it begins, and puts the jobs over its seats behind the others.
-fn man<G: Game>(
+fn man_mirror<G: Game>(
     alloc: Global,
     m: &Match,
     opening: &G,
@@ -212,7 +212,7 @@ pub fn crews<G: Game>(
     let mut locks = Vec::new(alloc);
     let mut jobs = Vec::new(alloc);
     for feeder in feeders {
-        let lock = man(alloc, m, opening, &plans, feeder, &mut jobs)?;
+        let lock = man_mirror(alloc, m, opening, &plans, feeder, &mut jobs)?;
         locks.push(lock)?;
     }
     Ok((locks, jobs))

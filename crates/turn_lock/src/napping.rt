@@ -4,8 +4,8 @@ use std::sync::Wait;
 use std::sync::atomic::AtomicU64;
 use std::time::Duration;
 
-// How long a nap is at least, in microseconds; the system adds some fifty.
-const NAP: u64 = 1;
+// How long a nap is at least, in microseconds; the system adds about as much.
+const NAP: u64 = 50;
 
 /// Sleeps for a moment, as short as the system has them. A thread that yields the processor instead
 /// gives up its whole share of it, and gets it back only once others have spent theirs.

@@ -15,8 +15,8 @@ loop-feeder-init g c = (
   by_mirror-none _ _ _ c.new-locks.ensures.items c.new-jobs.ensures.items,
 )
 
-pub man-requires-clause-feeder : goal.man-requires-clause-feeder
-man-requires-clause-feeder g c =
+pub man_mirror-requires-clause-feeder : goal.man_mirror-requires-clause-feeder
+man_mirror-requires-clause-feeder g c =
     let r = c.requires.feeders in
     let at = numbered-at (IsFeederOf (course_of c.args.m.now) r.0) 0 c.args.m.now.mirrors c.args.feeders.items
     c.loop-feeder.yielded c.loop-feeder.feeder-iterator.rest.items c.next.new.self.rest.items c.in-Some.feeder
@@ -24,16 +24,16 @@ man-requires-clause-feeder g c =
     subst (λ (n : ℕ). IsFeederOf (course_of c.args.m.now) n c.in-Some.feeder.mirror c.in-Some.feeder) (sym at.0.budget_is)
     (subst (λ (k : ℕ). IsFeederOf (course_of c.args.m.now) r.0 k c.in-Some.feeder) (sym at.0.mirror) at.0)
 
-pub man-requires-clause-there : goal.man-requires-clause-there
-man-requires-clause-there g c =
+pub man_mirror-requires-clause-there : goal.man_mirror-requires-clause-there
+man_mirror-requires-clause-there g c =
     let r = c.requires.feeders in
     let at = numbered-at (IsFeederOf (course_of c.args.m.now) r.0) 0 c.args.m.now.mirrors c.args.feeders.items
     c.loop-feeder.yielded c.loop-feeder.feeder-iterator.rest.items c.next.new.self.rest.items c.in-Some.feeder
     r.2 c.loop-feeder.invariant.2 c.in-Some.ensures.steps.0 in
     (let a = at.0.mirror in let b = at.1 in omega arith)
 
-pub man-requires-clause-budget : goal.man-requires-clause-budget
-man-requires-clause-budget g c =
+pub man_mirror-requires-clause-budget : goal.man_mirror-requires-clause-budget
+man_mirror-requires-clause-budget g c =
     let r = c.requires.feeders in
     let at = numbered-at (IsFeederOf (course_of c.args.m.now) r.0) 0 c.args.m.now.mirrors c.args.feeders.items
     c.loop-feeder.yielded c.loop-feeder.feeder-iterator.rest.items c.next.new.self.rest.items c.in-Some.feeder

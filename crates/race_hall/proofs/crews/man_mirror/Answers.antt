@@ -10,7 +10,7 @@ use Rattle.race_hall.specs.Raced.{course_of}
 use Rattle.race_hall.specs.Crews.{shares_of}
 use Rattle.race_hall.proofs.Lining.{match-course, plan-short, few-commands, foreign-whole}
 use Rattle.race_hall.proofs.Manned.{few-calls, few-grows, shares-long, opens, manned-crew}
-use Rattle.race_hall.proofs.crews.man.Goals as goal
+use Rattle.race_hall.proofs.crews.man_mirror.Goals as goal
 
 pub new-requires-clause-equal_ticks : goal.new-requires-clause-equal_ticks
 new-requires-clause-equal_ticks g c =
