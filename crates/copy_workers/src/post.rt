@@ -71,9 +71,9 @@ pub trait Post {
         ensures same { (p : Self) → same p self.old → same p self.new }
         ensures bare { bare self.new };
 
-    /// Sleeps for a moment, as short as the system has them. Nothing is proved of it: it asks
-    /// nothing, and uses up no call.
-    fn nap(&self);
+    /// Sleeps for a moment, longer where so many naps were taken in a row. Nothing is proved of it:
+    /// it asks nothing, and uses up no call.
+    fn nap(&self, taken: u32);
 
     /// How many naps in a row are worth while for a worker that finds nothing to do: for that of the
     /// copy of this number, or for the feeder, whose number is that of copies. It is a guess that

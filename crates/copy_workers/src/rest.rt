@@ -8,7 +8,7 @@ use game_trait::Game;
 const MOST_WAITS: u32 = 64;
 
 // How many naps of a worker its rests may have in all.
-const ALL_NAPS: u32 = 8_192;
+const ALL_NAPS: u32 = 4_096;
 
 /// How a worker rests that finds nothing to do: by naps, in which it sleeps, so that others have
 /// the processor and the lock. One that napped for so long in a row as its post finds worth while,
@@ -40,7 +40,7 @@ impl Rest {
 
     // Takes a nap.
     fn nap<P: Post>(&mut self, post: &P) {
-        post.nap();
+        post.nap(self.taken);
         self.taken = self.taken.saturating_add(1);
         self.left = self.left.saturating_sub(1);
     }

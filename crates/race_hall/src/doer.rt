@@ -34,6 +34,16 @@ pub enum Work {
     Feeder(FeederJob),
 }
 
+impl Work {
+    // The worker's number: its copy's, or for the feeder that of copies.
+    fn worker(&self) -> u8 {
+        match self {
+            Work::Copy(job) => job.copy,
+            Work::Feeder(job) => job.copies,
+        }
+    }
+}
+
 /// How the work ended.
 #[derive(Drop)]
 pub enum WorkEnd {
@@ -204,6 +214,10 @@ impl<'a, R: Wait, P: Gate, G: Game> Doer<JobOver<MirrorSeat<G>>, EndOver<MirrorS
         let notes = Notes::new(self.boards, task.mirror);
         do_job(self.rt, self.gate, lock, notes, task)
     }
+
+    fn keep(&self, task: &JobOver<MirrorSeat<G>>) {
+        Notes::new(self.boards, task.mirror).end(task.work.worker());
+    }
 }
 
 /// What a post keeps beside its seat `T`.
@@ -361,8 +375,8 @@ impl<'a, R: Wait, G: Game> Post for PostOver<'a, R, MirrorLock<G>, MirrorSeat<G>
         reply
     }
 
-    fn nap(&self) {
-        turn_lock::nap(self.rt);
+    fn nap(&self, taken: u32) {
+        turn_lock::nap(self.rt, Notes::nap_length(taken));
     }
 
     fn patience(&self, worker: u8) -> u32 {

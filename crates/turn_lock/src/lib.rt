@@ -8,8 +8,8 @@
 //!
 //! A thread waits by tickets. It looks for a while whether nobody is in the queue, and draws a ticket
 //! then, or all the same after so many looks; with it, it looks whether its ticket is served, again
-//! and again. Between two looks it pauses a little, and every so often it naps: it sleeps for as
-//! short a time as the system has, some hundred microseconds, and no one has to wake it. A thread that
+//! and again. Between two looks it pauses a little, and every so often it naps: it sleeps for some
+//! hundred microseconds, about as short a time as the system has, and no one has to wake it. One that
 //! yields the processor would give up its share of it instead, and beside other work get it back
 //! milliseconds later. Where a thread needn't wait, a call costs two atomic additions, three atomic
 //! loads, two moves of a pointer, since the object lies on the heap, and what the object does. Each
