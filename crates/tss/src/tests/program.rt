@@ -18,8 +18,8 @@ use std::alloc::Global;
 use std::process::Abort;
 use std::sync::Wait;
 use std::thread::Threads;
-use tss_io::{MemSink, MemSource};
-use tss_program::{Done, run_watched};
+use tss_io::{MemSink, MemSource, Seq};
+use tss_program::{Done, Status, run_watched};
 
 // What a run is given, and how it has to end. Its text is a front that other rows may have, too, and
 // the rest.
@@ -129,6 +129,13 @@ const FAILURES: [&str; 8] = [
     "nothing",
     "nothing",
 ];
+
+// No row's run is in want of memory.
+#[test]
+fn want_of_memory_is_said(rt: HostRuntime) {
+    let done = Done::of(Status::NoMemory, Seq::new(rt.alloc()));
+    assert_eq!(rt; (done.status, done.failure()), (1, Some("out of memory")));
+}
 
 // Asserts that a run of this row ends so over these streams, in which a call may fail, with so many
 // bytes of what is due: at a failed call a front of it, and else all.

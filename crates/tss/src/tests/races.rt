@@ -6,7 +6,7 @@ use arena_rules::Arena;
 use copy_workers::Gate;
 use match_file::{Match, read_match};
 use mirror_core::Mirror;
-use race_hall::{race, race_with};
+use race_hall::{budget_of, race, race_with};
 use run_recorder::print_record;
 use std::alloc::Global;
 use std::process::Abort;
@@ -333,6 +333,16 @@ fn ties_raced<R: Threads + Wait + Sync + Abort, P: Gate + Sync>(
     let opening = Arena::start(&m.setup);
     let mirrors = race(rt, alloc, &m, &opening, gate).expect(rt, "memory");
     printed(rt, alloc, m, mirrors.as_slice())
+}
+
+// 64 turns for each tick of a mirror's clock, which ends at the length and the longest delay, and 64
+// more.
+#[test]
+fn a_race_has_turns_for_all_work(rt: HostRuntime) {
+    for (text, budget) in [(TIES, 448), (THREE, 640), (ALONE, 640)] {
+        let m = read_match(rt.alloc(), text.as_bytes()).expect(&rt, "a match");
+        assert_eq!(rt; budget_of(&m), budget, "the turns of a job of {text}");
+    }
 }
 
 // A race has a budget, of 448 turns a job here, and each job makes its turns.
