@@ -17,7 +17,7 @@ ghost use Rattle.trailing_copy.specs.Stack.{AreStaggered};
 
 use crate::clocks::{count_above, kept, kept_with};
 use crate::due::due_into;
-use crate::repairs::{append_ahead, bring_up, settled_by};
+use crate::repairs::{bring_to_list_end, remake_runs_ahead, settled_by};
 use crate::ticks::execute_or_put;
 use crate::worlds::{apply_to_each, make_worlds};
 use arrayvec::ArrayVec;
@@ -162,8 +162,8 @@ impl<G: Game> LazyStack<G> {
             t,
             given,
         );
-        bring_up(&mut self.run, copy, from);
-        append_ahead(&mut self.run, &self.list, &clocks, copy);
+        bring_to_list_end(&mut self.run, copy, from);
+        remake_runs_ahead(&mut self.run, &self.list, &clocks, copy);
         let stale = self.stale.max(copy);
         let settled = settled_by(copy, self.settled);
         self.stale = stale;
@@ -327,8 +327,8 @@ impl<G: Game> LazyStack<G> {
         self.run.cut(last);
         let from = self.run.len();
         self.run.push(&Item::Cmd(*x));
-        bring_up(&mut self.run, last, from);
-        append_ahead(&mut self.run, &self.list, &clocks, first);
+        bring_to_list_end(&mut self.run, last, from);
+        remake_runs_ahead(&mut self.run, &self.list, &clocks, first);
     }
 
     // The arrival of a command that is late at no copy.

@@ -17,8 +17,8 @@ push-requires g c =
     late c.requires.order (rw (← c.self.view_is) at c.requires.level) in
     room-before c.self.invariant.0 c.len.ensures.falls c.len.ensures.first change c.cut.ensures
 
-pub bring_up-requires-clause-at : goal.bring_up-requires-clause-at
-bring_up-requires-clause-at g c =
+pub bring_to_list_end-requires-clause-at : goal.bring_to_list_end-requires-clause-at
+bring_to_list_end-requires-clause-at g c =
     let late = rw (← c.self.view_is) at c.requires.late in
     let change =
     late-change c.self.invariant.0 c.len.ensures.falls c.len.ensures.first c.args.x.now
@@ -29,8 +29,8 @@ bring_up-requires-clause-at g c =
     λ j some upto. ends-at c.self.invariant.0 c.len.ensures.falls c.len.ensures.first change
     c.cut.ensures grown j some upto ∙ sym c.len-from.ensures.len
 
-pub append_ahead-requires-clause-level : goal.append_ahead-requires-clause-level
-append_ahead-requires-clause-level g c =
+pub remake_runs_ahead-requires-clause-level : goal.remake_runs_ahead-requires-clause-level
+remake_runs_ahead-requires-clause-level g c =
     let late = rw (← c.self.view_is) at c.requires.late in
     let change =
     late-change c.self.invariant.0 c.len.ensures.falls c.len.ensures.first c.args.x.now
@@ -39,10 +39,10 @@ append_ahead-requires-clause-level g c =
     late c.requires.order (rw (← c.self.view_is) at c.requires.level) in
     let grown = c.push.ensures ∙ grown-push c.cut.new.self _ in
     (given c.self.invariant.0 c.len.ensures.falls c.len.ensures.first change c.cut.ensures grown
-    c.bring_up.ensures).level
+    c.bring_to_list_end.ensures).level
 
-pub append_ahead-requires-clause-clock : goal.append_ahead-requires-clause-clock
-append_ahead-requires-clause-clock g c =
+pub remake_runs_ahead-requires-clause-clock : goal.remake_runs_ahead-requires-clause-clock
+remake_runs_ahead-requires-clause-clock g c =
     let late = rw (← c.self.view_is) at c.requires.late in
     let change =
     late-change c.self.invariant.0 c.len.ensures.falls c.len.ensures.first c.args.x.now
@@ -51,10 +51,10 @@ append_ahead-requires-clause-clock g c =
     late c.requires.order (rw (← c.self.view_is) at c.requires.level) in
     let grown = c.push.ensures ∙ grown-push c.cut.new.self _ in
     rw (c.deref.ensures.0, c.kept-clocks.ensures, c.clocks.ensures) (given c.self.invariant.0 c.len.ensures.falls c.len.ensures.first change c.cut.ensures grown
-    c.bring_up.ensures).clock
+    c.bring_to_list_end.ensures).clock
 
-pub append_ahead-requires-clause-falls : goal.append_ahead-requires-clause-falls
-append_ahead-requires-clause-falls g c =
+pub remake_runs_ahead-requires-clause-falls : goal.remake_runs_ahead-requires-clause-falls
+remake_runs_ahead-requires-clause-falls g c =
     let late = rw (← c.self.view_is) at c.requires.late in
     let change =
     late-change c.self.invariant.0 c.len.ensures.falls c.len.ensures.first c.args.x.now
@@ -63,10 +63,10 @@ append_ahead-requires-clause-falls g c =
     late c.requires.order (rw (← c.self.view_is) at c.requires.level) in
     let grown = c.push.ensures ∙ grown-push c.cut.new.self _ in
     rw (c.deref.ensures.0, c.kept-clocks.ensures, c.clocks.ensures) (given c.self.invariant.0 c.len.ensures.falls c.len.ensures.first change c.cut.ensures grown
-    c.bring_up.ensures).falls
+    c.bring_to_list_end.ensures).falls
 
-pub append_ahead-requires-clause-room : goal.append_ahead-requires-clause-room
-append_ahead-requires-clause-room g c =
+pub remake_runs_ahead-requires-clause-room : goal.remake_runs_ahead-requires-clause-room
+remake_runs_ahead-requires-clause-room g c =
     let late = rw (← c.self.view_is) at c.requires.late in
     let change =
     late-change c.self.invariant.0 c.len.ensures.falls c.len.ensures.first c.args.x.now
@@ -75,7 +75,7 @@ append_ahead-requires-clause-room g c =
     late c.requires.order (rw (← c.self.view_is) at c.requires.level) in
     let grown = c.push.ensures ∙ grown-push c.cut.new.self _ in
     rw (c.deref.ensures.0, c.kept-clocks.ensures, c.clocks.ensures, c.insert.ensures) (given c.self.invariant.0 c.len.ensures.falls c.len.ensures.first change c.cut.ensures grown
-    c.bring_up.ensures).room
+    c.bring_to_list_end.ensures).room
 
 pub insert-requires-then-last-settled-clause-room : goal.insert-requires-then-last-settled-clause-room
 insert-requires-then-last-settled-clause-room g c =
@@ -148,14 +148,14 @@ invariant_of-self-2 g c =
     c.max-stale.result c.args.last c.apply_to_each.new.worlds.items (omega arith) change.there
     (λ i from upto. (rw (← c.self.view_is) at c.requires.level) i (omega arith) upto)
     c.apply_to_each.ensures.each c.apply_to_each.ensures.behind (omega arith) in
-    let items = rw (c.deref.ensures.0, c.kept-clocks.ensures, c.clocks.ensures, c.insert.ensures) at c.append_ahead.ensures.items in
-    let ends = rw (c.deref.ensures.0, c.kept-clocks.ensures, c.clocks.ensures, c.insert.ensures) at c.append_ahead.ensures.ends in
+    let items = rw (c.deref.ensures.0, c.kept-clocks.ensures, c.clocks.ensures, c.insert.ensures) at c.remake_runs_ahead.ensures.items in
+    let ends = rw (c.deref.ensures.0, c.kept-clocks.ensures, c.clocks.ensures, c.insert.ensures) at c.remake_runs_ahead.ensures.ends in
     rw c.insert.ensures (kept-own
     (kept-stale c.self.invariant.0 c.len.ensures.falls c.len.ensures.first change
-    c.cut.ensures grown c.bring_up.ensures c.append_ahead.new.run items ends
-    c.append_ahead.ensures.spare c.max-stale.result (omega arith) (omega arith) (omega arith) put)
+    c.cut.ensures grown c.bring_to_list_end.ensures c.remake_runs_ahead.new.run items ends
+    c.remake_runs_ahead.ensures.spare c.max-stale.result (omega arith) (omega arith) (omega arith) put)
     (settled-after c.self.invariant.0 c.len.ensures.falls c.len.ensures.first change
-    c.cut.ensures grown c.bring_up.ensures c.append_ahead.new.run items ends))
+    c.cut.ensures grown c.bring_to_list_end.ensures c.remake_runs_ahead.new.run items ends))
 
 pub returns : goal.returns
 returns g c =
@@ -168,7 +168,7 @@ returns g c =
     let grown = c.push.ensures ∙ grown-push c.cut.new.self _ in
     rw (← c.self.view_is, c.insert.ensures, c.max-stale.ensures) (same-state _ _ _ _ _ _ _
     (runs-remade c.self.invariant.0 c.len.ensures.falls c.len.ensures.first change c.cut.ensures
-    grown c.bring_up.ensures c.append_ahead.new.run
-    (rw (c.deref.ensures.0, c.kept-clocks.ensures, c.clocks.ensures, c.insert.ensures) at c.append_ahead.ensures.items)
-    (rw (c.deref.ensures.0, c.kept-clocks.ensures, c.clocks.ensures, c.insert.ensures) at c.append_ahead.ensures.ends)
-    c.append_ahead.ensures.spare))
+    grown c.bring_to_list_end.ensures c.remake_runs_ahead.new.run
+    (rw (c.deref.ensures.0, c.kept-clocks.ensures, c.clocks.ensures, c.insert.ensures) at c.remake_runs_ahead.ensures.items)
+    (rw (c.deref.ensures.0, c.kept-clocks.ensures, c.clocks.ensures, c.insert.ensures) at c.remake_runs_ahead.ensures.ends)
+    c.remake_runs_ahead.ensures.spare))

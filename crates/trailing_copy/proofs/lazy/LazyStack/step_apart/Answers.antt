@@ -40,8 +40,8 @@ execute_or_put-requires-clause-few g c =
     let small = c.len-2.type_inv in
     omega arith
 
-pub bring_up-requires-clause-at : goal.bring_up-requires-clause-at
-bring_up-requires-clause-at g c =
+pub bring_to_list_end-requires-clause-at : goal.bring_to_list_end-requires-clause-at
+bring_to_list_end-requires-clause-at g c =
     let there = rw (← c.self.view_is) at c.requires.copy in
     let at = clock-own _ _ c.args.copy c.beats-t.result there c.beats-t.ensures in
     let change =
@@ -51,8 +51,8 @@ bring_up-requires-clause-at g c =
     λ j some upto. ends-at c.self.invariant.0 c.len.ensures.falls c.len.ensures.first change
     c.cut.ensures c.append_tick.ensures j some upto ∙ sym c.len-from.ensures.len
 
-pub append_ahead-requires-clause-clock : goal.append_ahead-requires-clause-clock
-append_ahead-requires-clause-clock g c =
+pub remake_runs_ahead-requires-clause-clock : goal.remake_runs_ahead-requires-clause-clock
+remake_runs_ahead-requires-clause-clock g c =
     let there = rw (← c.self.view_is) at c.requires.copy in
     let at = clock-own _ _ c.args.copy c.beats-t.result there c.beats-t.ensures in
     let change =
@@ -61,10 +61,10 @@ append_ahead-requires-clause-clock g c =
     (rw (← c.self.view_is) at c.requires.behind) (rw (← c.self.view_is) at c.requires.apart) in
     rw (c.deref.ensures.0, c.kept_with-clocks.ensures, c.clocks.ensures) (given c.self.invariant.0 c.len.ensures.falls c.len.ensures.first change
     c.cut.ensures
-    c.append_tick.ensures c.bring_up.ensures).clock
+    c.append_tick.ensures c.bring_to_list_end.ensures).clock
 
-pub append_ahead-requires-clause-falls : goal.append_ahead-requires-clause-falls
-append_ahead-requires-clause-falls g c =
+pub remake_runs_ahead-requires-clause-falls : goal.remake_runs_ahead-requires-clause-falls
+remake_runs_ahead-requires-clause-falls g c =
     let there = rw (← c.self.view_is) at c.requires.copy in
     let at = clock-own _ _ c.args.copy c.beats-t.result there c.beats-t.ensures in
     let change =
@@ -73,10 +73,10 @@ append_ahead-requires-clause-falls g c =
     (rw (← c.self.view_is) at c.requires.behind) (rw (← c.self.view_is) at c.requires.apart) in
     rw (c.deref.ensures.0, c.kept_with-clocks.ensures, c.clocks.ensures) (given c.self.invariant.0 c.len.ensures.falls c.len.ensures.first change
     c.cut.ensures
-    c.append_tick.ensures c.bring_up.ensures).falls
+    c.append_tick.ensures c.bring_to_list_end.ensures).falls
 
-pub append_ahead-requires-clause-room : goal.append_ahead-requires-clause-room
-append_ahead-requires-clause-room g c =
+pub remake_runs_ahead-requires-clause-room : goal.remake_runs_ahead-requires-clause-room
+remake_runs_ahead-requires-clause-room g c =
     let there = rw (← c.self.view_is) at c.requires.copy in
     let at = clock-own _ _ c.args.copy c.beats-t.result there c.beats-t.ensures in
     let change =
@@ -85,7 +85,7 @@ append_ahead-requires-clause-room g c =
     (rw (← c.self.view_is) at c.requires.behind) (rw (← c.self.view_is) at c.requires.apart) in
     rw (c.deref.ensures.0, c.kept_with-clocks.ensures, c.clocks.ensures) (given c.self.invariant.0 c.len.ensures.falls c.len.ensures.first change
     c.cut.ensures
-    c.append_tick.ensures c.bring_up.ensures).room
+    c.append_tick.ensures c.bring_to_list_end.ensures).room
 
 pub invariant_of-self : goal.invariant_of-self
 invariant_of-self g c =
@@ -98,8 +98,8 @@ invariant_of-self g c =
     let inside = change.there in
     let few = c.self.invariant.0.few_stale in
     let d = c.self.inside.opening in
-    let items = rw (c.deref.ensures.0, c.kept_with-clocks.ensures, c.clocks.ensures) at c.append_ahead.ensures.items in
-    let ends = rw (c.deref.ensures.0, c.kept_with-clocks.ensures, c.clocks.ensures) at c.append_ahead.ensures.ends in
+    let items = rw (c.deref.ensures.0, c.kept_with-clocks.ensures, c.clocks.ensures) at c.remake_runs_ahead.ensures.items in
+    let ends = rw (c.deref.ensures.0, c.kept_with-clocks.ensures, c.clocks.ensures) at c.remake_runs_ahead.ensures.ends in
     let put =
     apart-put c.self.invariant.0 c.len.ensures.falls c.len.ensures.first c.args.copy
     c.beats-t.result _ change.there
@@ -107,12 +107,12 @@ invariant_of-self g c =
     c.beats-t.result d (option_copied c.args.given) change.there at (rw (← c.self.view_is) at c.requires.given)) in
     rw (c.execute_or_put.ensures.worlds d, c.max-stale.ensures) (kept-own
     (kept-stale c.self.invariant.0 c.len.ensures.falls c.len.ensures.first change c.cut.ensures
-    c.append_tick.ensures c.bring_up.ensures
-    c.append_ahead.new.run items ends c.append_ahead.ensures.spare _ (omega arith) (omega arith)
+    c.append_tick.ensures c.bring_to_list_end.ensures
+    c.remake_runs_ahead.new.run items ends c.remake_runs_ahead.ensures.spare _ (omega arith) (omega arith)
     (omega arith) put)
     (settled-apart c.self.invariant.0 c.len.ensures.falls c.len.ensures.first change c.cut.ensures
-    c.append_tick.ensures c.bring_up.ensures
-    c.append_ahead.new.run items ends c.beats-t.result at refl refl refl _
+    c.append_tick.ensures c.bring_to_list_end.ensures
+    c.remake_runs_ahead.new.run items ends c.beats-t.result at refl refl refl _
     c.settled_by-settled.result c.self.invariant.1 c.settled_by-settled.ensures.front
     c.settled_by-settled.ensures.other))
 
@@ -126,9 +126,9 @@ returns-clause-runs g c =
     (rw (← c.self.view_is) at c.requires.behind) (rw (← c.self.view_is) at c.requires.apart) in
     rw (← c.self.view_is, c.max-stale.ensures) (same-state _ _ _ _ _ _ _
     (runs-remade c.self.invariant.0 c.len.ensures.falls c.len.ensures.first change c.cut.ensures
-    c.append_tick.ensures c.bring_up.ensures
-    c.append_ahead.new.run (rw (c.deref.ensures.0, c.kept_with-clocks.ensures, c.clocks.ensures) at c.append_ahead.ensures.items)
-    (rw (c.deref.ensures.0, c.kept_with-clocks.ensures, c.clocks.ensures) at c.append_ahead.ensures.ends) c.append_ahead.ensures.spare))
+    c.append_tick.ensures c.bring_to_list_end.ensures
+    c.remake_runs_ahead.new.run (rw (c.deref.ensures.0, c.kept_with-clocks.ensures, c.clocks.ensures) at c.remake_runs_ahead.ensures.items)
+    (rw (c.deref.ensures.0, c.kept_with-clocks.ensures, c.clocks.ensures) at c.remake_runs_ahead.ensures.ends) c.remake_runs_ahead.ensures.spare))
 
 pub returns-clause-repaired : goal.returns-clause-repaired
 returns-clause-repaired g c =

@@ -1,7 +1,7 @@
 use Rattle.std.proofs.Common.{◌≡◌, ◌≤◌, slice_index_or}
 use Rattle.pending_list.specs.Buckets.{start_of}
 use Rattle.trailing_copy.proofs.Ahead.{SoFar, Given}
-use Rattle.trailing_copy.proofs.repairs.append_ahead.Given as goal
+use Rattle.trailing_copy.proofs.repairs.remake_runs_ahead.Given as goal
 
 abbrev pub invariant-loop-c : goal.invariant-loop-c
 invariant-loop-c l = record {

@@ -1,7 +1,7 @@
 use Rattle.std.proofs.Common.{◌≡◌, ◌∙◌, ap, arith, length}
 use Rattle.executed_list.specs.Segments.{OneList, end_of}
 use Rattle.trailing_copy.proofs.Lists.{brought-more, filled-at}
-use Rattle.trailing_copy.proofs.repairs.bring_up.Goals as goal
+use Rattle.trailing_copy.proofs.repairs.bring_to_list_end.Goals as goal
 
 pub loop-c-preserved : goal.loop-c-preserved
 loop-c-preserved c =

@@ -2,7 +2,7 @@ use Rattle.std.proofs.Common.{◌-◌, subst, arith, ℕ}
 use Rattle.trailing_copy.proofs.Ahead.{SoFar, Given, start, clocks-fall, room-for, grown-length}
 use Rattle.trailing_copy.proofs.Ahead.{more, none-ahead_items, none-ahead_ends}
 use Rattle.trailing_copy.proofs.Lists.{one-more}
-use Rattle.trailing_copy.proofs.repairs.append_ahead.Goals as goal
+use Rattle.trailing_copy.proofs.repairs.remake_runs_ahead.Goals as goal
 
 pub returns-then-last-eq0-clause-items : goal.returns-then-last-eq0-clause-items
 returns-then-last-eq0-clause-items c =
@@ -42,8 +42,8 @@ append_ticks-place-requires-clause-room c =
     (one-more c.loop-c.c (omega arith)) c.loop-c.invariant.so_far in
     room-for c.loop-c.invariant.given (c.loop-c.c - 1) (omega arith) so_far
 
-pub bring_up-requires-clause-few : goal.bring_up-requires-clause-few
-bring_up-requires-clause-few c =
+pub bring_to_list_end-requires-clause-few : goal.bring_to_list_end-requires-clause-few
+bring_to_list_end-requires-clause-few c =
     let upto = c.loop-c.invariant.upto in
     let some = c.loop-c-test.true in
     let so_far =
@@ -70,5 +70,5 @@ loop-c-preserved c =
       given = c.loop-c.invariant.given;
       so_far =
           more c.loop-c.invariant.given (c.loop-c.c - 1) (omega arith) so_far
-          c.append_ticks-place.ensures.run c.bring_up.ensures;
+          c.append_ticks-place.ensures.run c.bring_to_list_end.ensures;
     }

@@ -1,6 +1,6 @@
 use Rattle.std.proofs.Common.{◌≡◌, length}
 use Rattle.executed_list.specs.Segments.{filled}
-use Rattle.trailing_copy.proofs.repairs.bring_up.Given as goal
+use Rattle.trailing_copy.proofs.repairs.bring_to_list_end.Given as goal
 
 abbrev pub invariant-loop-c : goal.invariant-loop-c
 invariant-loop-c l =
