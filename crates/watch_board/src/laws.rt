@@ -1,10 +1,11 @@
 //! What telling watchers comes to. Each law is the contract of a function without parameters that
 //! does nothing.
 
-ghost use Rattle.std.specs.Prelude.{◌≡◌, ◌++◌, ◌∷◌, ℕ, true, false, List};
+ghost use Rattle.std.specs.Prelude.{◌≡◌, ◌++◌, ◌∷◌, [], ℕ, true, false, List};
 ghost use Rattle.std.specs.List.{AllByRecursion};
 ghost use Rattle.game_trait.specs.declared.event.Note.{Note};
-ghost use Rattle.watch_board.specs.Behaviour.{Behaviour, leaves};
+ghost use Rattle.tss_io.specs.Lines.{as_line};
+ghost use Rattle.watch_board.specs.Behaviour.{Behaviour, leaves, told};
 ghost use Rattle.watch_board.specs.Board.{IsCutShort, board, last_lines, leaving_lines, still_there};
 ghost use Rattle.watch_board.specs.Told.{AreTold, after_notes, left_lines};
 
@@ -36,4 +37,19 @@ pub fn a_note_is_cut_short_where_one_leaves()
     ensures nobody { (note : Note) (old new : List Behaviour) (before after : List ℕ)
         → IsCutShort note old new before after
         → AllByRecursion (λ w. leaves note w ≡ false) old → ⊥ }
+{}
+
+/// A note goes to one watcher after another: who stays has taken it and has no line yet, and who
+/// leaves is gone and has its line, as of all that it was told.
+pub fn a_watcher_stays_or_leaves()
+    ensures nobody { (note : Note) → (still_there note [] ≡ []) × (leaving_lines note [] ≡ []) }
+    ensures stays { (note : Note) (one : Behaviour) (others : List Behaviour)
+        → leaves note one ≡ false
+        → (still_there note (one ∷ others) ≡ told note one ∷ still_there note others)
+        × (leaving_lines note (one ∷ others) ≡ leaving_lines note others) }
+    ensures leaves { (note : Note) (one : Behaviour) (others : List Behaviour)
+        → leaves note one ≡ true
+        → (still_there note (one ∷ others) ≡ still_there note others)
+        × (leaving_lines note (one ∷ others)
+        ≡ as_line (one.line (note ∷ [])) ++ leaving_lines note others) }
 {}
