@@ -130,13 +130,6 @@ const FAILURES: [&str; 8] = [
     "nothing",
 ];
 
-// No row's run is in want of memory.
-#[test]
-fn want_of_memory_is_said(rt: HostRuntime) {
-    let done = Done::of(Status::NoMemory, Seq::new(rt.alloc()));
-    assert_eq!(rt; (done.status, done.failure()), (1, Some("out of memory")));
-}
-
 // Asserts that a run of this row ends so over these streams, in which a call may fail, with so many
 // bytes of what is due: at a failed call a front of it, and else all.
 fn assert_ends<R: Threads + Wait + Sync + Abort>(
@@ -168,9 +161,16 @@ fn assert_rows<R: Threads + Wait + Sync + Abort>(rt: &R, alloc: Global, rows: &[
     }
 }
 
+// No row's run is in want of memory, so what is said then is asked for here.
 #[test]
 fn words_are_answered(rt: HostRuntime) {
     assert_rows(&rt, rt.alloc(), &WORDS);
+    let done = Done::of(Status::NoMemory, Seq::new(rt.alloc()));
+    assert_eq!(rt;
+        (done.status, done.failure()),
+        (1, Some("out of memory")),
+        "want of memory"
+    );
 }
 
 #[test]
