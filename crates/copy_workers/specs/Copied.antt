@@ -1,5 +1,5 @@
 -- What the worker of a copy promises: what it asks turn by turn, and where it ends.
-use Rattle.std.specs.Prelude.{◌≡◌, ℕ, ◌+◌, ◌<◌, ◌≤◌, ◌⊎◌, Bool, true, false, List, [], ◌∷◌, ◌++◌, length, flat_map}
+use Rattle.std.specs.Prelude.{◌≡◌, ℕ, ◌+◌, ◌<◌, ◌≤◌, ◌⊎◌, Bool, true, false, List, [], ◌∷◌, ◌++◌, length, flat_map, replicate}
 use Rattle.game_trait.specs.Count.{times}
 use Rattle.game_trait.specs.declared.event.Event.TheVariants.{Step}
 use Rattle.game_trait.specs.declared.event.Reply.{Reply}
@@ -47,13 +47,14 @@ is_ran Restaggered = false
 abbrev pub runs_in : List Asked → ℕ
 runs_in asked = times (λ p. is_ran p.reply) asked
 
--- one turn of copy c, in which it ran so many ticks
-pub record IsTurn (c count : ℕ) (asked asked_now : List Asked)
+-- so many turns of copy c, in which it ran so many ticks: one, or several at which none was due
+pub record AreTurns (c count ran : ℕ) (asked asked_now : List Asked)
     (trail trail_now : List TrailMark) : Type 0 where
   pub turn : CopyTurn
-  pub asks : asked_now ≡ asked ++ asked_of c turn
-  pub marks : trail_now ≡ trail ++ marks_of c turn
-  pub counts : count ≡ runs_in (asked_of c turn)
+  pub several : (count ≡ 1) ⊎ (turn ≡ CopyTurn.idle)
+  pub asks : asked_now ≡ asked ++ flat_map (asked_of c) (replicate count turn)
+  pub marks : trail_now ≡ trail ++ flat_map (marks_of c) (replicate count turn)
+  pub runs : ran ≡ runs_in (flat_map (asked_of c) (replicate count turn))
 
 -- before each turn the copy had run fewer ticks than the match has
 unfoldable pub RunsOn : ℕ → ℕ → ℕ → List CopyTurn → Type 0

@@ -1,5 +1,5 @@
 -- What a post's answers to a draft and to its return leave on its trail.
-use Rattle.std.specs.Prelude.{◌≡◌, ℕ, Option, None, Some, List, [], ◌∷◌}
+use Rattle.std.specs.Prelude.{◌≡◌, ℕ, Option, None, Some, List, [], ◌∷◌, replicate}
 use Rattle.game_trait.specs.declared.event.Event.TheVariants.{Step}
 use Rattle.game_trait.specs.declared.event.Reply.TheVariants.{Step as ToStep}
 use Rattle.game_trait.specs.declared.event.Stepped.TheVariants.{Ran as RanStep}
@@ -33,14 +33,15 @@ IsDrawn {W} c ADraft drawn = (d : DraftTick W) × (drawn ≡ Some d) × (d.copy 
 IsDrawn c NoTick drawn = drawn ≡ None
 IsDrawn c (ManyDue n) drawn = drawn ≡ None
 
--- the mark of what was answered where a draft was asked for
-abbrev pub draw_mark : ℕ → Draw → TrailMark
-draw_mark c ADraft = Drawn c
-draw_mark c NoTick = IdleMark c
-draw_mark c (ManyDue n) = WideMark c
+-- the marks of what was answered where a draft was asked for, so many times in a row if no tick was
+-- due
+abbrev pub draw_marks : ℕ → ℕ → Draw → List TrailMark
+draw_marks c times ADraft = Drawn c ∷ []
+draw_marks c times NoTick = replicate times (IdleMark c)
+draw_marks c times (ManyDue n) = WideMark c ∷ []
 
-abbrev pub draft_mark : {W : Type 0} → ℕ → Drafted W → TrailMark
-draft_mark c drafted = draw_mark c (draw_of drafted)
+abbrev pub draft_marks : {W : Type 0} → ℕ → ℕ → Drafted W → List TrailMark
+draft_marks c times drafted = draw_marks c times (draw_of drafted)
 
 -- the mark of what was answered where it was given back
 abbrev pub commit_mark : ℕ → Committed → TrailMark

@@ -27,18 +27,21 @@ pub enum Draw {
 /// world is handed about.
 pub trait DraftPost<G: Game>: Post {
     ghost use Rattle.sync_model.specs.Drafts.{DraftTick};
-    ghost use Rattle.copy_workers.specs.Trail.{IsDrawn, draw_mark, commit_mark, commit_asked};
+    ghost use Rattle.copy_workers.specs.Trail.{IsDrawn, draw_marks, commit_mark, commit_asked};
 
     /// The draft that the last call answered, which lies at the post, and none where it answered
     /// none.
     ghost drawn: { Self → Option (DraftTick G) };
 
-    /// Takes out the copy's due tick. It asks no event, and uses up a call. It may wait.
-    fn draft(&mut self, copy: u8) -> Draw
+    /// Takes out the copy's due tick. Where none is due, that is the answer to asking so many times
+    /// in a row, between which nothing changes: the trail has a mark for each of them. It asks no
+    /// event, and uses up one call. It may wait.
+    fn draft(&mut self, copy: u8, times: u64) -> Draw
         requires takes { Self.takes self.old (Step copy) }
         requires calls { 0 < Self.calls self.old }
         ensures drawn { IsDrawn copy result (drawn self.new) }
-        ensures trail { Self.trail self.new ≡ Self.trail self.old ++ draw_mark copy result ∷ [] }
+        ensures trail { Self.trail self.new
+            ≡ Self.trail self.old ++ draw_marks copy times result }
         ensures asked { Self.asked self.new ≡ Self.asked self.old }
         ensures calls { Self.calls self.new + 1 ≡ Self.calls self.old }
         ensures grows { Self.grows self.new ≡ Self.grows self.old }

@@ -196,10 +196,14 @@ impl Feeder {
 }
 
 impl Feeder {
-    // What a turn in which there was something to do moves: the clock, the commands that were taken,
-    // or the marks.
-    fn progress(&self) -> (Tick, u32, [Tick; 7]) {
-        (self.clock, self.taken, self.marks)
+    // What a turn in which there was something to do raises: the clock, the commands that were
+    // taken and the marks, in sum.
+    fn progress(&self) -> u64 {
+        let mut sum = u64::from(self.clock).wrapping_add(u64::from(self.taken));
+        for mark in self.marks {
+            sum = sum.wrapping_add(u64::from(mark));
+        }
+        sum
     }
 
     // What the feeder gives back.

@@ -13,7 +13,7 @@ ghost use Rattle.copy_workers.specs.declared.post.Asked.{Asked};
 ghost use Rattle.copy_workers.specs.declared.post.TrailMark.{TrailMark};
 ghost use Rattle.copy_workers.specs.Asking.{moves_in, ticks_in};
 ghost use Rattle.copy_workers.specs.Messages.{commands_in, IsOrderly};
-ghost use Rattle.copy_workers.specs.Copied.{CopyTurn, CopyEnds, RunsOn, asked_of, runs_in};
+ghost use Rattle.copy_workers.specs.Copied.{CopyTurn, CopyEnds, RunsOn, asked_of, marks_of, runs_in};
 ghost use Rattle.copy_workers.specs.Feeding.{joined};
 ghost use Rattle.copy_workers.specs.Fed.{FeederEnds, least_last, misses_between};
 
@@ -33,6 +33,7 @@ pub fn a_copy_worker_ends_where_it_is_done()
         (trail trail_now : List TrailMark)
         (h : CopyEnds job end asked asked_now trail trail_now)
         → (end.turns ≡ length h.works.turns) × (end.turns ≤ job.budget)
+        × (trail_now ≡ trail ++ flat_map (marks_of job.copy) h.works.turns)
         × (asked_now ≡ asked ++ flat_map (asked_of job.copy) h.works.turns)
         × (end.ran ≡ runs_in (flat_map (asked_of job.copy) h.works.turns)) }
 {}

@@ -15,7 +15,8 @@ pub struct Asked {
 }
 
 /// What a call of a post came to, for a trail of all its calls. `Asked` is an event that was asked;
-/// the others are of a draft of that copy.
+/// the others are of a draft of that copy. A call that asks for a draft many times leaves as many
+/// marks where no tick was due.
 #[derive(Clone, Copy, Debug, PartialEq, Eq)]
 pub enum TrailMark {
     /// An event was asked.

@@ -60,19 +60,19 @@ module _ {W : Type 0} (game : GameRules W) where
   front_sound s (x ∷ xs) ys sound = (sound.0, sound.1, front_sound (next_locked s x.call) xs ys sound.2)
 
   by_history :
-      (o : MirrorState W) (seen between : List (Entry (LockCall W) (LockReply W))) (n c : ℕ) (d : Drafted W)
-      → FitsLocked game (value (mirror_rules game) o seen) (Draft c)
-      → IsSound (mirror_rules game) o ((seen ++ between) ++ entry n (Draft c) (ToDraft d) ∷ [])
-      → IfDraft d (λ t. FitsLocked game (value (mirror_rules game) o ((seen ++ between) ++ entry n (Draft c) (ToDraft d) ∷ [])) (Commit (ready_of game t)))
+      (o : MirrorState W) (seen between : List (Entry (LockCall W) (LockReply W))) (i c n : ℕ) (d : Drafted W)
+      → FitsLocked game (value (mirror_rules game) o seen) (Draft c n)
+      → IsSound (mirror_rules game) o ((seen ++ between) ++ entry i (Draft c n) (ToDraft d) ∷ [])
+      → IfDraft d (λ t. FitsLocked game (value (mirror_rules game) o ((seen ++ between) ++ entry i (Draft c n) (ToDraft d) ∷ [])) (Commit (ready_of game t)))
   unfolding drafted_in
-  by_history o seen between n c d fits sound =
+  by_history o seen between i c n d fits sound =
       let rules = mirror_rules game in
       let s : MirrorState W = value (mirror_rules game) o (seen ++ between) in
-      let own : Entry (LockCall W) (LockReply W) = entry n (Draft c) (ToDraft d) in
+      let own : Entry (LockCall W) (LockReply W) = entry i (Draft c n) (ToDraft d) in
       let front = front_sound o (seen ++ between) (own ∷ []) sound in
-      let still : FitsLocked game s (Draft c) =
-      subst (λ (t : MirrorState W). FitsLocked game t (Draft c)) (sym (value-append rules o seen between))
-      (fits_after rules lawful (value rules o seen) between (Draft c) (sound_behind rules o seen between front) fits) in
+      let still : FitsLocked game s (Draft c n) =
+      subst (λ (t : MirrorState W). FitsLocked game t (Draft c n)) (sym (value-append rules o seen between))
+      (fits_after rules lawful (value rules o seen) between (Draft c n) (sound_behind rules o seen between front) fits) in
       let told : ToDraft d ≡ ToDraft (drafted game s c) = sound_last o (seen ++ between) own sound in
       let is : d ≡ drafted game s c = ap (drafted_in d) told in
       let same : value (mirror_rules game) o ((seen ++ between) ++ own ∷ []) ≡ s = value-append rules o (seen ++ between) (own ∷ []) in
@@ -82,13 +82,13 @@ module _ {W : Type 0} (game : GameRules W) where
 
   -- as its seat sees it
   pub ready_after_draft :
-      (v w : View (MirrorState W) (LockCall W) (LockReply W)) (c : ℕ) (d : Drafted W)
-      → FitsSeat (mirror_rules game) v (Draft c)
-      → IsCall (mirror_rules game) v (Draft c) (ToDraft d) w
+      (v w : View (MirrorState W) (LockCall W) (LockReply W)) (c n : ℕ) (d : Drafted W)
+      → FitsSeat (mirror_rules game) v (Draft c n)
+      → IsCall (mirror_rules game) v (Draft c n) (ToDraft d) w
       → IfDraft d (λ t. FitsSeat (mirror_rules game) w (Commit (ready_of game t)))
-  ready_after_draft v w c d fits call =
+  ready_after_draft v w c n d fits call =
       let rules = mirror_rules game in
-      let before : List (Entry (LockCall W) (LockReply W)) = (seen_of v ++ call.between) ++ entry (number_of v) (Draft c) (ToDraft d) ∷ [] in
+      let before : List (Entry (LockCall W) (LockReply W)) = (seen_of v ++ call.between) ++ entry (number_of v) (Draft c n) (ToDraft d) ∷ [] in
       let opened : w.opening ≡ v.opening = ap (λ (x : View (MirrorState W) (LockCall W) (LockReply W)). x.opening) call.after_is in
       let seen : seen_of w ≡ before = ap (λ (x : View (MirrorState W) (LockCall W) (LockReply W)). seen_of x) call.after_is in
       let sound : IfSome v.opening (λ o. IsSound rules o before) =
@@ -100,23 +100,23 @@ module _ {W : Type 0} (game : GameRules W) where
       any : (x : Drafted W) → IfDraft x (λ t. Unit {0})
       any (ADraft t) = tt
       any Idle = tt
-      any (Wide n) = tt
+      any (Wide due) = tt
 
       by_opening :
-          (x : Option (MirrorState W)) → IfSome x (λ o. FitsLocked game (value (mirror_rules game) o (seen_of v)) (Draft c))
-          → IfSome x (λ o. IsSound (mirror_rules game) o ((seen_of v ++ call.between) ++ entry (number_of v) (Draft c) (ToDraft d) ∷ []))
-          → IfDraft d (λ t. IfSome x (λ o. FitsLocked game (value (mirror_rules game) o ((seen_of v ++ call.between) ++ entry (number_of v) (Draft c) (ToDraft d) ∷ [])) (Commit (ready_of game t))))
+          (x : Option (MirrorState W)) → IfSome x (λ o. FitsLocked game (value (mirror_rules game) o (seen_of v)) (Draft c n))
+          → IfSome x (λ o. IsSound (mirror_rules game) o ((seen_of v ++ call.between) ++ entry (number_of v) (Draft c n) (ToDraft d) ∷ []))
+          → IfDraft d (λ t. IfSome x (λ o. FitsLocked game (value (mirror_rules game) o ((seen_of v ++ call.between) ++ entry (number_of v) (Draft c n) (ToDraft d) ∷ [])) (Commit (ready_of game t))))
       by_opening None f s = any d
-      by_opening (Some o) f s = by_history o (seen_of v) call.between (number_of v) c d f s
+      by_opening (Some o) f s = by_history o (seen_of v) call.between (number_of v) c n d f s
 
   -- the answer is one to a draft, and what it has may be committed
   pub told_after_draft :
-      (v w : View (MirrorState W) (LockCall W) (LockReply W)) (c : ℕ) (r : LockReply W)
+      (v w : View (MirrorState W) (LockCall W) (LockReply W)) (c n : ℕ) (r : LockReply W)
       → is_some v.opening ≡ true
-      → FitsSeat (mirror_rules game) v (Draft c)
-      → IsCall (mirror_rules game) v (Draft c) r w
+      → FitsSeat (mirror_rules game) v (Draft c n)
+      → IsCall (mirror_rules game) v (Draft c n) r w
       → (d : Drafted W) × (r ≡ ToDraft d) × IfDraft d (λ t. FitsSeat (mirror_rules game) w (Commit (ready_of game t)))
-  told_after_draft v w c r opened fits call =
-      let told = reply_is_said (mirror_rules game) v w (Draft c) r opened call in
+  told_after_draft v w c n r opened fits call =
+      let told = reply_is_said (mirror_rules game) v w (Draft c n) r opened call in
       let d : Drafted W = drafted game told.0 c in
-      (d, told.1, ready_after_draft v w c d fits (subst (λ (x : LockReply W). IsCall (mirror_rules game) v (Draft c) x w) told.1 call))
+      (d, told.1, ready_after_draft v w c n d fits (subst (λ (x : LockReply W). IsCall (mirror_rules game) v (Draft c n) x w) told.1 call))

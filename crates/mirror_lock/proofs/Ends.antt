@@ -30,7 +30,7 @@ module _ {W : Type 0} (game : GameRules W) where
       → after s (events_of_call q r ++ es) ≡ after (next_locked s q) es
   unfolding after
   after_call s (Event e) r es told = refl
-  after_call s (Draft c) r es told = refl
+  after_call s (Draft c n) r es told = refl
   after_call s (Commit t) r es told =
       subst (λ (reply : LockReply W). after s (events_of_call (Commit t) reply ++ es) ≡ after (committed_to s t) es) (sym told)
       (elim (is_current s t) as (λ v. after s (events_of_call (Commit t)
@@ -47,7 +47,7 @@ module _ {W : Type 0} (game : GameRules W) where
   -- no call of a sound history puts another plan in force
   plan_stays : (s : MirrorState W) (q : LockCall W) → FitsLocked game s q → (next_locked s q).plan ≡ s.plan
   plan_stays s (Event e) fits = next-plan s e fits.1.0
-  plan_stays s (Draft c) fits = refl
+  plan_stays s (Draft c n) fits = refl
   plan_stays s (Commit t) fits =
       elim (is_current s t) as (λ v. (cond v (next s (Step t.copy)) s).plan ≡ s.plan) [ true ↦ next-plan s (Step t.copy) refl | false ↦ refl ]
 

@@ -21,7 +21,7 @@ use Rattle.turn_lock.specs.Closing.{IsHistoryOf}
 -- for a step of its copy
 abbrev pub events_of_call : {W : Type 0} → LockCall W → LockReply W → List AnEvent
 events_of_call (Event e) reply = e ∷ []
-events_of_call (Draft c) reply = []
+events_of_call (Draft c times) reply = []
 events_of_call (Commit r) (ToCommit (Ran n)) = Step r.copy ∷ []
 events_of_call (Commit r) (ToCommit (Stale held now)) = []
 events_of_call (Commit r) (ToEvent reply) = []

@@ -22,7 +22,7 @@ module _ {W : Type 0} (game : GameRules W) where
   fits_event : (s : MirrorState W) (e : AnEvent) (q : LockCall W) → IsReached s → FitsCall game s q
       → FitsCall game (next s e) q
   fits_event s e (Event x) here fits = (fits.0, fits-next s e x fits.1)
-  fits_event s e (Draft c) here fits = fits-next s e (Step c) fits
+  fits_event s e (Draft c n) here fits = fits-next s e (Step c) fits
   fits_event s e (Commit r) here fits = ready_fits_kept game s e r here fits
 
   still_locked : (s : MirrorState W) (e : AnEvent) (q : LockCall W) → FitsLocked game s q
@@ -33,7 +33,7 @@ module _ {W : Type 0} (game : GameRules W) where
   pub stays : (s : MirrorState W) (p q : LockCall W) → FitsLocked game s q
       → FitsLocked game (next_locked s p) q
   stays s (Event e) q fits = still_locked s e q fits
-  stays s (Draft c) q fits = fits
+  stays s (Draft c n) q fits = fits
   stays s (Commit r) q fits =
       elim (is_current s r) as
       (λ v. FitsLocked game (if v then next s (Step r.copy) else s) q) [
@@ -47,7 +47,7 @@ pub spends : {W : Type 0} (s : MirrorState W) (q : LockCall W)
     → s.spare ≤ (next_locked s q).spare + one_if (is_growing q)
 spends s (Event e) =
     spends_at_some (is_arrival e) (changes s e) s.spare (next s e).spare (spare-next s e)
-spends s (Draft c) = spends_none s.spare
+spends s (Draft c n) = spends_none s.spare
 spends s (Commit r) =
     elim (is_current s r) as (λ v. s.spare ≤ (if v then next s (Step r.copy) else s).spare + 0) [
       | true ↦ spends_at_some false (changes s (Step r.copy)) s.spare (next s (Step r.copy)).spare

@@ -19,20 +19,20 @@ use Rattle.turn_lock.specs.Views.{FitsSeat}
 -- it stands for, or nothing
 abbrev pub next_locked : {W : Type 0} → MirrorState W → LockCall W → MirrorState W
 next_locked s (Event e) = next s e
-next_locked s (Draft c) = s
+next_locked s (Draft c times) = s
 next_locked s (Commit r) = committed_to s r
 
 -- the reply
 abbrev pub said_locked : {W : Type 0} → GameRules W → MirrorState W → LockCall W → LockReply W
 said_locked game s (Event e) = ToEvent (said s e)
-said_locked game s (Draft c) = ToDraft (drafted game s c)
+said_locked game s (Draft c times) = ToDraft (drafted game s c)
 said_locked game s (Commit r) = ToCommit (committed s r)
 
 -- a call that may be made: an event that may be made and puts no other plan in force, a draft of a
 -- copy that is there, a commit of a ready tick that fits
 abbrev pub FitsCall : {W : Type 0} → GameRules W → MirrorState W → LockCall W → Type 0
 FitsCall game s (Event e) = (is_restagger e ≡ false) × Fits s e
-FitsCall game s (Draft c) = c < length s.runs
+FitsCall game s (Draft c times) = c < length s.runs
 FitsCall game s (Commit r) = FitsReady game s r
 
 -- the same, of a state that its history leads to, as that of every mirror is
@@ -42,7 +42,7 @@ FitsLocked game s q = IsReached s × FitsCall game s q
 -- a call that uses up room: an arrival
 abbrev pub is_growing : {W : Type 0} → LockCall W → Bool
 is_growing (Event e) = is_arrival e
-is_growing (Draft c) = false
+is_growing (Draft c times) = false
 is_growing (Commit r) = false
 
 -- a locked mirror, as an object

@@ -12,8 +12,14 @@ use mirror_core::{Committed, Draft, Drafted, Mirror, Ready};
 pub enum LockCall<G: Game> {
     /// That an event is made, which is no change of the plan.
     Event(Event),
-    /// The due tick of the copy of this number, to be executed outside the lock.
-    Draft(u8),
+    /// The due tick of a copy, to be executed outside the lock.
+    Draft {
+        /// The copy's number.
+        copy: u8,
+        /// How many times in a row it is asked for where none is due. While the call is made
+        /// nothing changes, so that one answer is that to all of them.
+        times: u64,
+    },
     /// That a copy runs this tick, which was executed outside the lock.
     Commit(Ready<G>),
 }

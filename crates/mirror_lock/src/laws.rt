@@ -1,12 +1,13 @@
 //! What the close of a mirror's lock comes to, so that it can't be read more weakly. Each is the
 //! contract of a function without parameters that does nothing.
 
-ghost use Rattle.std.specs.Prelude.{◌≡◌, ◌++◌, List};
+ghost use Rattle.std.specs.Prelude.{◌≡◌, ◌++◌, ℕ, List};
 ghost use Rattle.sync_model.specs.State.{MirrorState};
 ghost use Rattle.sync_model.specs.Change.{after};
 ghost use Rattle.sync_model.specs.History.{changing};
 ghost use Rattle.sync_model.specs.Staggered.{IsStaggered};
 ghost use Rattle.mirror_lock.specs.declared.calls.LockCall.{LockCall};
+ghost use Rattle.mirror_lock.specs.declared.calls.LockCall.TheVariants.{Draft};
 ghost use Rattle.mirror_lock.specs.declared.calls.LockReply.{LockReply};
 ghost use Rattle.mirror_lock.specs.Locked.{mirror_rules};
 ghost use Rattle.mirror_lock.specs.Ending.{EndsAs, events_of_log};
@@ -34,4 +35,14 @@ pub fn a_closed_mirror_is_at_its_history<G: Game>()
     ensures staggered { (opening mirror : MirrorState G)
         (seats : List (Member (LockCall G) (LockReply G)))
         → EndsAs G.rules opening seats mirror → IsStaggered mirror }
+{}
+
+/// A draft changes nothing, and asking for it many times in a row is answered as asking once: so one
+/// call may stand for many.
+pub fn asking_again_is_answered_alike<G: Game>()
+    ensures state { (s : MirrorState G) (copy times : ℕ)
+        → (mirror_rules G.rules).next s (Draft copy times) ≡ s }
+    ensures reply { (s : MirrorState G) (copy times : ℕ)
+        → (mirror_rules G.rules).said s (Draft copy times)
+        ≡ (mirror_rules G.rules).said s (Draft copy 1) }
 {}

@@ -119,10 +119,10 @@ impl<G: Game> MirrorLock<G> {
     /// It takes no memory.
     pub fn draft<W: Wait>(&self, rt: &W, seat: &mut MirrorSeat<G>, copy: u8) -> Drafted<G>
         requires own { seat.old.seat.table_id ≡ self.now.lock.table.shared.table_id }
-        requires fits { FitsSeat (mirror_rules G.rules) (view seat.old.seat) (AskDraft copy) }
+        requires fits { FitsSeat (mirror_rules G.rules) (view seat.old.seat) (AskDraft copy 1) }
         requires calls { 0 < seat.old.calls }
         ensures own { seat.new.seat.table_id ≡ seat.old.seat.table_id }
-        ensures called { IsCall (mirror_rules G.rules) (view seat.old.seat) (AskDraft copy)
+        ensures called { IsCall (mirror_rules G.rules) (view seat.old.seat) (AskDraft copy 1)
             (ToDraft result) (view seat.new.seat) }
         ensures fits { StillFits (mirror_rules G.rules) (view seat.old.seat) (view seat.new.seat) }
         ensures ready { IfDraft result
@@ -132,27 +132,30 @@ impl<G: Game> MirrorLock<G> {
         ensures arrivals { seat.new.grows ≡ seat.old.grows }
     {
         let mut reply = LockReply::Draft(Drafted::Idle);
-        self.draft_into(rt, seat, copy, &mut reply);
+        self.draft_into(rt, seat, copy, 1, &mut reply);
         match reply {
             LockReply::Draft(drafted) => drafted,
             _ => unreachable!(),
         }
     }
 
-    /// What `draft` does, with the answer in the place of another. Where both are drafts, the new
-    /// one is written over the old one, and nothing is moved.
+    /// What `draft` does so many times in a row, for as long as no tick is due, in one turn of the
+    /// seat: where none is due, that is the answer each time, and else the first time gives it. It
+    /// uses up one call all the same. The answer is put in the place of another. Where both are
+    /// drafts, the new one is written over the old one, and nothing is moved.
     pub fn draft_into<W: Wait>(
         &self,
         rt: &W,
         seat: &mut MirrorSeat<G>,
         copy: u8,
+        times: u64,
         reply: &mut LockReply<G>,
     )
         requires own { seat.old.seat.table_id ≡ self.now.lock.table.shared.table_id }
-        requires fits { FitsSeat (mirror_rules G.rules) (view seat.old.seat) (AskDraft copy) }
+        requires fits { FitsSeat (mirror_rules G.rules) (view seat.old.seat) (AskDraft copy times) }
         requires calls { 0 < seat.old.calls }
         ensures own { seat.new.seat.table_id ≡ seat.old.seat.table_id }
-        ensures called { IsCall (mirror_rules G.rules) (view seat.old.seat) (AskDraft copy)
+        ensures called { IsCall (mirror_rules G.rules) (view seat.old.seat) (AskDraft copy times)
             reply.new (view seat.new.seat) }
         ensures fits { StillFits (mirror_rules G.rules) (view seat.old.seat) (view seat.new.seat) }
         ensures ready { (drafted : ADrafted G) × (reply.new ≡ ToDraft drafted)
@@ -162,7 +165,8 @@ impl<G: Game> MirrorLock<G> {
         ensures calls { seat.new.calls + 1 ≡ seat.old.calls }
         ensures arrivals { seat.new.grows ≡ seat.old.grows }
     {
-        self.lock.call(rt, seat, &LockCall::Draft(copy), reply);
+        self.lock
+            .call(rt, seat, &LockCall::Draft { copy, times }, reply);
     }
 
     /// Waits for the seat's turn, and commits a tick that was executed outside the lock. What is

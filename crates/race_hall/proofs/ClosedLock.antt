@@ -70,7 +70,7 @@ module _ {W : Type 0} (game : GameRules W) where
       → AreAnswersOf (next_locked s q) more → AreAnswersOf s (asked_in q r ++ more)
   unfolding AreAnswersOf
   call-sound s (Event e) r more fits told h = (fits.1.1, ap (λ (x : LockReply W). event_told x) told, h)
-  call-sound s (Draft c) r more fits told h = h
+  call-sound s (Draft c n) r more fits told h = h
   call-sound s (Commit t) r more fits told h = ran-sound s t more (commit_told r) fits.1 (ap (λ (x : LockReply W). commit_told x) told) h
 
   call-state :
@@ -78,7 +78,7 @@ module _ {W : Type 0} (game : GameRules W) where
       → after s (events_asked (asked_in q r ++ more)) ≡ after (next_locked s q) (events_asked more)
   unfolding after
   call-state s (Event e) r more told = refl
-  call-state s (Draft c) r more told = refl
+  call-state s (Draft c n) r more told = refl
   call-state s (Commit t) r more told = ran-state s t more (commit_told r) (ap (λ (x : LockReply W). commit_told x) told)
 
   -- a lock's history is sound as a list of pairs, and leads to the same state

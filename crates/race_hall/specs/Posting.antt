@@ -1,5 +1,5 @@
 -- What was asked through a seat of a mirror's lock.
-use Rattle.std.specs.Prelude.{◌≡◌, Option, None, Some, List, [], ◌∷◌, map, flat_map}
+use Rattle.std.specs.Prelude.{◌≡◌, Option, None, Some, List, [], ◌∷◌, flat_map}
 use Rattle.atomic_table.specs.declared.shared.Seat.{Seat}
 use Rattle.game_trait.specs.Game.{Rules as GameRules}
 use Rattle.game_trait.specs.declared.event.Reply.{Reply}
@@ -23,7 +23,7 @@ use Rattle.copy_workers.specs.declared.post.Asked.{Asked}
 use Rattle.copy_workers.specs.declared.post.TrailMark.{TrailMark}
 use Rattle.copy_workers.specs.declared.post.TrailMark.TheVariants.{Asked as AskedMark}
 use Rattle.copy_workers.specs.Asking.{pair_of}
-use Rattle.copy_workers.specs.Trail.{draft_in, draft_mark, commit_mark, commit_asked}
+use Rattle.copy_workers.specs.Trail.{draft_in, draft_marks, commit_mark, commit_asked}
 
 module _ {W : Type 0} where
   -- what a lock replied to an event; to a call of another kind it doesn't matter
@@ -47,14 +47,14 @@ module _ {W : Type 0} where
   -- what was asked by a call: an event, or the step that a commit stands for
   abbrev pub asked_in : LockCall W → LockReply W → List Asked
   asked_in (Event e) reply = pair_of e (event_told reply) ∷ []
-  asked_in (Draft c) reply = []
+  asked_in (Draft c times) reply = []
   asked_in (Commit r) reply = commit_asked r.copy (commit_told reply)
 
-  -- the mark of a call
-  abbrev pub mark_in : LockCall W → LockReply W → TrailMark
-  mark_in (Event e) reply = AskedMark
-  mark_in (Draft c) reply = draft_mark c (draft_told reply)
-  mark_in (Commit r) reply = commit_mark r.copy (commit_told reply)
+  -- the marks of a call
+  abbrev pub marks_in : LockCall W → LockReply W → List TrailMark
+  marks_in (Event e) reply = AskedMark ∷ []
+  marks_in (Draft c times) reply = draft_marks c times (draft_told reply)
+  marks_in (Commit r) reply = commit_mark r.copy (commit_told reply) ∷ []
 
   -- the draft that the last of some calls answered
   unfoldable pub last_drawn : List (Entry (LockCall W) (LockReply W)) → Option (DraftTick W)
@@ -72,7 +72,7 @@ module _ {W : Type 0} where
 
   -- the marks of these calls
   abbrev pub trail_by : View (MirrorState W) (LockCall W) (LockReply W) → List TrailMark
-  trail_by v = map (λ e. mark_in e.call e.reply) (own (number_of v) (seen_of v))
+  trail_by v = flat_map (λ e. marks_in e.call e.reply) (own (number_of v) (seen_of v))
 
   -- the draft that the last of them answered
   abbrev pub drawn_by : View (MirrorState W) (LockCall W) (LockReply W) → Option (DraftTick W)

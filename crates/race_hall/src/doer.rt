@@ -216,7 +216,7 @@ impl<'a, R: Wait, P: Gate, G: Game> Doer<JobOver<MirrorSeat<G>>, EndOver<MirrorS
     }
 
     fn keep(&self, task: &JobOver<MirrorSeat<G>>) {
-        Notes::new(self.boards, task.mirror).end(task.work.worker());
+        Notes::new(self.boards, task.mirror).keep(task.work.worker());
     }
 }
 
@@ -241,7 +241,7 @@ impl<G: Game> Slips<G> {
     pub fn new() -> Slips<G> {
         Slips {
             drafted: LockReply::Draft(Drafted::Idle),
-            ready: LockCall::Draft(0),
+            ready: LockCall::Draft { copy: 0, times: 0 },
         }
     }
 }
@@ -397,9 +397,14 @@ impl<'a, R: Wait, G: Game> DraftPost<G>
 
     ghost drawn = { λ p. drawn_by (view p.seat) };
 
-    fn draft(&mut self, copy: u8) -> Draw {
-        self.lock
-            .draft_into(self.rt, &mut self.seat, copy, &mut self.slips.drafted);
+    fn draft(&mut self, copy: u8, times: u64) -> Draw {
+        self.lock.draft_into(
+            self.rt,
+            &mut self.seat,
+            copy,
+            times,
+            &mut self.slips.drafted,
+        );
         drawn_in(&self.slips.drafted)
     }
 

@@ -1,4 +1,4 @@
-use Rattle.std.proofs.Common.{◌≡◌, ◌<◌, ◌≤◌, ◌+◌, ◌⊎◌, inl, inr, ℕ, List, [], ◌∷◌, ◌++◌, refl, sym, ap, arith}
+use Rattle.std.proofs.Common.{◌≡◌, ◌<◌, ◌+◌, ◌⊎◌, inl, inr, ℕ, List, [], ◌∷◌, ◌++◌, arith}
 use Rattle.std.specs.Prelude.{flat_map}
 use Rattle.game_trait.specs.Count.{times}
 use Rattle.game_trait.proofs.Counts.{times-append}
@@ -19,5 +19,5 @@ pub returns : goal.returns
 returns c = record {
   early = λ job end asked asked_now trail trail_now h few going. early end.ran job.length end.turns job.budget h.ends few going;
   late = λ job end asked asked_now trail trail_now h front rest turn whole. omega (arith, late job.copy job.length 0 front rest turn (rw whole at h.works.going));
-  within = λ job end asked asked_now trail trail_now h. (h.works.count, h.works.within, h.works.asks, h.works.ran);
+  within = λ job end asked asked_now trail trail_now h. (h.works.count, h.works.within, h.works.marks, h.works.asks, h.works.ran);
 }
