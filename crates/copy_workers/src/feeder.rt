@@ -289,11 +289,13 @@ pub fn run_feeder<P: Post, Q: Gate>(post: &mut P, gate: &Q, job: FeederJob) -> F
         turns: 0,
     };
     let mut rest = Rest::new(copies);
+    let mut before = feeder.progress();
     while feeder.clock < end && feeder.turns < budget {
-        let before = feeder.progress();
         gate.pass(mirror, copies, feeder.turns);
         feeder.turn(post);
-        rest.after(post, feeder.progress() == before);
+        let progress = feeder.progress();
+        rest.after(post, progress == before);
+        before = progress;
     }
     feeder.ended()
 }
