@@ -25,6 +25,49 @@ pub enum LockCall<G: Game> {
 }
 
 impl<G: Game> LockCall<G> {
+    // Makes it that this event is made. It stands apart, since a value as large as a world is made
+    // for it, and that is seldom needed.
+    #[cold]
+    #[inline(never)]
+    fn make_event(&mut self, event: &Event)
+        ensures { self.new ≡ LockCall.Event event.now }
+    {
+        *self = LockCall::Event(*event);
+    }
+
+    // Makes it that a draft of this copy is asked for so many times in a row.
+    #[cold]
+    #[inline(never)]
+    fn make_draft(&mut self, copy: u8, times: u64)
+        ensures { self.new ≡ LockCall.Draft copy times }
+    {
+        *self = LockCall::Draft { copy, times };
+    }
+
+    // Makes it that this event is made, in the place of the one before.
+    pub(crate) fn put_event(&mut self, event: &Event)
+        ensures { self.new ≡ LockCall.Event event.now }
+    {
+        if let LockCall::Event(place) = self {
+            *place = *event;
+            return;
+        }
+        self.make_event(event);
+    }
+
+    // Makes it that a draft of this copy is asked for so many times in a row, in the place of what
+    // was asked before.
+    pub(crate) fn put_draft(&mut self, of: u8, in_a_row: u64)
+        ensures { self.new ≡ LockCall.Draft of in_a_row }
+    {
+        if let LockCall::Draft { copy, times } = self {
+            *copy = of;
+            *times = in_a_row;
+            return;
+        }
+        self.make_draft(of, in_a_row);
+    }
+
     /// Makes it the commit of this draft, which it executes. Where it was a commit before, the tick
     /// is executed in the place of the one before.
     pub fn put_ready(&mut self, draft: &Draft<G>)
@@ -83,5 +126,26 @@ impl<G: Game> LockReply<G> {
             return;
         }
         *self = LockReply::Commit(committed);
+    }
+}
+
+/// A slip on which a call of a mirror's lock is written, and what that answers (this project's own).
+/// Whoever makes many calls keeps one for each kind: a call of the kind that stands on it is written
+/// over it, so that nothing as large as a world is made or moved.
+#[derive(Drop)]
+pub struct Slip<G: Game> {
+    /// The call.
+    pub call: LockCall<G>,
+    /// The answer.
+    pub reply: LockReply<G>,
+}
+
+impl<G: Game> Slip<G> {
+    /// A slip for a first call, of any kind. What stands on it was never asked or answered.
+    pub fn new() -> Slip<G> {
+        Slip {
+            call: LockCall::Draft { copy: 0, times: 0 },
+            reply: LockReply::Draft(Drafted::Idle),
+        }
     }
 }

@@ -14,7 +14,7 @@ mod held_mirror;
 pub mod laws;
 mod lock;
 
-pub use calls::{LockCall, LockReply};
+pub use calls::{LockCall, LockReply, Slip};
 pub use crossing::cross;
 pub use held_mirror::HeldMirror;
 pub use lock::{MirrorLock, MirrorOver, MirrorSeat};

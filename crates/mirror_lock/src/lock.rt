@@ -15,7 +15,7 @@ ghost use Rattle.mirror_lock.specs.declared.calls.LockReply.TheVariants.{Event a
 ghost use Rattle.mirror_lock.specs.Locked.{mirror_rules, TakesFrom};
 ghost use Rattle.mirror_lock.specs.Ending.{EndsAs};
 
-use crate::calls::{LockCall, LockReply};
+use crate::calls::{LockCall, LockReply, Slip};
 use crate::held_mirror::HeldMirror;
 use game_trait::{Event, Game, Reply};
 use mirror_core::{Committed, Drafted, Mirror, Ready};
@@ -104,11 +104,32 @@ impl<G: Game> MirrorLock<G> {
         ensures calls { seat.new.calls + 1 ≡ seat.old.calls }
         ensures arrivals { seat.new.grows + one_if (is_arrival event.now) ≡ seat.old.grows }
     {
-        let mut reply = LockReply::Event(Reply::Restaggered);
-        self.lock
-            .call(rt, seat, &LockCall::Event(*event), &mut reply);
-        match reply {
-            LockReply::Event(reply) => reply,
+        self.ask_on(rt, seat, &mut Slip::new(), event)
+    }
+
+    /// What `ask` does. The call and its answer are written on the slip, over what stood there.
+    pub fn ask_on<W: Wait>(
+        &self,
+        rt: &W,
+        seat: &mut MirrorSeat<G>,
+        slip: &mut Slip<G>,
+        event: &Event,
+    ) -> Reply
+        requires own { seat.old.seat.table_id ≡ self.now.lock.table.shared.table_id }
+        requires fits { FitsSeat (mirror_rules G.rules) (view seat.old.seat) (AskEvent event.now) }
+        requires calls { 0 < seat.old.calls }
+        requires arrivals { IsTrue (is_arrival event.now) → 0 < seat.old.grows }
+        ensures own { seat.new.seat.table_id ≡ seat.old.seat.table_id }
+        ensures called { IsCall (mirror_rules G.rules) (view seat.old.seat) (AskEvent event.now)
+            (ToEvent result) (view seat.new.seat) }
+        ensures fits { StillFits (mirror_rules G.rules) (view seat.old.seat) (view seat.new.seat) }
+        ensures calls { seat.new.calls + 1 ≡ seat.old.calls }
+        ensures arrivals { seat.new.grows + one_if (is_arrival event.now) ≡ seat.old.grows }
+    {
+        slip.call.put_event(event);
+        self.lock.call(rt, seat, &slip.call, &mut slip.reply);
+        match &slip.reply {
+            LockReply::Event(reply) => *reply,
             _ => unreachable!(),
         }
     }
@@ -131,8 +152,9 @@ impl<G: Game> MirrorLock<G> {
         ensures calls { seat.new.calls + 1 ≡ seat.old.calls }
         ensures arrivals { seat.new.grows ≡ seat.old.grows }
     {
-        let mut reply = LockReply::Draft(Drafted::Idle);
-        self.draft_into(rt, seat, copy, 1, &mut reply);
+        let mut slip = Slip::new();
+        self.draft_on(rt, seat, &mut slip, copy, 1);
+        let Slip { call: _, reply } = slip;
         match reply {
             LockReply::Draft(drafted) => drafted,
             _ => unreachable!(),
@@ -141,32 +163,32 @@ impl<G: Game> MirrorLock<G> {
 
     /// What `draft` does so many times in a row, for as long as no tick is due, in one turn of the
     /// seat: where none is due, that is the answer each time, and else the first time gives it. It
-    /// uses up one call all the same. The answer is put in the place of another. Where both are
-    /// drafts, the new one is written over the old one, and nothing is moved.
-    pub fn draft_into<W: Wait>(
+    /// uses up one call all the same. The call and its answer are written on the slip, over what
+    /// stood there.
+    pub fn draft_on<W: Wait>(
         &self,
         rt: &W,
         seat: &mut MirrorSeat<G>,
+        slip: &mut Slip<G>,
         copy: u8,
         times: u64,
-        reply: &mut LockReply<G>,
     )
         requires own { seat.old.seat.table_id ≡ self.now.lock.table.shared.table_id }
         requires fits { FitsSeat (mirror_rules G.rules) (view seat.old.seat) (AskDraft copy times) }
         requires calls { 0 < seat.old.calls }
         ensures own { seat.new.seat.table_id ≡ seat.old.seat.table_id }
         ensures called { IsCall (mirror_rules G.rules) (view seat.old.seat) (AskDraft copy times)
-            reply.new (view seat.new.seat) }
+            slip.new.reply (view seat.new.seat) }
         ensures fits { StillFits (mirror_rules G.rules) (view seat.old.seat) (view seat.new.seat) }
-        ensures ready { (drafted : ADrafted G) × (reply.new ≡ ToDraft drafted)
+        ensures ready { (drafted : ADrafted G) × (slip.new.reply ≡ ToDraft drafted)
             × IfDraft drafted
             (λ d. FitsSeat (mirror_rules G.rules) (view seat.new.seat)
             (AskCommit (ready_of G.rules d))) }
         ensures calls { seat.new.calls + 1 ≡ seat.old.calls }
         ensures arrivals { seat.new.grows ≡ seat.old.grows }
     {
-        self.lock
-            .call(rt, seat, &LockCall::Draft { copy, times }, reply);
+        slip.call.put_draft(copy, times);
+        self.lock.call(rt, seat, &slip.call, &mut slip.reply);
     }
 
     /// Waits for the seat's turn, and commits a tick that was executed outside the lock. What is
@@ -183,31 +205,35 @@ impl<G: Game> MirrorLock<G> {
         ensures calls { seat.new.calls + 1 ≡ seat.old.calls }
         ensures arrivals { seat.new.grows ≡ seat.old.grows }
     {
-        self.commit_from(rt, seat, &LockCall::Commit(r))
+        let mut slip = Slip {
+            call: LockCall::Commit(r),
+            reply: LockReply::Commit(Committed::Ran { repaired: 0 }),
+        };
+        self.commit_on(rt, seat, &mut slip)
     }
 
-    /// What `commit` does, of a call that is a commit already.
-    pub fn commit_from<W: Wait>(
+    /// What `commit` does, of the call that stands on the slip, which is a commit. The answer is
+    /// written on it, over what stood there.
+    pub fn commit_on<W: Wait>(
         &self,
         rt: &W,
         seat: &mut MirrorSeat<G>,
-        call: &LockCall<G>,
+        slip: &mut Slip<G>,
     ) -> Committed
         requires own { seat.old.seat.table_id ≡ self.now.lock.table.shared.table_id }
-        requires commit { (r : ReadyTick G) × (call.now ≡ AskCommit r) }
-        requires fits { FitsSeat (mirror_rules G.rules) (view seat.old.seat) call.now }
+        requires commit { (r : ReadyTick G) × (slip.old.call ≡ AskCommit r) }
+        requires fits { FitsSeat (mirror_rules G.rules) (view seat.old.seat) slip.old.call }
         requires calls { 0 < seat.old.calls }
         ensures own { seat.new.seat.table_id ≡ seat.old.seat.table_id }
-        ensures called { IsCall (mirror_rules G.rules) (view seat.old.seat) call.now
+        ensures called { IsCall (mirror_rules G.rules) (view seat.old.seat) slip.old.call
             (ToCommit result) (view seat.new.seat) }
         ensures fits { StillFits (mirror_rules G.rules) (view seat.old.seat) (view seat.new.seat) }
         ensures calls { seat.new.calls + 1 ≡ seat.old.calls }
         ensures arrivals { seat.new.grows ≡ seat.old.grows }
     {
-        let mut reply = LockReply::Commit(Committed::Ran { repaired: 0 });
-        self.lock.call(rt, seat, call, &mut reply);
-        match reply {
-            LockReply::Commit(committed) => committed,
+        self.lock.call(rt, seat, &slip.call, &mut slip.reply);
+        match &slip.reply {
+            LockReply::Commit(committed) => *committed,
             _ => unreachable!(),
         }
     }

@@ -20,7 +20,7 @@ use copy_workers::{
 };
 use game_trait::{Event, Game, MirrorId, Reply};
 use mirror_core::{Committed, Drafted};
-use mirror_lock::{LockCall, LockReply, MirrorLock, MirrorSeat};
+use mirror_lock::{LockCall, LockReply, MirrorLock, MirrorSeat, Slip};
 use std::marker::Model;
 use std::sync::Wait;
 use turn_lock::Named;
@@ -226,22 +226,22 @@ pub trait Keeps<T> {
     ghost kept: { Self → T → Type 0 };
 }
 
-/// The large ones among what a post asks a mirror's lock and what that answers, each in a place that
-/// all calls use again, so that no world is handed about.
+/// What a post asks a mirror's lock and what that answers: a slip for each kind of call, which all
+/// calls of the kind use again, so that no world is handed about.
 #[derive(Drop)]
 pub struct Slips<G: Game> {
-    // the answer where a draft was asked for last
-    drafted: LockReply<G>,
-    // the commit of the draft that was executed last
-    ready: LockCall<G>,
+    events: Slip<G>,
+    drafts: Slip<G>,
+    commits: Slip<G>,
 }
 
 impl<G: Game> Slips<G> {
     /// Before any call.
     pub fn new() -> Slips<G> {
         Slips {
-            drafted: LockReply::Draft(Drafted::Idle),
-            ready: LockCall::Draft { copy: 0, times: 0 },
+            events: Slip::new(),
+            drafts: Slip::new(),
+            commits: Slip::new(),
         }
     }
 }
@@ -250,7 +250,7 @@ impl<G: Game> Keeps<MirrorSeat<G>> for Slips<G> {
     ghost use Rattle.turn_lock.specs.Views.{view};
     ghost use Rattle.race_hall.specs.Posting.{IsReadied};
 
-    ghost kept = { λ slips s. IsReadied G.rules slips.drafted (view s.seat) };
+    ghost kept = { λ slips s. IsReadied G.rules slips.drafts.reply (view s.seat) };
 }
 
 /// A post over a lock `L` and a seat `T` of it. Contracts see it as the seat.
@@ -370,7 +370,9 @@ impl<'a, R: Wait, G: Game> Post for PostOver<'a, R, MirrorLock<G>, MirrorSeat<G>
     ghost bare = { λ p. drawn_by (view p.seat) ≡ None };
 
     fn ask(&mut self, event: &Event) -> Reply {
-        let reply = self.lock.ask(self.rt, &mut self.seat, event);
+        let reply = self
+            .lock
+            .ask_on(self.rt, &mut self.seat, &mut self.slips.events, event);
         self.notes.note(event, reply);
         reply
     }
@@ -398,14 +400,8 @@ impl<'a, R: Wait, G: Game> DraftPost<G>
     ghost drawn = { λ p. drawn_by (view p.seat) };
 
     fn draft(&mut self, copy: u8, times: u64) -> Draw {
-        self.lock.draft_into(
-            self.rt,
-            &mut self.seat,
-            copy,
-            times,
-            &mut self.slips.drafted,
-        );
-        drawn_in(&self.slips.drafted)
+        self.lock.draft_on(self.rt, &mut self.seat, &mut self.slips.drafts, copy, times);
+        drawn_in(&self.slips.drafts.reply)
     }
 
     fn commit(&mut self) -> Committed
@@ -425,10 +421,10 @@ impl<'a, R: Wait, G: Game> DraftPost<G>
         ensures same { StaysSame (λ s. s.seat) self.old self.new }
         ensures left { drawn_by (view self.new.seat) ≡ None }
     {
-        let copy = run_drafted(&self.slips.drafted, &mut self.slips.ready);
+        let copy = run_drafted(&self.slips.drafts.reply, &mut self.slips.commits.call);
         let committed = self
             .lock
-            .commit_from(self.rt, &mut self.seat, &self.slips.ready);
+            .commit_on(self.rt, &mut self.seat, &mut self.slips.commits);
         note_ran(self.notes, copy, &committed);
         committed
     }

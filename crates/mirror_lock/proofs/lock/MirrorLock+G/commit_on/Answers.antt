@@ -1,7 +1,7 @@
 use Rattle.std.proofs.Common.{ap, ◌∙◌}
 use Rattle.turn_lock.proofs.Serving.{reply_is_said}
 use Rattle.mirror_lock.specs.Locked.{mirror_rules, said_locked}
-use Rattle.mirror_lock.proofs.lock.MirrorLock+G.commit_from.Goals as goal
+use Rattle.mirror_lock.proofs.lock.MirrorLock+G.commit_on.Goals as goal
 
 pub unreachable-requires : goal.unreachable-requires
 unreachable-requires g c =
