@@ -5,6 +5,7 @@ ghost use Rattle.game_trait.specs.declared.command.Item.TheVariants.{Cmd};
 ghost use Rattle.game_trait.specs.Ordered.{due_at};
 ghost use Rattle.game_trait.specs.Run.{world_of};
 ghost use Rattle.sync_model.specs.Drafts.{ready_of};
+ghost use Rattle.sync_model.specs.State.{copy_clock};
 
 use arrayvec::ArrayVec;
 use game_trait::{Command, Game, Tick};
@@ -40,48 +41,48 @@ impl<G> Model for Draft<G> {
 }
 
 impl<G: Game> Draft<G> {
-    // The tick of a copy of these at this clock, which is there and has so many commands at most.
-    fn of(copy: u8, epoch: u64, clock: Tick, stack: &LazyStack<G>) -> Draft<G>
+    // The due tick of a copy of these, which is there and has so many commands at most.
+    fn of(copy: u8, epoch: u64, stack: &LazyStack<G>) -> Draft<G>
         requires there { copy < length stack.now.runs }
         requires fresh { stack.now.stale ≤ copy }
-        requires few { length (due_at stack.now.accepted clock) ≤ 64 }
+        requires few { length (due_at stack.now.accepted (copy_clock stack.now.runs copy)) ≤ 64 }
         ensures { result ≡ record {
           copy = copy;
           epoch = epoch;
-          clock = clock;
+          clock = copy_clock stack.now.runs copy;
           world = world_of G.rules stack.now.opening (slice_index_or stack.now.runs copy []);
-          commands = due_at stack.now.accepted clock;
+          commands = due_at stack.now.accepted (copy_clock stack.now.runs copy);
         } }
     {
         let mut commands = ArrayVec::new();
-        stack.due_into(clock, &mut commands);
+        stack.due_into(copy, &mut commands);
         Draft {
             copy,
             epoch,
-            clock,
+            clock: stack.clock(copy),
             world: stack.world(copy).twin(),
             commands,
         }
     }
 
     // Makes it such a tick, in its place.
-    fn set(&mut self, copy: u8, epoch: u64, clock: Tick, stack: &LazyStack<G>)
+    fn set(&mut self, copy: u8, epoch: u64, stack: &LazyStack<G>)
         requires there { copy < length stack.now.runs }
         requires fresh { stack.now.stale ≤ copy }
-        requires few { length (due_at stack.now.accepted clock) ≤ 64 }
+        requires few { length (due_at stack.now.accepted (copy_clock stack.now.runs copy)) ≤ 64 }
         ensures { self.new ≡ record {
           copy = copy;
           epoch = epoch;
-          clock = clock;
+          clock = copy_clock stack.now.runs copy;
           world = world_of G.rules stack.now.opening (slice_index_or stack.now.runs copy []);
-          commands = due_at stack.now.accepted clock;
+          commands = due_at stack.now.accepted (copy_clock stack.now.runs copy);
         } }
     {
         self.copy = copy;
         self.epoch = epoch;
-        self.clock = clock;
+        self.clock = stack.clock(copy);
         self.world.set_from(stack.world(copy));
-        stack.due_into(clock, &mut self.commands);
+        stack.due_into(copy, &mut self.commands);
     }
 
     /// The copy's number.
@@ -230,25 +231,25 @@ impl<G: Game> Drafted<G> {
         }
     }
 
-    // Makes it the tick of a copy of these at this clock, which is there and has so many commands at
-    // most. Where it was a draft before, the new one takes its place.
-    pub(crate) fn put(&mut self, copy: u8, epoch: u64, clock: Tick, stack: &LazyStack<G>)
+    // Makes it the due tick of a copy of these, which is there and has so many commands at most.
+    // Where it was a draft before, the new one takes its place.
+    pub(crate) fn put(&mut self, copy: u8, epoch: u64, stack: &LazyStack<G>)
         requires there { copy < length stack.now.runs }
         requires fresh { stack.now.stale ≤ copy }
-        requires few { length (due_at stack.now.accepted clock) ≤ 64 }
+        requires few { length (due_at stack.now.accepted (copy_clock stack.now.runs copy)) ≤ 64 }
         ensures { self.new ≡ Drafted.Draft (record {
           copy = copy;
           epoch = epoch;
-          clock = clock;
+          clock = copy_clock stack.now.runs copy;
           world = world_of G.rules stack.now.opening (slice_index_or stack.now.runs copy []);
-          commands = due_at stack.now.accepted clock;
+          commands = due_at stack.now.accepted (copy_clock stack.now.runs copy);
         }) }
     {
         if let Drafted::Draft(draft) = self {
-            draft.set(copy, epoch, clock, stack);
+            draft.set(copy, epoch, stack);
             return;
         }
-        *self = Drafted::Draft(Draft::of(copy, epoch, clock, stack));
+        *self = Drafted::Draft(Draft::of(copy, epoch, stack));
     }
 }
 

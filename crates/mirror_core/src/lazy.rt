@@ -253,17 +253,16 @@ impl<G: Game> LazyMirror<G> {
         ensures fits { IfDraft drafted.new
             (λ d. FitsReady G.rules self.now.state (ready_of G.rules d)) }
     {
-        let clock = self.stack.clock(copy);
-        if clock >= self.limit(copy) {
+        if self.stack.clock(copy) >= self.limit(copy) {
             drafted.put_idle();
             return;
         }
-        let commands = self.stack.due_len(clock);
+        let commands = self.stack.due_len(copy);
         if commands > MOST_DRAFTED as u32 {
             *drafted = Drafted::Wide { commands };
             return;
         }
-        drafted.put(copy, self.epochs.of(copy), clock, &self.stack);
+        drafted.put(copy, self.epochs.of(copy), &self.stack);
     }
 
     /// What `Mirror::commit` does. Worlds may be left to be made.

@@ -74,5 +74,5 @@ pub fn tick_len(list: &Buckets, start: u32, t: Tick) -> u32
     requires few { length (tick_of list.now.all t) < 2 ^ 32 }
     ensures { result ≡ length (tick_of list.now.all t) }
 {
-    list.start(t + 1) - start + 1
+    list.end(start, t) - start + 1
 }

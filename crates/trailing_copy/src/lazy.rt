@@ -412,22 +412,28 @@ impl<G: Game> LazyStack<G> {
         self.list.all()
     }
 
-    /// How many of the accepted commands are due at a tick of the match.
-    pub fn due_len(&self, t: Tick) -> u32
-        requires { t < self.now.ticks }
-        ensures { result ≡ length (due_at self.now.accepted t) }
+    /// How many of the accepted commands are due at the copy's clock. The copy is there, and hasn't
+    /// run all ticks.
+    pub fn due_len(&self, copy: u8) -> u32
+        requires there { copy < length self.now.runs }
+        requires below { copy_clock self.now.runs copy < self.now.ticks }
+        ensures { result ≡ length (due_at self.now.accepted (copy_clock self.now.runs copy)) }
     {
         let _ = self.run.len();
-        self.list.start(t + 1) - self.list.start(t)
+        let start = self.due_start(copy);
+        self.list.end(start, self.run.beats(copy)) - start
     }
 
-    /// Puts the accepted commands that are due at a tick, in key order, in the place of others. They
-    /// are no more than the list holds.
-    pub fn due_into<const N: usize>(&self, t: Tick, commands: &mut ArrayVec<Command, N>)
-        requires { length (due_at self.now.accepted t) ≤ N }
-        ensures { commands.new.items ≡ due_at self.now.accepted t }
+    /// Puts the accepted commands that are due at the copy's clock, in key order, in the place of
+    /// others. The copy is there, and they are no more than the list holds.
+    pub fn due_into<const N: usize>(&self, copy: u8, commands: &mut ArrayVec<Command, N>)
+        requires there { copy < length self.now.runs }
+        requires few { length (due_at self.now.accepted (copy_clock self.now.runs copy)) ≤ N }
+        ensures { commands.new.items ≡ due_at self.now.accepted (copy_clock self.now.runs copy) }
     {
-        due_into(&self.list, t, commands);
+        let _ = self.run.len();
+        let start = self.due_start(copy);
+        due_into(&self.list, start, self.run.beats(copy), commands);
     }
 
     /// The copy's clock: how many ticks it has run. The copy is there.

@@ -6,14 +6,14 @@ use Rattle.game_trait.proofs.Lengths.{length-tick_of-due}
 pub overflow_sub-result : goal.overflow_sub-result
 overflow_sub-result c =
     (let more = start-next c.args.list.now.all c.args.t in
-    let at = c.start.ensures.start in let from = c.requires.start in omega arith)
+    let at = c.end.ensures in let from = c.requires.start in omega arith)
 
 pub overflow_add-result : goal.overflow_add-result
 overflow_add-result c =
     (let more = start-next c.args.list.now.all c.args.t in
     let whole = length-tick_of-due c.args.list.now.all c.args.t in
     let few = c.requires.few in
-    let at = c.start.ensures.start in
+    let at = c.end.ensures in
     let from = c.requires.start in
     omega arith)
 
@@ -21,6 +21,6 @@ pub returns : goal.returns
 returns c =
     (let more = start-next c.args.list.now.all c.args.t in
     let whole = length-tick_of-due c.args.list.now.all c.args.t in
-    let at = c.start.ensures.start in
+    let at = c.end.ensures in
     let from = c.requires.start in
     omega arith)

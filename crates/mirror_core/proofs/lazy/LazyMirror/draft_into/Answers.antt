@@ -1,19 +1,20 @@
+use Rattle.std.proofs.Common.{refl}
 use Rattle.mirror_core.proofs.Calls.{runs-on, below-end, put-fits}
 use Rattle.mirror_core.proofs.lazy.LazyMirror.draft_into.Goals as goal
 
-pub due_len-commands-requires : goal.due_len-commands-requires
-due_len-commands-requires g c =
+pub due_len-commands-requires-clause-below : goal.due_len-commands-requires-clause-below
+due_len-commands-requires-clause-below g c =
     let more =
-    runs-on c.self.invariant c.args.copy c.clock-clock.result c.limit.result
-    c.clock-clock.ensures (rw (← c.self.view_is) at c.limit.ensures) c.if-clock-limit.false in
-    rw c.clock-clock.ensures (below-end c.self.invariant c.args.copy more)
+    runs-on c.self.invariant c.args.copy c.clock.result c.limit.result
+    c.clock.ensures (rw (← c.self.view_is) at c.limit.ensures) c.if-clock-limit.false in
+    below-end c.self.invariant c.args.copy more
 
 pub returns-clause-fits : goal.returns-clause-fits
 returns-clause-fits g c =
     let there = rw (← c.self.view_is) at c.requires.there in
     let more =
-    runs-on c.self.invariant c.args.copy c.clock-clock.result c.limit.result
-    c.clock-clock.ensures (rw (← c.self.view_is) at c.limit.ensures) c.if-clock-limit.false in
+    runs-on c.self.invariant c.args.copy c.clock.result c.limit.result
+    c.clock.ensures (rw (← c.self.view_is) at c.limit.ensures) c.if-clock-limit.false in
     rw (← c.self.view_is)
-    (put-fits c.self.invariant g.G.Game.rules c.put.new.self c.args.copy c.clock-clock.result
-    c.of.result there more c.put.ensures c.clock-clock.ensures c.of.ensures)
+    (put-fits c.self.invariant g.G.Game.rules c.put.new.self c.args.copy _
+    c.of.result there more c.put.ensures refl c.of.ensures)

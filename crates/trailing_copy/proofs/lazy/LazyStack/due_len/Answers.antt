@@ -1,14 +1,30 @@
-use Rattle.std.proofs.Common.{arith}
+use Rattle.std.proofs.Common.{◌≡◌, ◌-◌, ℕ, length, subst, arith}
+use Rattle.game_trait.specs.Ordered.{due_at}
 use Rattle.pending_list.proofs.Walks.{start-next}
+use Rattle.trailing_copy.proofs.OwnClocks.{clock-own}
+use Rattle.trailing_copy.proofs.Places.{start-at}
+use Rattle.trailing_copy.proofs.Remade.{run-many}
+use Rattle.trailing_copy.proofs.Steps.{clock-read}
 use Rattle.trailing_copy.proofs.lazy.LazyStack.due_len.Goals as goal
 
 pub overflow_sub-result : goal.overflow_sub-result
 overflow_sub-result g c =
-    (let more = start-next c.self.inside.list.all c.args.t in
-    let at = c.start.ensures.start in let from = c.start-2.ensures.start in omega arith)
+    let there = rw (← c.self.view_is) at c.requires.there in
+    let clock = clock-own _ _ c.args.copy c.beats.result there c.beats.ensures in
+    let from =
+    start-at c.self.invariant.0 c.len.ensures.falls c.len.ensures.first c.args.copy c.beats.result _ there clock
+    (rw (← c.self.view_is) at c.due_start-start.ensures) in
+    (let more = start-next c.self.inside.list.all c.beats.result in let to = c.end.ensures in omega arith)
 
 pub returns : goal.returns
 returns g c =
+    let there = rw (← c.self.view_is) at c.requires.there in
+    let clock = clock-own _ _ c.args.copy c.beats.result there c.beats.ensures in
+    let from =
+    start-at c.self.invariant.0 c.len.ensures.falls c.len.ensures.first c.args.copy c.beats.result _ there clock
+    (rw (← c.self.view_is) at c.due_start-start.ensures) in
+    let many = run-many c.self.invariant.0 c.len.ensures.falls c.len.ensures.first in
     rw (← c.self.view_is)
-    (let more = start-next c.self.inside.list.all c.args.t in
-    let at = c.start.ensures.start in let from = c.start-2.ensures.start in omega arith)
+    (subst (λ (t : ℕ). c.end.result - c.due_start-start.result ≡ length (due_at c.self.inside.list.all t))
+    (clock-read c.self.invariant.0 c.len.ensures.falls c.len.ensures.first c.args.copy c.beats.result (omega arith) clock)
+    (let more = start-next c.self.inside.list.all c.beats.result in let to = c.end.ensures in omega arith))
