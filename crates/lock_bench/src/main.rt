@@ -6,6 +6,7 @@
 ghost use Rattle.std.specs.Prelude.{◌≡◌, ◌<◌, ◌≤◌, ◌^◌, length};
 ghost use Rattle.std.specs.List.{All};
 ghost use Rattle.tss_io.specs.Totals.{total};
+ghost use Rattle.turn_lock.specs.Naming.{lock_name, seat_name};
 
 use std::alloc::Global;
 use std::sync::{Mutex, Wait};
@@ -50,7 +51,7 @@ impl Held for Counter {
 
 // Calls as often as the seat may, and tells the greatest reply.
 fn add_all<R: Wait>(rt: &R, lock: &TurnLock<Counter>, mut seat: TurnSeat<Counter>) -> u64
-    requires { seat.seat.table_id ≡ lock.now.table.shared.table_id }
+    requires { seat_name seat.seat ≡ lock_name lock.now }
 {
     let mut greatest = 0;
     let mut reply = 0;
@@ -67,13 +68,13 @@ fn by_seats<R: Threads + Wait + Sync>(
     lock: &TurnLock<Counter>,
     seats: Vec<TurnSeat<Counter>>,
 ) -> Option<u64>
-    requires { All (λ s. s.seat.table_id ≡ lock.now.table.shared.table_id) seats.items }
+    requires { All (λ s. seat_name s.seat ≡ lock_name lock.now) seats.items }
 {
     let replies = map_vec(
         rt,
         seats,
         &|seat: TurnSeat<Counter>| -> u64
-            requires { seat.seat.table_id ≡ lock.now.table.shared.table_id }
+            requires { seat_name seat.seat ≡ lock_name lock.now }
         { add_all(rt, lock, seat) },
     )
     .ok()?;

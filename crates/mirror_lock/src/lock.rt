@@ -14,6 +14,7 @@ ghost use Rattle.mirror_lock.specs.declared.calls.LockCall.TheVariants.{Event as
 ghost use Rattle.mirror_lock.specs.declared.calls.LockReply.TheVariants.{Event as ToEvent, Draft as ToDraft, Commit as ToCommit};
 ghost use Rattle.mirror_lock.specs.Locked.{mirror_rules, TakesFrom};
 ghost use Rattle.mirror_lock.specs.Ending.{EndsAs};
+ghost use Rattle.turn_lock.specs.Naming.{lock_name, seat_name, opened_with};
 
 use crate::calls::{LockCall, LockReply, Slip};
 use crate::held_mirror::HeldMirror;
@@ -68,11 +69,11 @@ impl<G: Game> MirrorLock<G> {
         requires some_share { 0 < length shares.now }
         requires calls { total (λ s. s.calls) shares.now < 2 ^ 63 }
         requires arrivals { total (λ s. s.grows) shares.now ≤ mirror.spare }
-        ensures opening { IfOk result (λ t. t.0.lock.table.shared.key.opening.value ≡ mirror) }
+        ensures opening { IfOk result (λ t. opened_with t.0.lock ≡ mirror) }
         ensures counted { IfOk result (λ t. t.0.lock.seats ≡ length shares.now) }
         ensures all { IfOk result (λ t. vec_len t.1 ≡ t.0.lock.seats) }
         ensures own { IfOk result
-            (λ t. All (λ s. s.seat.table_id ≡ t.0.lock.table.shared.table_id) t.1.items) }
+            (λ t. All (λ s. seat_name s.seat ≡ lock_name t.0.lock) t.1.items) }
         ensures seats { IfOk result
             (λ t. map (λ s. view s.seat) t.1.items ≡ fresh_views mirror 0 shares.now) }
         ensures fits { IfOk result
@@ -93,11 +94,11 @@ impl<G: Game> MirrorLock<G> {
     /// event. It uses up one call of the seat's share, and an arrival one growing call. While it
     /// waits, it pauses between two looks, or yields the processor. It takes no memory.
     pub fn ask<W: Wait>(&self, rt: &W, seat: &mut MirrorSeat<G>, event: &Event) -> Reply
-        requires own { seat.old.seat.table_id ≡ self.now.lock.table.shared.table_id }
+        requires own { seat_name seat.old.seat ≡ lock_name self.now.lock }
         requires fits { FitsSeat (mirror_rules G.rules) (view seat.old.seat) (AskEvent event.now) }
         requires calls { 0 < seat.old.calls }
         requires arrivals { IsTrue (is_arrival event.now) → 0 < seat.old.grows }
-        ensures own { seat.new.seat.table_id ≡ seat.old.seat.table_id }
+        ensures own { seat_name seat.new.seat ≡ seat_name seat.old.seat }
         ensures called { IsCall (mirror_rules G.rules) (view seat.old.seat) (AskEvent event.now)
             (ToEvent result) (view seat.new.seat) }
         ensures fits { StillFits (mirror_rules G.rules) (view seat.old.seat) (view seat.new.seat) }
@@ -115,11 +116,11 @@ impl<G: Game> MirrorLock<G> {
         slip: &mut Slip<G>,
         event: &Event,
     ) -> Reply
-        requires own { seat.old.seat.table_id ≡ self.now.lock.table.shared.table_id }
+        requires own { seat_name seat.old.seat ≡ lock_name self.now.lock }
         requires fits { FitsSeat (mirror_rules G.rules) (view seat.old.seat) (AskEvent event.now) }
         requires calls { 0 < seat.old.calls }
         requires arrivals { IsTrue (is_arrival event.now) → 0 < seat.old.grows }
-        ensures own { seat.new.seat.table_id ≡ seat.old.seat.table_id }
+        ensures own { seat_name seat.new.seat ≡ seat_name seat.old.seat }
         ensures called { IsCall (mirror_rules G.rules) (view seat.old.seat) (AskEvent event.now)
             (ToEvent result) (view seat.new.seat) }
         ensures fits { StillFits (mirror_rules G.rules) (view seat.old.seat) (view seat.new.seat) }
@@ -139,10 +140,10 @@ impl<G: Game> MirrorLock<G> {
     /// draft may be committed, whatever others ask before. It uses up one call of the seat's share.
     /// It takes no memory.
     pub fn draft<W: Wait>(&self, rt: &W, seat: &mut MirrorSeat<G>, copy: u8) -> Drafted<G>
-        requires own { seat.old.seat.table_id ≡ self.now.lock.table.shared.table_id }
+        requires own { seat_name seat.old.seat ≡ lock_name self.now.lock }
         requires fits { FitsSeat (mirror_rules G.rules) (view seat.old.seat) (AskDraft copy 1) }
         requires calls { 0 < seat.old.calls }
-        ensures own { seat.new.seat.table_id ≡ seat.old.seat.table_id }
+        ensures own { seat_name seat.new.seat ≡ seat_name seat.old.seat }
         ensures called { IsCall (mirror_rules G.rules) (view seat.old.seat) (AskDraft copy 1)
             (ToDraft result) (view seat.new.seat) }
         ensures fits { StillFits (mirror_rules G.rules) (view seat.old.seat) (view seat.new.seat) }
@@ -173,10 +174,10 @@ impl<G: Game> MirrorLock<G> {
         copy: u8,
         times: u64,
     )
-        requires own { seat.old.seat.table_id ≡ self.now.lock.table.shared.table_id }
+        requires own { seat_name seat.old.seat ≡ lock_name self.now.lock }
         requires fits { FitsSeat (mirror_rules G.rules) (view seat.old.seat) (AskDraft copy times) }
         requires calls { 0 < seat.old.calls }
-        ensures own { seat.new.seat.table_id ≡ seat.old.seat.table_id }
+        ensures own { seat_name seat.new.seat ≡ seat_name seat.old.seat }
         ensures called { IsCall (mirror_rules G.rules) (view seat.old.seat) (AskDraft copy times)
             slip.new.reply (view seat.new.seat) }
         ensures fits { StillFits (mirror_rules G.rules) (view seat.old.seat) (view seat.new.seat) }
@@ -195,10 +196,10 @@ impl<G: Game> MirrorLock<G> {
     /// answered and changed is told by `Mirror::commit`: where the copy was renewed since, nothing
     /// changes. It uses up one call of the seat's share. It takes no memory.
     pub fn commit<W: Wait>(&self, rt: &W, seat: &mut MirrorSeat<G>, r: Ready<G>) -> Committed
-        requires own { seat.old.seat.table_id ≡ self.now.lock.table.shared.table_id }
+        requires own { seat_name seat.old.seat ≡ lock_name self.now.lock }
         requires fits { FitsSeat (mirror_rules G.rules) (view seat.old.seat) (AskCommit r) }
         requires calls { 0 < seat.old.calls }
-        ensures own { seat.new.seat.table_id ≡ seat.old.seat.table_id }
+        ensures own { seat_name seat.new.seat ≡ seat_name seat.old.seat }
         ensures called { IsCall (mirror_rules G.rules) (view seat.old.seat) (AskCommit r)
             (ToCommit result) (view seat.new.seat) }
         ensures fits { StillFits (mirror_rules G.rules) (view seat.old.seat) (view seat.new.seat) }
@@ -220,11 +221,11 @@ impl<G: Game> MirrorLock<G> {
         seat: &mut MirrorSeat<G>,
         slip: &mut Slip<G>,
     ) -> Committed
-        requires own { seat.old.seat.table_id ≡ self.now.lock.table.shared.table_id }
+        requires own { seat_name seat.old.seat ≡ lock_name self.now.lock }
         requires commit { (r : ReadyTick G) × (slip.old.call ≡ AskCommit r) }
         requires fits { FitsSeat (mirror_rules G.rules) (view seat.old.seat) slip.old.call }
         requires calls { 0 < seat.old.calls }
-        ensures own { seat.new.seat.table_id ≡ seat.old.seat.table_id }
+        ensures own { seat_name seat.new.seat ≡ seat_name seat.old.seat }
         ensures called { IsCall (mirror_rules G.rules) (view seat.old.seat) slip.old.call
             (ToCommit result) (view seat.new.seat) }
         ensures fits { StillFits (mirror_rules G.rules) (view seat.old.seat) (view seat.new.seat) }
@@ -242,9 +243,9 @@ impl<G: Game> MirrorLock<G> {
     /// each once, with the answers that they got. Its own history gained those that changed it, in
     /// order. It waits for nobody and takes no memory.
     pub fn close(self, seats: Vec<MirrorSeat<G>>) -> Mirror<G>
-        requires own { All (λ s. s.seat.table_id ≡ self.lock.table.shared.table_id) seats.items }
+        requires own { All (λ s. seat_name s.seat ≡ lock_name self.lock) seats.items }
         requires all { vec_len seats ≡ self.lock.seats }
-        ensures { EndsAs G.rules self.lock.table.shared.key.opening.value
+        ensures { EndsAs G.rules (opened_with self.lock)
             (map (λ s. member_of (view s.seat)) seats.items) result }
     {
         self.into_lock().close(seats).into_mirror()

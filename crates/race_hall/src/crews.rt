@@ -11,6 +11,7 @@ ghost use Rattle.race_hall.specs.Crews.{IsPlanOf, IsRoomOf, AreFeeders, ByMirror
 ghost use Rattle.race_hall.specs.Lining.{AreLinedUp};
 ghost use Rattle.race_hall.specs.declared.doer.JobOver.{JobOver};
 ghost use Rattle.copy_workers.specs.declared.feeder_job.FeederJob.{FeederJob};
+ghost use Rattle.turn_lock.specs.Naming.{lock_name, opened_with};
 
 use crate::doer::{EndOver, JobOver, Work};
 use crate::links::make_links;
@@ -178,11 +179,11 @@ fn man_mirror<G: Game>(
     requires there { feeder.mirror < m.now.mirrors }
     requires budget { feeder.budget ≤ 1_048_576 }
     ensures manned { IfOk result (λ lock.
-        IsManning (λ s. s.seat) G.rules lock.lock.table.shared.table_id feeder jobs.old.items
+        IsManning (λ s. s.seat) G.rules (lock_name lock.lock) feeder jobs.old.items
         jobs.new.items) }
     ensures locked { IfOk result (λ lock.
         IsLockOf (course_of m.now) opening.now (length m.now.commands)
-        lock.lock.table.shared.key.opening.value lock.lock.seats) }
+        (opened_with lock.lock) lock.lock.seats) }
 {
     let room = m.commands.len() as u32;
     let mirror = Mirror::new(alloc, opening, plans, room, 0)?;
@@ -203,9 +204,9 @@ pub fn crews<G: Game>(
     requires feeders { (budget : ℕ) × (budget ≤ 1_048_576)
         × AllZip (IsFeederOf (course_of m.now) budget) (count_from 0 m.now.mirrors) feeders.items }
     ensures { IfOk result (λ r. ByMirror (λ k lock feeder crew.
-        IsCrew (λ s. s.seat) G.rules feeder.copies k lock.lock.table.shared.table_id feeder crew
+        IsCrew (λ s. s.seat) G.rules feeder.copies k (lock_name lock.lock) feeder crew
         × IsLockOf (course_of m.now) opening.now (length m.now.commands)
-        lock.lock.table.shared.key.opening.value lock.lock.seats)
+        (opened_with lock.lock) lock.lock.seats)
         0 r.0.items feeders.items r.1.items) }
 {
     let plans = plans_of(alloc, m)?;
@@ -253,13 +254,13 @@ fn close_one<G: Game>(
 ) -> (Mirror<G>, FeederEnd)
     requires crew { (c : Course) × (opening : G) × (spare : ℕ) × (job : FeederJob) × (rest : List _)
         × (copies ≡ length (first_plan c))
-        × HasCrew (λ s. s.seat) copies lock.lock.table.shared.table_id job ends.old.items rest
-        × IsLockOf c opening spare lock.lock.table.shared.key.opening.value lock.lock.seats }
+        × HasCrew (λ s. s.seat) copies (lock_name lock.lock) job ends.old.items rest
+        × IsLockOf c opening spare (opened_with lock.lock) lock.lock.seats }
     requires room { IsRoomy copies seats.items (vec_capacity seats) }
     ensures { (c : Course) (opening : G) (spare : ℕ) (job : FeederJob) (rest : List _)
         → copies ≡ length (first_plan c)
-        → HasCrew (λ s. s.seat) copies lock.lock.table.shared.table_id job ends.old.items rest
-        → IsLockOf c opening spare lock.lock.table.shared.key.opening.value lock.lock.seats
+        → HasCrew (λ s. s.seat) copies (lock_name lock.lock) job ends.old.items rest
+        → IsLockOf c opening spare (opened_with lock.lock) lock.lock.seats
         → (ends.new.items ≡ rest) × IsClosed c opening spare job result.1 result.0 }
 {
     let (seats, given) = take_crew(ends, usize::from(copies) + 1, seats);
@@ -283,8 +284,8 @@ pub fn close_all<G: Game>(
     requires crews { (c : Course) × (opening : G) × (spare : ℕ) × (jobs : List FeederJob)
         × (copies ≡ length (first_plan c))
         × ByMirror (λ k lock job crew.
-        IsCrewDone (λ s. s.seat) copies lock.lock.table.shared.table_id job crew
-        × IsLockOf c opening spare lock.lock.table.shared.key.opening.value lock.lock.seats)
+        IsCrewDone (λ s. s.seat) copies (lock_name lock.lock) job crew
+        × IsLockOf c opening spare (opened_with lock.lock) lock.lock.seats)
         0 locks.items jobs ends.items }
     requires seats { AllByRecursion (λ v. IsRoomy copies v.items (vec_capacity v)) seats.items }
     requires empty { (mirrors.items ≡ []) × (feeders.items ≡ []) }
@@ -293,8 +294,8 @@ pub fn close_all<G: Game>(
     ensures { (c : Course) (opening : G) (spare : ℕ) (jobs : List FeederJob)
         → copies ≡ length (first_plan c)
         → ByMirror (λ k lock job crew.
-        IsCrewDone (λ s. s.seat) copies lock.lock.table.shared.table_id job crew
-        × IsLockOf c opening spare lock.lock.table.shared.key.opening.value lock.lock.seats)
+        IsCrewDone (λ s. s.seat) copies (lock_name lock.lock) job crew
+        × IsLockOf c opening spare (opened_with lock.lock) lock.lock.seats)
         0 locks.items jobs ends.items
         → AllClosed c opening spare jobs result.1.items result.0.items }
 {

@@ -12,6 +12,7 @@ ghost use Rattle.mirror_core.specs.declared.drafts.Drafted.TheVariants.{Draft as
 ghost use Rattle.mirror_lock.specs.declared.calls.LockCall.TheVariants.{Commit as AskCommit};
 ghost use Rattle.mirror_lock.specs.declared.calls.LockReply.TheVariants.{Draft as ToDraft};
 ghost use Rattle.copy_workers.specs.Trail.{draw_of};
+ghost use Rattle.turn_lock.specs.Naming.{lock_name, seat_name};
 
 use crate::board::{Board, Notes};
 use crate::threads::{Doer, Task};
@@ -96,7 +97,7 @@ fn feed_over<R: Wait, G: Game, P: Gate>(
     seat: MirrorSeat<G>,
     job: FeederJob,
 ) -> (MirrorSeat<G>, FeederEnd)
-    requires own { seat.seat.table_id ≡ lock.now.lock.table.shared.table_id }
+    requires own { seat_name seat.seat ≡ lock_name lock.now.lock }
     requires can { CanFeed G.rules job seat.seat }
     ensures same { SameSeat seat.seat result.0.seat }
     ensures fed { FeederEnds job result.1 [] (asked_by (view result.0.seat)) }
@@ -118,7 +119,7 @@ fn copy_over<R: Wait, G: Game, P: Gate>(
     seat: MirrorSeat<G>,
     job: CopyJob,
 ) -> (MirrorSeat<G>, CopyEnd)
-    requires own { seat.seat.table_id ≡ lock.now.lock.table.shared.table_id }
+    requires own { seat_name seat.seat ≡ lock_name lock.now.lock }
     requires can { CanCopy G.rules job seat.seat }
     ensures same { SameSeat seat.seat result.0.seat }
     ensures ran { CopyEnds job result.1 [] (asked_by (view result.0.seat))
@@ -141,7 +142,7 @@ pub fn do_job<R: Wait, G: Game, P: Gate>(
     notes: Notes,
     job: JobOver<MirrorSeat<G>>,
 ) -> EndOver<MirrorSeat<G>>
-    requires own { job.seat.seat.table_id ≡ lock.now.lock.table.shared.table_id }
+    requires own { seat_name job.seat.seat ≡ lock_name lock.now.lock }
     requires can { CanWork G.rules job.work job.seat.seat }
     ensures { Ends (λ s. s.seat) job result }
 {
@@ -205,9 +206,10 @@ impl<'a, R: Wait, P: Gate, G: Game> Doer<JobOver<MirrorSeat<G>>, EndOver<MirrorS
     for Doing<'a, R, P, MirrorLock<G>> {
     ghost use Rattle.std.specs.Prelude.{map};
     ghost use Rattle.race_hall.specs.Jobs.{CanDo};
+    ghost use Rattle.turn_lock.specs.Naming.{lock_name};
 
     ghost can = { λ d job. CanDo G.rules (λ s. s.seat)
-        (map (λ l. l.lock.table.shared.table_id) d.locks.now) job };
+        (map (λ l. lock_name l.lock) d.locks.now) job };
 
     fn work(&self, task: JobOver<MirrorSeat<G>>) -> EndOver<MirrorSeat<G>> {
         let lock = &self.locks[usize::from(task.mirror)];

@@ -11,6 +11,7 @@ ghost use Rattle.race_hall.specs.Finish.{EndsAtFold};
 ghost use Rattle.race_hall.specs.Jobs.{Ends, CanDo};
 ghost use Rattle.race_hall.specs.Crews.{ByMirror, IsCrewDone, IsLockOf, IsRaceOf, IsRoomy};
 ghost use Rattle.race_hall.specs.Raced.{AreRaced};
+ghost use Rattle.turn_lock.specs.Naming.{lock_name, opened_with};
 
 use crate::board::{Board, boards};
 use crate::crews::{close_all, crews, feeders};
@@ -60,7 +61,7 @@ fn do_jobs<R: Threads + Wait + Sync, G: Game + Send, P: Gate + Sync>(
     inline: u128,
 ) -> Result<Vec<EndOver<MirrorSeat<G>>>, NoMemory>
     requires can { AllByRecursion (CanDo G.rules (λ s. s.seat)
-        (map (λ l. l.lock.table.shared.table_id) locks.now))
+        (map (λ l. lock_name l.lock) locks.now))
         jobs.items }
     requires few { vec_len jobs ≤ 128 }
     ensures { IfOk result (λ ends. AllZip (Ends (λ s. s.seat)) jobs.items ends.items) }
@@ -132,9 +133,9 @@ fn end_race<G: Game>(
     requires ended { (c : Course) × (opening : G) × (budget : ℕ) × (jobs : List FeederJob)
         × IsRaceOf c budget copies jobs
         × ByMirror (λ k lock job crew.
-        IsCrewDone (λ s. s.seat) copies lock.lock.table.shared.table_id job crew
+        IsCrewDone (λ s. s.seat) copies (lock_name lock.lock) job crew
         × IsLockOf c opening (length c.commands)
-        lock.lock.table.shared.key.opening.value lock.lock.seats)
+        (opened_with lock.lock) lock.lock.seats)
         0 locks.items jobs ends.items }
     requires seats { AllByRecursion (λ v. IsRoomy copies v.items (vec_capacity v))
         spaces.seats.items }
@@ -149,9 +150,9 @@ fn end_race<G: Game>(
     ensures { (c : Course) (opening : G) (budget : ℕ) (jobs : List FeederJob)
         → IsRaceOf c budget copies jobs
         → ByMirror (λ k lock job crew.
-        IsCrewDone (λ s. s.seat) copies lock.lock.table.shared.table_id job crew
+        IsCrewDone (λ s. s.seat) copies (lock_name lock.lock) job crew
         × IsLockOf c opening (length c.commands)
-        lock.lock.table.shared.key.opening.value lock.lock.seats)
+        (opened_with lock.lock) lock.lock.seats)
         0 locks.items jobs ends.items
         → (length result.items ≡ c.mirrors)
         × AllByRecursion (EndsAtFold G.rules c opening) result.items }
