@@ -1,7 +1,7 @@
 -- Commands in key order: where a test parts them, and how often it is passed.
-use Rattle.std.proofs.Common.{◌≡◌, refl, ◌∙◌, sym, ap, ℕ, zero, suc, ◌≤◌, ◌<◌, Bool, true, false, List, [], ◌∷◌, length, get_or, ltb, arith}
-use Rattle.std.proofs.lemmas.Bool.{ltb-true, lt-ltb}
-use Rattle.std.proofs.lemmas.List.{get_or-map, length-map}
+use Rattle.std.proofs.Common.{◌≡◌, refl, ◌∙◌, sym, ap, ℕ, zero, suc, ◌+◌, ◌≤◌, ◌<◌, Bool, true, false, List, [], ◌∷◌, length, get_or, ltb, arith}
+use Rattle.std.proofs.lemmas.Bool.{ltb-true, lt-ltb, false_from_ne_true}
+use Rattle.std.proofs.lemmas.List.{get_or-map, length-map, get_or_default}
 use Rattle.std.specs.List.Sorted.{IsPartitionedBy, IsPartitionPoint}
 use Rattle.game_trait.specs.declared.command.Command.{Command}
 use Rattle.game_trait.specs.Keys.{before, KeysRise}
@@ -9,7 +9,7 @@ use Rattle.game_trait.specs.Count.{times}
 use Rattle.game_trait.proofs.KeyOrder.{before-time}
 use Rattle.game_trait.proofs.Lists.{all-at}
 use Rattle.game_trait.proofs.Places.{rising-parted}
-use Rattle.pending_list.specs.Buckets.{placed_commands}
+use Rattle.pending_list.specs.Buckets.{placed_commands, AllBefore, NoneBefore}
 use Rattle.pending_list.specs.declared.order.Placed.{Placed}
 
 -- where a test parts a list, so many pass it
@@ -72,6 +72,27 @@ time-parted t xs rises i j d upto within below =
 
 pub before-parted : (x : Command) (ys : List Placed) → KeysRise (placed_commands ys) → IsPartitionedBy (λ y. before y.command x) ys
 before-parted x ys rises = commands-parted (λ y. before y x) ys (rising-parted x (placed_commands ys) rises)
+
+-- where a command stands before another, so do all in front of it
+pub passed-below :
+    (x : Command) (ys : List Placed) (place : ℕ) (y : Placed) → KeysRise (placed_commands ys)
+    → place < length ys → y ≡ get_or ys place y → before y.command x ≡ true
+    → AllBefore x ys (place + 1)
+passed-below x ys place y rises there at here k d low high =
+    before-parted x ys rises k place d (omega arith) there
+    (ap (λ (z : Placed). before z.command x) (get_or_default ys place d y there ∙ sym at) ∙ here)
+
+-- where it doesn't, none behind it does
+pub stopped-from :
+    (x : Command) (ys : List Placed) (place : ℕ) (y : Placed) → KeysRise (placed_commands ys)
+    → place < length ys → y ≡ get_or ys place y → before y.command x ≡ false
+    → NoneBefore x ys place
+stopped-from x ys place y rises there at here k d low high =
+    false_from_ne_true (before (get_or ys k d).command x)
+    (λ passed.
+    let front = before-parted x ys rises place k d low high passed in
+    let same = ap (λ (z : Placed). before z.command x) (get_or_default ys place d y there ∙ sym at) in
+    cc)
 
 pub due-parted : (t : ℕ) (ys : List Placed) → KeysRise (placed_commands ys) → IsPartitionedBy (λ y. ltb y.command.time t) ys
 due-parted t ys rises = commands-parted (λ y. ltb y.time t) ys (time-parted t (placed_commands ys) rises)
