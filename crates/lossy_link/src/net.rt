@@ -22,7 +22,7 @@ use game_trait::{Game, MirrorId};
 use lossy_text::{LossyText, NetLine};
 use match_file::Match;
 use match_hall::Hall;
-use mirror_core::Mirror;
+use mirror_core::DeferredMirror;
 use report_text::done_line;
 use run_recorder::MirrorLog;
 use std::alloc::Global;
@@ -137,7 +137,7 @@ impl<G: Game + Shown> Net<G> {
     }
 
     /// The mirror of this number, which is there.
-    pub fn mirror(&self, mirror: MirrorId) -> &Mirror<G>
+    pub fn mirror(&self, mirror: MirrorId) -> &DeferredMirror<G>
         requires { mirror < length self.now.mirrors }
         ensures { slice_get self.now.mirrors mirror ≡ Some result.now }
     {

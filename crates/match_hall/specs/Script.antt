@@ -120,8 +120,11 @@ scripted opening m = after_script m.commands (opening_mirrors opening m) m.scrip
 abbrev pub played : {W : Type 0} → W → MatchData → List (MirrorState W)
 played opening m = map (λ s. drain s) (scripted opening m)
 
+-- the log of the mirror of this number
+abbrev pub log_of : {W : Type 0} → ℕ → MirrorState W → MirrorLog
+log_of number s = record { mirror = number; events = s.history }
+
 -- the logs of mirrors, of which the first has this number
 unfoldable pub logs_from : {W : Type 0} → ℕ → List (MirrorState W) → List MirrorLog
 logs_from number [] = []
-logs_from number (s ∷ ss) =
-    record { mirror = number; events = s.history } ∷ logs_from (number + 1) ss
+logs_from number (s ∷ ss) = log_of number s ∷ logs_from (number + 1) ss

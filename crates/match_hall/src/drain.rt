@@ -7,13 +7,13 @@ ghost use Rattle.match_hall.specs.Stops.{IsStoppedDrain};
 
 use crate::events::push_turn;
 use game_trait::{Game, MirrorId};
-use mirror_core::Mirror;
+use mirror_core::DeferredMirror;
 use tss_io::NoMemory;
 
 /// Makes turns until the mirror is drained, at most so many, and appends what they print. On
 /// `NoMemory` it stopped at one of them, whose text wasn't appended.
 pub fn drain_mirror<G: Game>(
-    mirror: &mut Mirror<G>,
+    mirror: &mut DeferredMirror<G>,
     number: MirrorId,
     turns: u32,
     out: &mut Vec<u8>,

@@ -1,6 +1,6 @@
 //! The hall of a match: its mirrors, played along its script and drained.
 
-ghost use Rattle.std.specs.Prelude.{◌≡◌, ◌++◌, ◌<◌, ◌≤◌, Some, length, map, replicate, OnOk, OnErr, IfOk, slice_get};
+ghost use Rattle.std.specs.Prelude.{◌≡◌, ◌++◌, ◌<◌, ◌≤◌, [], ◌∷◌, Some, length, map, replicate, OnOk, OnErr, IfOk, slice_get};
 ghost use Rattle.std.specs.List.{AllByRecursion};
 ghost use Rattle.sync_model.specs.State.{MirrorState};
 ghost use Rattle.sync_model.specs.Change.{Fits};
@@ -9,7 +9,7 @@ ghost use Rattle.sync_model.specs.Turns.{drain};
 ghost use Rattle.match_file.specs.Data.{IsScriptLine};
 ghost use Rattle.game_trait.specs.declared.limits.TheConstants.{MOST_ROOM};
 ghost use Rattle.sync_model.specs.State.{opening_state};
-ghost use Rattle.match_hall.specs.Script.{all_plans, mirror_of, changed_at, told_at, events_of, after_line, after_script, opening_mirrors, logs_from};
+ghost use Rattle.match_hall.specs.Script.{all_plans, mirror_of, changed_at, told_at, events_of, after_line, after_script, opening_mirrors, log_of, logs_from};
 ghost use Rattle.match_hall.specs.Ready.{IsReady};
 ghost use Rattle.match_hall.specs.Report.{Showing, line_text, script_text, drains_text, mirrors_text, lines_of_mirrors};
 ghost use Rattle.match_hall.specs.Stops.{IsStoppedScript, IsStoppedDraining, IsFrontPut};
@@ -25,7 +25,7 @@ use crate::tell::tell_mirror;
 use arena_rules::{Roster, Shown};
 use game_trait::{Game, MirrorId};
 use match_file::{Match, ScriptLine};
-use mirror_core::Mirror;
+use mirror_core::{DeferredMirror, Mirrored};
 use report_text::{arrival_line, step_line, tick_line};
 use run_recorder::MirrorLog;
 use std::alloc::Global;
@@ -36,7 +36,7 @@ use watch_board::{Board, Watcher};
 /// The mirrors of a match. Contracts see the list of their states, mirror 0 first.
 #[derive(Drop)]
 pub struct Hall<G: Game> {
-    mirrors: Vec<Mirror<G>>,
+    mirrors: Vec<DeferredMirror<G>>,
 }
 
 impl<G: Game> Model for Hall<G> {
@@ -54,7 +54,7 @@ impl<G: Game> Model for Hall<G> {
 // line was made, and `out` is unchanged.
 #[tactic(auto, unfolding(crate::specs::Report::line_text, crate::specs::Report::reply_text, crate::specs::Script::events_of, sync_model::specs::Change::after, sync_model::specs::Change::answers, sync_model::specs::History::HasRoomAlong))]
 fn play_line<G: Game + Shown>(
-    mirror: &mut Mirror<G>,
+    mirror: &mut DeferredMirror<G>,
     m: &Match,
     line: &ScriptLine,
     out: &mut Vec<u8>,
@@ -84,7 +84,10 @@ fn play_line<G: Game + Shown>(
             arrival_line(out, at, from, number, &mirror.arrive(&x))
         }
         ScriptLine::Step { mirror: at, copy } => step_line(out, at, copy, mirror.step(copy)),
-        ScriptLine::World { mirror: at, copy } => push_copy(out, at, mirror, copy, &m.roster),
+        ScriptLine::World { mirror: at, copy } => {
+            mirror.refresh();
+            push_copy::<G, _>(out, at, mirror, copy, &m.roster)
+        }
         ScriptLine::Run { mirror: at, copy } => push_run(out, at, mirror, copy),
         ScriptLine::Restagger { plan, .. } => {
             mirror.restagger(plan);
@@ -96,7 +99,7 @@ fn play_line<G: Game + Shown>(
 // Makes the lines of a match's script one after another, each at the mirror that it names, and
 // appends what they print.
 fn play_script<G: Game + Shown>(
-    mirrors: &mut Vec<Mirror<G>>,
+    mirrors: &mut Vec<DeferredMirror<G>>,
     m: &Match,
     out: &mut Vec<u8>,
 ) -> Result<(), NoMemory>
@@ -122,7 +125,10 @@ fn play_script<G: Game + Shown>(
 }
 
 // Drains mirrors one after another, and appends what that prints.
-fn drain_mirrors<G: Game>(mirrors: &mut Vec<Mirror<G>>, out: &mut Vec<u8>) -> Result<(), NoMemory>
+fn drain_mirrors<G: Game>(
+    mirrors: &mut Vec<DeferredMirror<G>>,
+    out: &mut Vec<u8>,
+) -> Result<(), NoMemory>
     requires { length mirrors.old.items ≤ 8 }
     ensures count { length mirrors.new.items ≡ length mirrors.old.items }
     ensures state { OnOk result (mirrors.new.items ≡ map (λ s. drain s) mirrors.old.items) }
@@ -139,7 +145,7 @@ fn drain_mirrors<G: Game>(mirrors: &mut Vec<Mirror<G>>, out: &mut Vec<u8>) -> Re
 
 // Plays mirrors to watchers, one after another.
 fn tell_mirrors<G: Game>(
-    mirrors: &mut Vec<Mirror<G>>,
+    mirrors: &mut Vec<DeferredMirror<G>>,
     m: &Match,
     board: &mut Board,
     out: &mut Vec<u8>,
@@ -163,7 +169,7 @@ fn tell_mirrors<G: Game>(
 // gained a front of that.
 #[tactic(auto, unfolding(crate::specs::Report::mirrors_text))]
 fn push_mirrors<G: Game + Shown>(
-    mirrors: &[Mirror<G>],
+    mirrors: &[DeferredMirror<G>],
     roster: &Roster,
     out: &mut Vec<u8>,
 ) -> Result<(), NoMemory>
@@ -185,30 +191,50 @@ fn push_mirrors<G: Game + Shown>(
 
 // Appends the lines of mirrors, mirror 0 first.
 #[tactic(auto, unfolding(crate::specs::Report::lines_of_mirrors))]
-fn push_lines_of_mirrors<G: Game>(mirrors: &[Mirror<G>], out: &mut Vec<u8>) -> Result<(), NoMemory>
+fn push_lines_of_mirrors<G: Game>(
+    mirrors: &[DeferredMirror<G>],
+    out: &mut Vec<u8>,
+) -> Result<(), NoMemory>
     requires { length mirrors.now ≤ 8 }
     ensures { OnOk result (out.new.items ≡ out.old.items ++ lines_of_mirrors 0 mirrors.now) }
 {
     let mut number: MirrorId = 0;
     for mirror in mirrors {
-        push_line_of_mirror(out, number, mirror)?;
+        push_line_of_mirror::<G, _>(out, number, mirror)?;
         number += 1;
     }
     Ok(())
 }
 
-/// The logs of mirrors, mirror 0 first: of each the events that changed it, in order. Want of
-/// memory makes none.
+/// Appends the log of the mirror of this number: the events that changed it, in order. On `NoMemory`
+/// the logs are unchanged.
+pub fn push_log<G: Game, M: Mirrored<G>>(
+    alloc: Global,
+    number: MirrorId,
+    mirror: &M,
+    logs: &mut Seq<MirrorLog>,
+) -> Result<(), NoMemory>
+    ensures ok { OnOk result (logs.new
+        ≡ logs.old ++ log_of number (M.state mirror.now) ∷ []) }
+    ensures err { OnErr result (logs.new ≡ logs.old) }
+{
+    let events = Vec::from_slice(alloc, mirror.events())?;
+    logs.push(MirrorLog::new(number, events))
+}
+
+// The logs of mirrors, mirror 0 first. Want of memory makes none.
 #[tactic(auto, unfolding(crate::specs::Script::logs_from))]
-pub fn logs_of<G: Game>(alloc: Global, mirrors: &[Mirror<G>]) -> Result<Seq<MirrorLog>, NoMemory>
+fn logs_of<G: Game>(
+    alloc: Global,
+    mirrors: &[DeferredMirror<G>],
+) -> Result<Seq<MirrorLog>, NoMemory>
     requires { length mirrors.now ≤ 8 }
     ensures { IfOk result (λ kept. kept ≡ logs_from 0 mirrors.now) }
 {
     let mut kept = Seq::new(alloc);
     let mut number: MirrorId = 0;
     for mirror in mirrors {
-        let events = Vec::from_slice(alloc, mirror.events())?;
-        kept.push(MirrorLog::new(number, events))?;
+        push_log::<G, _>(alloc, number, mirror, &mut kept)?;
         number += 1;
     }
     Ok(kept)
@@ -326,7 +352,7 @@ impl<G: Game + Shown> Hall<G> {
     }
 
     /// The mirror of this number, which is there.
-    pub fn mirror(&self, mirror: MirrorId) -> &Mirror<G>
+    pub fn mirror(&self, mirror: MirrorId) -> &DeferredMirror<G>
         requires { mirror < length self.now }
         ensures { slice_get self.now mirror ≡ Some result.now }
     {

@@ -9,7 +9,7 @@ ghost use Rattle.match_hall.specs.Report.{Showing, run_of, copy_block, copy_bloc
 
 use arena_rules::{Roster, Shown};
 use game_trait::{Arrived, Game, MirrorId, Reply, Stepped};
-use mirror_core::Mirror;
+use mirror_core::{DeferredMirror, Mirrored};
 use report_text::{copy_block, line_end, mirror_line, repair_line, run_head, run_mark};
 use tss_io::NoMemory;
 
@@ -54,28 +54,23 @@ pub fn push_repairs(out: &mut Vec<u8>, at: MirrorId, replies: &[Reply]) -> Resul
 }
 
 /// Appends the block of a copy, which is there. On `NoMemory` `out` is unchanged.
-pub fn push_copy<G: Game + Shown>(
+pub fn push_copy<G: Game + Shown, M: Mirrored<G>>(
     out: &mut Vec<u8>,
     number: MirrorId,
-    mirror: &Mirror<G>,
+    mirror: &M,
     copy: u8,
     roster: &Roster,
 ) -> Result<(), NoMemory>
-    requires { copy < length mirror.now.runs }
+    requires { copy < length (M.state mirror.now).runs }
     ensures ok { let show : Showing G =
         record { rules = G.rules; lines = G.lines; names = roster.now } in
         OnOk result (out.new.items ≡ out.old.items
-        ++ copy_block show number mirror.now.opening copy (run_of mirror.now copy)) }
+        ++ copy_block show number (M.state mirror.now).opening copy
+        (run_of (M.state mirror.now) copy)) }
     ensures err { OnErr result (out.new.items ≡ out.old.items) }
 {
-    copy_block(
-        out,
-        number,
-        copy,
-        mirror.copy_clock(copy),
-        mirror.world(copy),
-        roster,
-    )
+    let world = mirror.world_twin(copy);
+    copy_block(out, number, copy, mirror.copy_clock(copy), &world, roster)
 }
 
 // Appends a copy's run line. On `NoMemory` some of it may have been appended.
@@ -83,7 +78,7 @@ pub fn push_copy<G: Game + Shown>(
 fn push_run_parts<G: Game>(
     out: &mut Vec<u8>,
     number: MirrorId,
-    mirror: &Mirror<G>,
+    mirror: &DeferredMirror<G>,
     copy: u8,
 ) -> Result<(), NoMemory>
     requires { copy < length mirror.now.runs }
@@ -102,7 +97,7 @@ fn push_run_parts<G: Game>(
 pub fn push_run<G: Game>(
     out: &mut Vec<u8>,
     number: MirrorId,
-    mirror: &Mirror<G>,
+    mirror: &DeferredMirror<G>,
     copy: u8,
 ) -> Result<(), NoMemory>
     requires { copy < length mirror.now.runs }
@@ -122,9 +117,9 @@ pub fn push_run<G: Game>(
 
 // How many commands a mirror accepted, and how many arrivals it turned away: no more than it has
 // events.
-fn taken_in<G: Game>(mirror: &Mirror<G>) -> (u32, u32)
-    ensures accepted { result.0 ≡ length mirror.now.accepted }
-    ensures turned { result.1 ≡ length mirror.now.turned }
+fn taken_in<G: Game, M: Mirrored<G>>(mirror: &M) -> (u32, u32)
+    ensures accepted { result.0 ≡ length (M.state mirror.now).accepted }
+    ensures turned { result.1 ≡ length (M.state mirror.now).turned }
 {
     mirror.always();
     let _ = mirror.events();
@@ -132,15 +127,16 @@ fn taken_in<G: Game>(mirror: &Mirror<G>) -> (u32, u32)
 }
 
 /// Appends the line of the mirror of this number. On `NoMemory` `out` is unchanged.
-pub fn push_line_of_mirror<G: Game>(
+pub fn push_line_of_mirror<G: Game, M: Mirrored<G>>(
     out: &mut Vec<u8>,
     number: MirrorId,
-    mirror: &Mirror<G>,
+    mirror: &M,
 ) -> Result<(), NoMemory>
-    ensures ok { OnOk result (out.new.items ≡ out.old.items ++ line_of_mirror number mirror.now) }
+    ensures ok { OnOk result
+        (out.new.items ≡ out.old.items ++ line_of_mirror number (M.state mirror.now)) }
     ensures err { OnErr result (out.new.items ≡ out.old.items) }
 {
-    let (accepted, turned) = taken_in(mirror);
+    let (accepted, turned) = taken_in::<G, M>(mirror);
     mirror_line(out, number, accepted, turned, mirror.repairs())
 }
 
@@ -150,7 +146,7 @@ pub fn push_line_of_mirror<G: Game>(
 pub fn push_mirror<G: Game + Shown>(
     out: &mut Vec<u8>,
     number: MirrorId,
-    mirror: &Mirror<G>,
+    mirror: &DeferredMirror<G>,
     roster: &Roster,
 ) -> Result<(), NoMemory>
     ensures ok { let show : Showing G =
@@ -164,9 +160,9 @@ pub fn push_mirror<G: Game + Shown>(
         (line_of_mirror number mirror.now
         ++ copy_blocks show number mirror.now.opening 0 mirror.now.runs)) }
 {
-    push_line_of_mirror(out, number, mirror)?;
+    push_line_of_mirror::<G, _>(out, number, mirror)?;
     for copy in 0..mirror.copies() {
-        push_copy(out, number, mirror, copy, roster)?;
+        push_copy::<G, _>(out, number, mirror, copy, roster)?;
     }
     Ok(())
 }

@@ -16,7 +16,7 @@ use crate::script::mirror_of;
 use arrayvec::ArrayVec;
 use game_trait::{Arrived, Event, Game, MirrorId, Note, Reply, Stepped, Ticked};
 use match_file::{Match, ScriptLine};
-use mirror_core::{Mirror, turn_events};
+use mirror_core::{DeferredMirror, Mirrored, turn_events};
 use tss_io::NoMemory;
 use watch_board::{Board, Watcher};
 
@@ -78,7 +78,7 @@ fn tell_changes<const N: usize>(
 
 // Makes events together, and then tells the watchers of those that changed the mirror, in order.
 fn tell_events<G: Game>(
-    mirror: &mut Mirror<G>,
+    mirror: &mut DeferredMirror<G>,
     number: MirrorId,
     events: &[Event],
     board: &mut Board,
@@ -102,7 +102,7 @@ fn tell_events<G: Game>(
 // Sees that there is room for these events behind those that wait: where there is none, those that
 // wait are made and told, and wait no more.
 fn make_room<G: Game>(
-    mirror: &mut Mirror<G>,
+    mirror: &mut DeferredMirror<G>,
     number: MirrorId,
     events: &[Event],
     waiting: &mut Waiting,
@@ -131,7 +131,7 @@ fn make_room<G: Game>(
 
 // Appends the events of a script line that names the mirror to those that wait.
 fn wait_line<G: Game>(
-    mirror: &mut Mirror<G>,
+    mirror: &mut DeferredMirror<G>,
     number: MirrorId,
     m: &Match,
     line: &ScriptLine,
@@ -162,7 +162,7 @@ fn wait_line<G: Game>(
 // Makes the lines of the match's script that name the mirror, which stands as the match begins.
 // Their events are gathered, and made as many together as there is room for.
 fn tell_script<G: Game>(
-    mirror: &mut Mirror<G>,
+    mirror: &mut DeferredMirror<G>,
     number: MirrorId,
     m: &Match,
     board: &mut Board,
@@ -191,7 +191,7 @@ fn tell_script<G: Game>(
 
 // Makes a turn of the mirror.
 fn tell_turn<G: Game>(
-    mirror: &mut Mirror<G>,
+    mirror: &mut DeferredMirror<G>,
     number: MirrorId,
     board: &mut Board,
     out: &mut Vec<u8>,
@@ -212,7 +212,7 @@ fn tell_turn<G: Game>(
 
 // Makes turns until the mirror is drained, at most so many.
 fn tell_turns<G: Game>(
-    mirror: &mut Mirror<G>,
+    mirror: &mut DeferredMirror<G>,
     number: MirrorId,
     turns: u32,
     board: &mut Board,
@@ -239,7 +239,7 @@ fn tell_turns<G: Game>(
 /// Events are made up to 256 together and then told, so on `NoMemory`, when it stopped at one of the
 /// events, the mirror may have made some more than the watchers were told of.
 pub fn tell_mirror<G: Game>(
-    mirror: &mut Mirror<G>,
+    mirror: &mut DeferredMirror<G>,
     number: MirrorId,
     m: &Match,
     board: &mut Board,

@@ -45,8 +45,8 @@ pub fn push_ends<G: Game + Shown>(
 {
     mirror.always();
     let last = mirror.copies() - 1;
-    push_line_of_mirror(out, number, mirror)?;
-    push_copy(out, number, mirror, last, &m.roster)?;
+    push_line_of_mirror::<G, _>(out, number, mirror)?;
+    push_copy::<G, _>(out, number, mirror, last, &m.roster)?;
     joiner_counts(out, joiner.accepted(), joiner.turned(), joiner.repairs())?;
     joiner_block(out, m.length, joiner.world(last), &m.roster)?;
     same_line(out, same)?;

@@ -11,7 +11,7 @@ use arena_rules::Arena;
 use arrayvec::ArrayVec;
 use game_trait::MirrorId;
 use match_hall::Hall;
-use mirror_core::Mirror;
+use mirror_core::{DeferredMirror, Mirrored};
 use report_text::ScoreRow;
 use std::alloc::Global;
 use tss_io::NoMemory;
@@ -30,19 +30,20 @@ fn scores(world: &Arena, players: u8) -> ArrayVec<i32, 32>
 }
 
 // The row of the mirror of this number, whose match opened with a world of so many players.
-fn row(number: MirrorId, mirror: &Mirror<Arena>, players: u8) -> ScoreRow
+fn row(number: MirrorId, mirror: &DeferredMirror<Arena>, players: u8) -> ScoreRow
     requires few { (opening : World) × IsFew opening mirror.now
         × (length opening.players ≡ players) }
     requires players { players ≤ 32 }
     ensures { standing_of result ≡ standing number mirror.now }
 {
     let last = mirror.copies() - 1;
+    let world = mirror.world_twin(last);
     ScoreRow {
         mirror: number,
         accepted: mirror.accepted().len() as u32,
         turned: mirror.turned().len() as u32,
         repairs: mirror.repairs(),
-        scores: scores(mirror.world(last), players),
+        scores: scores(&world, players),
     }
 }
 

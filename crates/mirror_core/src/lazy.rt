@@ -4,8 +4,9 @@ ghost use Rattle.std.specs.Prelude.{◌≡◌, ◌<◌, ◌≤◌, IfOk, length}
 ghost use Rattle.std.specs.List.{AllByRecursion};
 ghost use Rattle.sync_model.specs.State.{opening_state, schedule_of, step_limit};
 ghost use Rattle.sync_model.specs.State.{last_clock as last_clock_of};
-ghost use Rattle.sync_model.specs.Change.{next, said, Fits};
-ghost use Rattle.sync_model.specs.History.{HasRoom};
+ghost use Rattle.sync_model.specs.Change.{next, said, after, answers, Fits};
+ghost use Rattle.sync_model.specs.History.{HasRoom, HasRoomAlong};
+ghost use Rattle.sync_model.specs.Turns.{turn, turn_events, is_drained, drain_bound};
 ghost use Rattle.sync_model.specs.Drafts.{epoch as epoch_of, ready_of, FitsReady};
 ghost use Rattle.mirror_core.specs.Kept.{delays_of_each, ticks_of_first, copies_of_first};
 ghost use Rattle.mirror_core.specs.Drafts.{drafted as drafted_by, committed_to, committed, IfDraft};
@@ -14,6 +15,8 @@ use crate::drafts::{Committed, Drafted, MOST_DRAFTED, Ready};
 use crate::epochs::Epochs;
 use crate::lists::Lists;
 use crate::plans::greatest;
+use crate::turns::turn_events;
+use arrayvec::ArrayVec;
 use game_trait::limits::{MOST_PLANS, MOST_ROOM};
 use game_trait::{Arrived, Command, Event, Game, MirrorId, Number, Reply, Stepped, Tick, Ticked};
 use stagger_clock::Stagger;
@@ -302,6 +305,51 @@ impl<G: Game> LazyMirror<G> {
                 Reply::Restaggered
             }
         }
+    }
+
+    /// Makes events one after another, each as `make` does, and hands back what was answered to each,
+    /// in order. Worlds may be left to be made.
+    pub fn make_each<const N: usize>(&mut self, events: &[Event]) -> ArrayVec<Reply, N>
+        requires few { length events.now ≤ N }
+        requires fits { AllByRecursion (Fits self.old.state) events.now }
+        requires room { HasRoomAlong self.old.state events.now }
+        ensures state { self.new.state ≡ after self.old.state events.now }
+        ensures replies { result.items ≡ answers self.old.state events.now }
+    {
+        let mut replies = ArrayVec::new();
+        for e in events {
+            replies.push(self.make(e));
+        }
+        replies
+    }
+
+    /// Makes a turn: a tick, and then a step of each copy from copy 0 on. Worlds may be left to be
+    /// made.
+    pub fn turn(&mut self) -> ArrayVec<Reply, 9>
+        ensures state { self.new.state ≡ turn self.old.state }
+        ensures replies { result.items
+            ≡ answers self.old.state (turn_events (length self.old.state.runs)) }
+    {
+        let _ = &self.clock;
+        let events = turn_events(self.stagger().copies());
+        self.make_each(events.as_slice())
+    }
+
+    /// How many turns are enough to drain the mirror.
+    pub fn turns_to_drain(&self) -> u32
+        ensures { result ≡ drain_bound self.now.state }
+    {
+        let stagger = self.stagger();
+        let end = stagger.length() + stagger.longest();
+        end.saturating_sub(self.clock) + stagger.length()
+    }
+
+    /// Whether every copy has run the whole match.
+    pub fn drained(&self) -> bool
+        ensures { result ≡ is_drained self.now.state }
+    {
+        let _ = &self.stack;
+        self.last_clock() == self.stagger().length()
     }
 
     /// Makes the worlds that are still to be made, each once.

@@ -2,15 +2,19 @@
 //! moment a state of `sync_model`.
 #![tactic(auto)]
 
+mod deferred;
 mod drafts;
 mod epochs;
 mod lazy;
 mod lists;
 mod mirror;
+mod mirrored;
 mod plans;
 mod turns;
 
+pub use deferred::DeferredMirror;
 pub use drafts::{Committed, Draft, Drafted, MOST_DRAFTED, Ready};
 pub use mirror::Mirror;
+pub use mirrored::Mirrored;
 pub use sync_model::Turned;
 pub use turns::turn_events;

@@ -14,7 +14,7 @@ ghost use Rattle.mirror_core.specs.Drafts.{drafted as drafted_by, committed_to, 
 
 use crate::drafts::{Committed, Drafted, Ready};
 use crate::lazy::LazyMirror;
-use crate::turns::turn_events;
+use crate::mirrored::Mirrored;
 use arrayvec::ArrayVec;
 use game_trait::limits::{MOST_PLANS, MOST_ROOM};
 use game_trait::{Arrived, Command, Event, Game, Item, Reply, Stepped, Tick, Ticked};
@@ -206,10 +206,7 @@ impl<G: Game> Mirror<G> {
         ensures state { self.new ≡ after self.old events.now }
         ensures replies { result.items ≡ answers self.old events.now }
     {
-        let mut replies = ArrayVec::new();
-        for e in events {
-            replies.push(self.inner.make(e));
-        }
+        let replies = self.inner.make_each(events);
         self.inner.refresh();
         replies
     }
@@ -220,9 +217,9 @@ impl<G: Game> Mirror<G> {
         ensures state { self.new ≡ turn self.old }
         ensures replies { result.items ≡ answers self.old (turn_events (length self.old.runs)) }
     {
-        self.always();
-        let events = turn_events(self.copies());
-        self.make_each(events.as_slice())
+        let replies = self.inner.turn();
+        self.inner.refresh();
+        replies
     }
 
     /// Makes turns until every copy has run the whole match.
@@ -347,16 +344,49 @@ impl<G: Game> Mirror<G> {
     pub fn turns_to_drain(&self) -> u32
         ensures { result ≡ drain_bound self.now }
     {
-        let stagger = self.inner.stagger();
-        let end = stagger.length() + stagger.longest();
-        end.saturating_sub(self.inner.clock) + stagger.length()
+        self.inner.turns_to_drain()
     }
 
     /// Whether every copy has run the whole match.
     pub fn drained(&self) -> bool
         ensures { result ≡ is_drained self.now }
     {
-        let _ = &self.inner.stack;
-        self.inner.last_clock() == self.inner.stagger().length()
+        self.inner.drained()
+    }
+}
+
+impl<G: Game> Mirrored<G> for Mirror<G> {
+    ghost state = { λ m. m };
+
+    fn always(&self) {
+        self.always();
+    }
+
+    fn copies(&self) -> u8 {
+        self.copies()
+    }
+
+    fn copy_clock(&self, copy: u8) -> Tick {
+        self.copy_clock(copy)
+    }
+
+    fn world_twin(&self, copy: u8) -> G {
+        self.world(copy).twin()
+    }
+
+    fn accepted(&self) -> &[Command] {
+        self.accepted()
+    }
+
+    fn turned(&self) -> &[Turned] {
+        self.turned()
+    }
+
+    fn events(&self) -> &[Event] {
+        self.events()
+    }
+
+    fn repairs(&self) -> u64 {
+        self.repairs()
     }
 }

@@ -7,14 +7,14 @@ ghost use Rattle.soak.specs.Agree.{IsAllAt, AreAllAt};
 use arena_rules::Arena;
 use game_trait::MirrorId;
 use match_hall::Hall;
-use mirror_core::Mirror;
+use mirror_core::{DeferredMirror, Mirrored};
 
 // Whether each copy of the mirror has this world.
-fn is_all_at(mirror: &Mirror<Arena>, world: &Arena) -> bool
+fn is_all_at(mirror: &DeferredMirror<Arena>, world: &Arena) -> bool
     ensures { IsTrue result ↔ IsAllAt arena_rules world.now mirror.now }
 {
     for copy in 0..mirror.copies() {
-        if !mirror.world(copy).same(world) {
+        if !mirror.world_twin(copy).same(world) {
             return false;
         }
     }

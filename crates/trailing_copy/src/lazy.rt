@@ -19,7 +19,7 @@ use crate::clocks::{count_above, kept, kept_with};
 use crate::due::due_into;
 use crate::repairs::{bring_to_list_end, remake_runs_ahead, settled_by};
 use crate::ticks::execute_or_put;
-use crate::worlds::{apply_to_each, make_worlds};
+use crate::worlds::{apply_to_each, execute_items, make_worlds};
 use arrayvec::ArrayVec;
 use divergence_check::diverges;
 use executed_list::Segments;
@@ -455,6 +455,22 @@ impl<G: Game> LazyStack<G> {
     {
         let _ = self.run.len();
         &self.worlds[copy as usize]
+    }
+
+    /// The copy's live world, also where it is still to be made: then from that of the first copy
+    /// behind it whose world is made, and from the items between their ends. Nothing is changed, so
+    /// who asks again executes them again. The copy is there.
+    pub fn made_world(&self, copy: u8) -> G
+        requires { copy < length self.now.runs }
+        ensures { result
+            ≡ world_of G.rules self.now.opening (slice_index_or self.now.runs copy []) }
+    {
+        let _ = self.run.len();
+        let from = self.stale.max(copy);
+        let mut world = self.worlds[from as usize].twin();
+        let (start, stop) = (self.run.end(from), self.run.end(copy));
+        execute_items(&mut world, &self.run, start, stop);
+        world
     }
 
     /// How many items the copy has run. The copy is there.

@@ -2,14 +2,15 @@
 
 ghost use Rattle.std.specs.Prelude.{◌≡◌, ◌≤◌, length, IfOk};
 ghost use Rattle.match_hall.specs.Report.{Showing};
+ghost use Rattle.match_hall.specs.Script.{logs_from};
 ghost use Rattle.tss_race.specs.Record.{blocks_from, worlds_from, record_of};
 
 use arena_rules::{Roster, Shown};
 use game_trait::{Game, MirrorId};
 use match_file::Match;
-use match_hall::{logs_of, push_copy};
+use match_hall::{push_copy, push_log};
 use mirror_core::Mirror;
-use run_recorder::{Block, RaceRecord};
+use run_recorder::{Block, MirrorLog, RaceRecord};
 use std::alloc::Global;
 use tss_io::{NoMemory, Seq};
 
@@ -29,7 +30,7 @@ fn blocks_of<G: Game + Shown>(
     let mut blocks = Seq::new(alloc);
     for copy in 0..mirror.copies() {
         let mut text = Vec::new(alloc);
-        push_copy(&mut text, number, mirror, copy, roster)?;
+        push_copy::<G, _>(&mut text, number, mirror, copy, roster)?;
         blocks.push(Block::of(text))?;
     }
     Ok(blocks)
@@ -54,6 +55,21 @@ fn worlds_of<G: Game + Shown>(
         number += 1;
     }
     Ok(worlds)
+}
+
+// The logs of mirrors, mirror 0 first. Want of memory makes none.
+#[tactic(auto, unfolding(match_hall::specs::Script::logs_from))]
+fn logs_of<G: Game>(alloc: Global, mirrors: &[Mirror<G>]) -> Result<Seq<MirrorLog>, NoMemory>
+    requires { length mirrors.now ≤ 8 }
+    ensures { IfOk result (λ logs. logs ≡ logs_from 0 mirrors.now) }
+{
+    let mut logs = Seq::new(alloc);
+    let mut number: MirrorId = 0;
+    for mirror in mirrors {
+        push_log::<G, _>(alloc, number, mirror, &mut logs)?;
+        number += 1;
+    }
+    Ok(logs)
 }
 
 /// The record of a match whose mirrors ended so: their logs, and the worlds of their copies. Want

@@ -7,14 +7,14 @@ use Rattle.match_hall.proofs.show.taken_in.Goals as goal
 
 pub overflow_cast-result : goal.overflow_cast-result
 overflow_cast-result g c =
-    let few = consistent-few c.args.mirror.now c.always.ensures in
+    let few = consistent-few (g.M.Mirrored.state c.args.mirror.now) c.always.ensures in
     let same = ap (λ (l : List Command). length l) c.accepted.ensures in
     let events = ap (λ (l : List Event). length l) c.events.ensures.events in
     omega (arith, few.0, same, events, c.events.ensures.few)
 
 pub overflow_cast-result-2 : goal.overflow_cast-result-2
 overflow_cast-result-2 g c =
-    let few = consistent-few c.args.mirror.now c.always.ensures in
+    let few = consistent-few (g.M.Mirrored.state c.args.mirror.now) c.always.ensures in
     let same = ap (λ (l : List Turned). length l) c.turned.ensures in
     let events = ap (λ (l : List Event). length l) c.events.ensures.events in
     omega (arith, few.1, same, events, c.events.ensures.few)

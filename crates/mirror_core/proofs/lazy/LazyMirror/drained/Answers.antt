@@ -1,5 +1,5 @@
 use Rattle.mirror_core.proofs.Calls.{drained-is}
-use Rattle.mirror_core.proofs.mirror.Mirror.drained.Goals as goal
+use Rattle.mirror_core.proofs.lazy.LazyMirror.drained.Goals as goal
 
 pub returns : goal.returns
 returns g c =
@@ -8,6 +8,5 @@ returns g c =
       c.length.ensures.length,
       c.stagger.ensures.schedule,
       ← c.self.view_is,
-      ← c.self-inside.view_is,
     )
-    (drained-is c.self-inside.invariant)
+    (drained-is c.self.invariant)

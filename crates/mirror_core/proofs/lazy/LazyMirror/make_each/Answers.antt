@@ -1,5 +1,5 @@
 use Rattle.mirror_core.proofs.Along.{next-room, next-made, all-made}
-use Rattle.mirror_core.proofs.mirror.Mirror.make_each.Goals as goal
+use Rattle.mirror_core.proofs.lazy.LazyMirror.make_each.Goals as goal
 
 pub make-requires-clause-room : goal.make-requires-clause-room
 make-requires-clause-room g c = next-room c.loop-e-test.true c.loop-e.invariant
@@ -11,7 +11,7 @@ loop-e-preserved g c =
 
 pub returns-clause-state : goal.returns-clause-state
 returns-clause-state g c =
-    rw c.refresh.ensures (all-made c.loop-e-test.false c.loop-e.invariant).0
+    (all-made c.loop-e-test.false c.loop-e.invariant).0
 
 pub returns-clause-replies : goal.returns-clause-replies
 returns-clause-replies g c = (all-made c.loop-e-test.false c.loop-e.invariant).1
