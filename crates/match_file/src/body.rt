@@ -13,6 +13,7 @@ ghost use Rattle.match_file.specs.Reading.{body_entries, may_open, may_end, take
 
 use crate::cell::Cell;
 use crate::commands::Commands;
+use crate::glance::{is_text, keyword_of, line_of};
 use crate::opening::{Opening, rises};
 use crate::place::{has_pickup, has_wall, is_behind_all, kind_of};
 use crate::player::{Player, face_of, has_home, has_name, is_name};
@@ -24,7 +25,7 @@ use command_lines::CommandWords;
 use game_trait::limits::{GREATEST_NUMBER, LONGEST_DELAY, MOST_PICKUPS, MOST_PLANS};
 use game_trait::{MirrorId, Tick};
 use std::alloc::Global;
-use tss_io::words::{front, last, next_line, number, numbers, so_many_words};
+use tss_io::words::{front, last, number, numbers, so_many_words};
 use tss_io::{Cause, LineFault, Seq, check};
 
 /// How far a text was read.
@@ -111,6 +112,7 @@ impl Body {
         self.players.is_empty() && self.commands.len() == 0
     }
 
+    #[inline(never)]
     fn take_plan(&mut self, alloc: Global, opening: &Opening, words: &[u8]) -> Result<(), LineFault>
         ensures { GivesLine (λ _. self.new) result
             (step (plan_kind opening.now) self.old (words_of words.now)) }
@@ -128,6 +130,7 @@ impl Body {
         Ok(())
     }
 
+    #[inline(never)]
     fn take_wall(&mut self, opening: &Opening, words: &[u8]) -> Result<(), LineFault>
         ensures { GivesLine (λ _. self.new) result
             (step (wall_kind opening.now) self.old (words_of words.now)) }
@@ -148,6 +151,7 @@ impl Body {
         Ok(())
     }
 
+    #[inline(never)]
     fn take_pickup(&mut self, opening: &Opening, words: &[u8]) -> Result<(), LineFault>
         ensures { GivesLine (λ _. self.new) result
             (step (pickup_kind opening.now) self.old (words_of words.now)) }
@@ -173,6 +177,7 @@ impl Body {
         Ok(())
     }
 
+    #[inline(never)]
     fn take_player(
         &mut self,
         alloc: Global,
@@ -211,6 +216,7 @@ impl Body {
         Ok(())
     }
 
+    #[inline(never)]
     fn take_command(&mut self, opening: &Opening, words: &[u8]) -> Result<(), LineFault>
         ensures { GivesLine (λ _. self.new) result
             (step (command_kind opening.now) self.old (words_of words.now)) }
@@ -255,29 +261,29 @@ impl Body {
         ensures { GivesLine (λ _. self.new) result
             (take_words (body_entries opening.now) self.old word.now (words_of words.now)) }
     {
-        if word == b"arrive".as_slice() {
+        if is_text(word, b"arrive") {
             self.take_arrive(opening, words)
-        } else if word == b"turn".as_slice() {
+        } else if is_text(word, b"turn") {
             self.take_turn(opening, words)
-        } else if word == b"tick".as_slice() {
+        } else if is_text(word, b"tick") {
             self.take_tick(opening, words)
-        } else if word == b"step".as_slice() {
+        } else if is_text(word, b"step") {
             self.take_step(opening, words)
-        } else if word == b"world".as_slice() {
+        } else if is_text(word, b"world") {
             self.take_world(opening, words)
-        } else if word == b"run".as_slice() {
+        } else if is_text(word, b"run") {
             self.take_run(opening, words)
-        } else if word == b"restagger".as_slice() {
+        } else if is_text(word, b"restagger") {
             self.take_restagger(opening, words)
-        } else if word == b"cmd".as_slice() {
+        } else if is_text(word, b"cmd") {
             self.take_command(opening, words)
-        } else if word == b"wall".as_slice() {
+        } else if is_text(word, b"wall") {
             self.take_wall(opening, words)
-        } else if word == b"pickup".as_slice() {
+        } else if is_text(word, b"pickup") {
             self.take_pickup(opening, words)
-        } else if word == b"player".as_slice() {
+        } else if is_text(word, b"player") {
             self.take_player(alloc, opening, words)
-        } else if word == b"plan".as_slice() {
+        } else if is_text(word, b"plan") {
             self.take_plan(alloc, opening, words)
         } else {
             Err(LineFault::Refused(Cause::Shape))
@@ -290,17 +296,17 @@ impl Body {
         requires { length opening.now.delays ≤ MOST_COPIES }
         ensures { GivesLine (λ _. self.new) result (take opening.now self.old line.now) }
     {
-        if line == b"script".as_slice() {
+        if is_text(line, b"script") {
             check(self.may_open(), Cause::Shape)?;
             self.stage = Stage::InScript;
             return Ok(());
         }
-        if line == b"end".as_slice() {
+        if is_text(line, b"end") {
             check(self.may_end(), Cause::Shape)?;
             self.stage = Stage::Ended;
             return Ok(());
         }
-        let (word, words) = front(line)?;
+        let (word, words) = keyword_of(line)?;
         self.take_words(alloc, opening, word, words)
     }
 
@@ -317,7 +323,7 @@ impl Body {
             (line_step (take opening.now) self.old (lines_of text.now)) }
         ensures shorter { IfOk result (λ rest. length rest.now < length text.now) }
     {
-        let (line, rest) = next_line(text)?;
+        let (line, rest) = line_of(text)?;
         self.take(alloc, opening, line)?;
         Ok(rest)
     }

@@ -1,0 +1,106 @@
+//! The parts of a line, read at a glance where they are short.
+
+ghost use Rattle.std.specs.Prelude.{◌≡◌, ◌<◌, length, bytes_eq, IfOk, IfSome, Ok};
+ghost use Rattle.std.specs.List.{list_all};
+ghost use Rattle.tss_io.specs.Lines.{lines_of, words_of};
+ghost use Rattle.tss_io.specs.Reading.{Answers};
+ghost use Rattle.tss_io.specs.Forms.{front_at, last_at, number_in, is_word_byte};
+ghost use Rattle.tss_io.specs.Kinds.{line_at};
+
+use tss_io::Cause;
+use tss_io::words::{front, last, next_line};
+
+/// The first line of the text, and the text behind its newline. It and the first word are never
+/// inlined: their loops over bytes would then count for the line's further loops too.
+#[inline(never)]
+pub fn line_of(text: &[u8]) -> Result<(&[u8], &[u8]), Cause>
+    ensures read { Answers (λ x. (x.0.now, lines_of x.1.now)) result (line_at (lines_of text.now)) }
+    ensures shorter { IfOk result (λ x. length x.1.now < length text.now) }
+{
+    next_line(text)
+}
+
+/// The first word of a line, where others follow, and these.
+#[inline(never)]
+pub fn keyword_of(line: &[u8]) -> Result<(&[u8], &[u8]), Cause>
+    ensures { Answers (λ x. (x.0.now, words_of x.1.now)) result (front_at (words_of line.now)) }
+{
+    front(line)
+}
+
+/// Whether the bytes are these. Their count is compared first.
+#[inline(always)]
+#[tactic(auto, using(crate::proofs::GlanceLaws::other_length))]
+pub fn is_text(bytes: &[u8], text: &[u8]) -> bool
+    ensures { result ≡ bytes_eq bytes.now text.now }
+{
+    if bytes.len() != text.len() {
+        return false;
+    }
+    bytes == text
+}
+
+// A first word of one byte, where others follow, and these.
+#[inline(always)]
+#[tactic(auto, using(crate::proofs::GlanceLaws::front_at_short))]
+fn short_front(words: &[u8]) -> Option<(&[u8], &[u8])>
+    ensures { IfSome result
+        (λ x. front_at (words_of words.now) ≡ Ok (x.0.now, words_of x.1.now)) }
+{
+    if words.len() < 2 {
+        return None;
+    }
+    if words[1] != b' ' || words[0] < 33 || words[0] > 126 {
+        return None;
+    }
+    let (word, rest) = words.split_at(1);
+    let (_, rest) = rest.split_at(1);
+    Some((word, rest))
+}
+
+/// The first of the words, where others follow, and these. A word of one byte takes no loop.
+#[inline(always)]
+pub fn front_of(words: &[u8]) -> Result<(&[u8], &[u8]), Cause>
+    ensures { Answers (λ x. (x.0.now, words_of x.1.now)) result (front_at (words_of words.now)) }
+{
+    if let Some(parts) = short_front(words) {
+        return Ok(parts);
+    }
+    keyword_of(words)
+}
+
+// Whether each byte may stand in a word.
+#[inline(always)]
+fn fits_words(bytes: &[u8]) -> bool
+    ensures { result ≡ list_all is_word_byte bytes.now }
+{
+    bytes.iter().all(|b| *b >= 33 && *b <= 126)
+}
+
+/// The word, where it is the only one. No space stands in a word, so one look at each byte tells.
+#[inline(always)]
+#[tactic(auto, using(crate::proofs::GlanceLaws::last_at_fits))]
+pub fn last_of(words: &[u8]) -> Result<&[u8], Cause>
+    ensures { Answers (λ x. x.now) result (last_at (words_of words.now)) }
+{
+    if !words.is_empty() && fits_words(words) {
+        return Ok(words);
+    }
+    last(words)
+}
+
+/// The number that the word writes in one digit, if it does and it is at most this.
+#[inline(always)]
+#[tactic(auto, using(crate::proofs::GlanceLaws::number_in_digit))]
+pub fn digit_of(most: u8, word: &[u8]) -> Option<u8>
+    ensures { IfSome result (λ n. number_in 0 most word.now ≡ Ok n) }
+{
+    if word.len() != 1 || word[0] < b'0' || word[0] > b'9' {
+        return None;
+    }
+    let digit = word[0] - b'0';
+    if digit > most {
+        return None;
+    }
+    Some(digit)
+}
