@@ -1,16 +1,17 @@
 -- Parts of a line that are read at a glance.
-use Rattle.std.proofs.Common.{◌≡◌, ℕ, ◌+◌, ◌-◌, ◌<◌, ◌≤◌, Bool, true, false, eqb, ltb, List, [], ◌∷◌, length, take, drop, get_or, Some, Ok, refl, sym, ap, subst, ◌∙◌, arith, lit<}
+use Rattle.std.proofs.Common.{◌≡◌, ℕ, zero, suc, ◌+◌, ◌-◌, ◌<◌, ◌≤◌, true, false, eqb, ltb, List, [], ◌∷◌, length, take, drop, get_or, Some, Ok, refl, ap, subst, arith, lit<}
 use Rattle.std.specs.Prelude.{bytes_eq, decimal}
-use Rattle.std.specs.List.{list_all}
-use Rattle.std.proofs.lemmas.Bool.{lt-ltb}
+use Rattle.std.specs.List.{list_all, position}
 use Rattle.std.proofs.lemmas.Bool.Decides.{nat_tests}
 use Rattle.std.proofs.lemmas.Fmt.{decimal_digit}
+use Rattle.std.proofs.lemmas.List.Quantifiers.{position-Some}
 use Rattle.std.proofs.lemmas.Slice.Eq.{bytes_eq-Decides}
 use Rattle.tss_io.specs.Lines.{cut_at, words_of, spaced}
 use Rattle.tss_io.specs.Forms.{is_word_byte, is_word, front_at, last_at, number_in}
 use Rattle.tss_io.proofs.LineLaws.{words_of_some, words_some}
 use Rattle.tss_io.proofs.Spaced.{is_word-some, words_of-spaced}
 use Rattle.tss_io.proofs.FormLaws.{front_again, number_again}
+use Rattle.match_file.specs.Glance.{is_gap}
 
 -- bytes of another count are others
 pub other_length : (bytes text : List ℕ) → (length bytes ≡ length text → ⊥) → bytes_eq bytes text ≡ false
@@ -44,6 +45,37 @@ pub front_at_short : (words : List ℕ) → 2 ≤ length words → get_or words 
 front_at_short [] long space low high = absurd (omega arith)
 front_at_short (b ∷ []) long space low high = absurd (omega arith)
 front_at_short (b ∷ c ∷ rest) long space low high = short_words b c rest space low high
+
+no_gap : (b : ℕ) → is_gap b ≡ false → is_word_byte b ≡ true
+no_gap b h = grind (arith, nat_tests)
+
+no_gap_space : (b : ℕ) → is_gap b ≡ false → eqb b 32 ≡ false
+no_gap_space b h = grind (arith, nat_tests)
+
+-- up to the first gap, a space, a line is cut, and bytes of a word stand
+gap_cut : (line : List ℕ) (at : ℕ) → at < length line → ((k : ℕ) → k < at → is_gap (get_or line k 0) ≡ false) → get_or line at 0 ≡ 32
+    → (cut_at 32 line ≡ Some (take at line, drop 1 (drop at line))) × (list_all is_word_byte (take at line) ≡ true)
+unfolding cut_at
+gap_cut [] at within none space = absurd (omega arith)
+gap_cut (b ∷ line) zero within none space = (rw space refl, refl)
+gap_cut (b ∷ line) (suc n) within none space =
+    let first : is_gap b ≡ false = none 0 (omega arith) in
+    let more = gap_cut line n (omega arith) (λ k lt. none (suc k) (omega arith)) space in
+    (rw (no_gap_space b first, more.0) refl, rw (no_gap b first, more.1) refl)
+
+some_taken : (line : List ℕ) (at : ℕ) → 0 < at → at < length line → 0 < length (take at line)
+some_taken [] at some within = absurd (omega arith)
+some_taken (b ∷ line) zero some within = absurd (omega arith)
+some_taken (b ∷ line) (suc n) some within = omega arith
+
+-- a first word, up to a space
+pub front_at_gap : (line : List ℕ) (at : ℕ) → position (λ b. is_gap b) line ≡ Some at → 0 < at → get_or line at 0 ≡ 32
+    → front_at (words_of line) ≡ Ok (take at line, words_of (drop 1 (drop at line)))
+front_at_gap line at found some space =
+    let first = position-Some (λ b. is_gap b) line at 0 found in
+    let cut = gap_cut line at first.0 first.2 space in
+    let fit : is_word (take at line) ≡ true = is_word-some (take at line) (some_taken line at some first.0) cut.1 in
+    rw (words_of_some line (take at line, drop 1 (drop at line)) cut.0) (front_some (take at line) (words_of (drop 1 (drop at line))) fit (words_some (drop 1 (drop at line))))
 
 -- bytes of a word are the only word
 pub last_at_fits : (words : List ℕ) → 0 < length words → list_all is_word_byte words ≡ true → last_at (words_of words) ≡ Ok words

@@ -248,9 +248,10 @@ impl Body {
         self.may_open() || (is_script(self.stage) && !self.script.is_none())
     }
 
-    // A line of the kind that its first word names.
+    // A line of the kind that its first word names, of whichever it is.
+    #[inline(never)]
     #[tactic(auto, unfolding(tss_io::specs::Machines::take_words, crate::specs::Reading::body_entries))]
-    fn take_words(
+    fn take_kind(
         &mut self,
         alloc: Global,
         opening: &Opening,
@@ -288,6 +289,29 @@ impl Body {
         } else {
             Err(LineFault::Refused(Cause::Shape))
         }
+    }
+
+    // A line of the kind that its first word names. The most frequent kinds are seen apart, since
+    // each line would else clear a place for the answer of every kind.
+    #[tactic(auto, unfolding(tss_io::specs::Machines::take_words, crate::specs::Reading::body_entries))]
+    fn take_words(
+        &mut self,
+        alloc: Global,
+        opening: &Opening,
+        word: &[u8],
+        words: &[u8],
+    ) -> Result<(), LineFault>
+        requires { length opening.now.delays ≤ MOST_COPIES }
+        ensures { GivesLine (λ _. self.new) result
+            (take_words (body_entries opening.now) self.old word.now (words_of words.now)) }
+    {
+        if is_text(word, b"arrive") {
+            return self.take_arrive(opening, words);
+        }
+        if is_text(word, b"turn") {
+            return self.take_turn(opening, words);
+        }
+        self.take_kind(alloc, opening, word, words)
     }
 
     // A line of the body.

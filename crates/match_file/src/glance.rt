@@ -1,11 +1,12 @@
 //! The parts of a line, read at a glance where they are short.
 
-ghost use Rattle.std.specs.Prelude.{◌≡◌, ◌<◌, length, bytes_eq, IfOk, IfSome, Ok};
+ghost use Rattle.std.specs.Prelude.{◌≡◌, ◌<◌, length, bytes_eq, position, IfOk, IfSome, Ok};
 ghost use Rattle.std.specs.List.{list_all};
 ghost use Rattle.tss_io.specs.Lines.{lines_of, words_of};
 ghost use Rattle.tss_io.specs.Reading.{Answers};
 ghost use Rattle.tss_io.specs.Forms.{front_at, last_at, number_in, is_word_byte};
 ghost use Rattle.tss_io.specs.Kinds.{line_at};
+ghost use Rattle.match_file.specs.Glance.{is_gap};
 
 use tss_io::Cause;
 use tss_io::words::{front, last, next_line};
@@ -20,12 +21,52 @@ pub fn line_of(text: &[u8]) -> Result<(&[u8], &[u8]), Cause>
     next_line(text)
 }
 
-/// The first word of a line, where others follow, and these.
+// Where the first byte stands that no word has.
+#[inline(always)]
+fn gap_of(bytes: &[u8]) -> Option<usize>
+    ensures { result ≡ position (λ b. is_gap b) bytes.now }
+{
+    bytes.iter().position(|b| *b < 33 || *b > 126)
+}
+
+// A first word that a space ends, and what follows.
+#[inline(always)]
+#[tactic(auto, using(crate::proofs::GlanceLaws::front_at_gap))]
+fn gap_front(line: &[u8]) -> Option<(&[u8], &[u8])>
+    ensures { IfSome result
+        (λ x. front_at (words_of line.now) ≡ Ok (x.0.now, words_of x.1.now)) }
+{
+    match gap_of(line) {
+        Some(at) => {
+            if at == 0 || line[at] != b' ' {
+                return None;
+            }
+            let (word, rest) = line.split_at(at);
+            let (_, rest) = rest.split_at(1);
+            Some((word, rest))
+        }
+        None => None,
+    }
+}
+
+/// The first word of a line, where others follow, and these. One look at each byte tells where it
+/// ends and that it is a word.
 #[inline(never)]
 pub fn keyword_of(line: &[u8]) -> Result<(&[u8], &[u8]), Cause>
     ensures { Answers (λ x. (x.0.now, words_of x.1.now)) result (front_at (words_of line.now)) }
 {
+    if let Some(parts) = gap_front(line) {
+        return Ok(parts);
+    }
     front(line)
+}
+
+// Whether the bytes are these. Never inlined, so that callers keep no slices in memory for it.
+#[inline(never)]
+fn same_bytes(bytes: &[u8], text: &[u8]) -> bool
+    ensures { result ≡ bytes_eq bytes.now text.now }
+{
+    bytes == text
 }
 
 /// Whether the bytes are these. Their count is compared first.
@@ -37,7 +78,7 @@ pub fn is_text(bytes: &[u8], text: &[u8]) -> bool
     if bytes.len() != text.len() {
         return false;
     }
-    bytes == text
+    same_bytes(bytes, text)
 }
 
 // A first word of one byte, where others follow, and these.
