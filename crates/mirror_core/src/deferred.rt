@@ -21,10 +21,10 @@ use std::marker::Model;
 use sync_model::Turned;
 use tss_io::NoMemory;
 
-/// A mirror as `Mirror` is one, and answers each event as that does, but a copy that is repaired
-/// executes nothing again until its world is looked at (this project's own). So a match that is
-/// played to its end, and looked at there, costs what its events cost. Contracts see a state of the
-/// model. Only `new` takes memory.
+/// A mirror as `Mirror` is one, and answers each event as that does, but only its last copy executes
+/// as it goes: the copies ahead, which may be repaired, execute when their worlds are looked at (this
+/// project's own). So a match that is played to its end, and looked at there, executes each tick
+/// about once. Contracts see a state of the model. Only `new` takes memory.
 #[derive(Drop)]
 pub struct DeferredMirror<G: Game> {
     inner: LazyMirror<G>,
@@ -60,9 +60,9 @@ impl<G: Game> DeferredMirror<G> {
             ≡ opening_state opening.now (ticks_of_first plans.now) (delays_of_each plans.now) room
             restaggers) }
     {
-        Ok(DeferredMirror {
-            inner: LazyMirror::new(alloc, opening, plans, room, restaggers)?,
-        })
+        let mut inner = LazyMirror::new(alloc, opening, plans, room, restaggers)?;
+        inner.defer();
+        Ok(DeferredMirror { inner })
     }
 
     /// What `Mirror::tick` does and answers.

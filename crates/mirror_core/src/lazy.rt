@@ -352,6 +352,13 @@ impl<G: Game> LazyMirror<G> {
         self.last_clock() == self.stagger().length()
     }
 
+    /// Leaves the worlds of all copies but the last to be made.
+    pub fn defer(&mut self)
+        ensures { self.new.state ≡ self.old.state }
+    {
+        self.stack.defer();
+    }
+
     /// Makes the worlds that are still to be made, each once.
     pub fn refresh(&mut self)
         ensures { self.new ≡ record self.old { stale = 0 } }

@@ -391,6 +391,15 @@ impl<G: Game> LazyStack<G> {
         self.stale = 0;
     }
 
+    /// Leaves the worlds of all copies but the last to be made, so that their ticks execute nothing
+    /// before `refresh`.
+    pub fn defer(&mut self)
+        ensures { self.new ≡ record self.old { stale = length self.old.runs - 1 } }
+    {
+        let _ = self.run.len();
+        self.stale = self.run.copies() - 1;
+    }
+
     /// The opening world, a twin of the one that `new` was given.
     pub fn opening(&self) -> &G
         ensures { result.now ≡ self.now.opening }

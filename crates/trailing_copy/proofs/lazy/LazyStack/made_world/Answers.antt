@@ -1,4 +1,4 @@
-use Rattle.std.proofs.Common.{◌≡◌, ◌∙◌, ap, sym, ◌≤◌, ◌<◌, length, take, drop, arith}
+use Rattle.std.proofs.Common.{◌∙◌, ap, sym, take, drop, arith}
 use Rattle.game_trait.specs.Run.{world_of}
 use Rattle.game_trait.proofs.Runs.{world_of-append}
 use Rattle.trailing_copy.proofs.Ahead.{falls-between}
