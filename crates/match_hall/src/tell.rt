@@ -20,8 +20,8 @@ use mirror_core::{DeferredMirror, Mirrored, turn_events};
 use tss_io::NoMemory;
 use watch_board::{Board, Watcher};
 
-// How many events are made together at most: the copies ahead are executed again once for all of
-// them. The lines of a script make at most nine each.
+// How many events are made together at most, and then told. The lines of a script make at most
+// nine each.
 const MOST_TOGETHER: usize = 256;
 
 // Events that wait to be made together at a mirror.
