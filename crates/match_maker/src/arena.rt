@@ -9,7 +9,7 @@ ghost use Rattle.match_maker.specs.Generator.{walled_grid, kind_at, pickup_at, f
 use arena_rules::{Face, Ground, Kind, PickupSpot, Roster, Setup, Spot};
 use arrayvec::ArrayVec;
 use std::alloc::Global;
-use tss_io::{NoMemory, push_decimal};
+use tss_io::{NoMemory, push_count};
 
 #[tactic(auto, unfolding(crate::specs::Generator::walled_grid))]
 fn ground() -> Ground
@@ -91,7 +91,7 @@ fn name_at(alloc: Global, i: u8) -> Result<Vec<u8>, NoMemory>
 {
     let mut name = Vec::new(alloc);
     name.push(b'p')?;
-    push_decimal(&mut name, i128::from(i))?;
+    push_count(&mut name, u64::from(i))?;
     Ok(name)
 }
 

@@ -4,7 +4,7 @@ ghost use Rattle.std.specs.Prelude.{◌≡◌, ◌++◌, ◌∷◌, [], length, 
 ghost use Rattle.report_text.specs.Mirrors.{mirror_line, item_mark, run_head};
 
 use game_trait::{Item, MirrorId};
-use tss_io::{NoMemory, Word, push_decimal, push_line};
+use tss_io::{NoMemory, Word, push_count, push_line};
 
 /// Appends `mirror M accepted A turned Z repairs R`: how many commands the mirror accepted, how
 /// many arrivals it turned away, and how many copies it repaired. On `NoMemory` `out` is unchanged.
@@ -42,9 +42,9 @@ fn push_run_parts(out: &mut Vec<u8>, mirror: MirrorId, copy: u8) -> Result<(), N
     ensures front { take (length out.old.items) out.new.items ≡ out.old.items }
 {
     out.extend_from_slice(b"run ")?;
-    push_decimal(out, i128::from(mirror))?;
+    push_count(out, u64::from(mirror))?;
     out.push(b' ')?;
-    push_decimal(out, i128::from(copy))?;
+    push_count(out, u64::from(copy))?;
     out.push(b':')?;
     Ok(())
 }
@@ -73,9 +73,9 @@ fn push_mark_parts(out: &mut Vec<u8>, item: &Item) -> Result<(), NoMemory>
     out.push(b' ')?;
     match *item {
         Item::Cmd(x) => {
-            push_decimal(out, i128::from(x.from))?;
+            push_count(out, u64::from(x.from))?;
             out.push(b'.')?;
-            push_decimal(out, i128::from(x.number))
+            push_count(out, u64::from(x.number))
         }
         Item::Beat => Ok(out.push(b'|')?),
     }

@@ -64,3 +64,17 @@ pub fn push_decimal(out: &mut Vec<u8>, n: i128) -> Result<(), NoMemory>
     out.extend_from_slice(buffer.format(n).as_bytes())?;
     Ok(())
 }
+
+/// Appends the canonical decimal of a count; one of a single digit, the most frequent, is one byte.
+/// On `NoMemory` out is unchanged.
+pub fn push_count(out: &mut Vec<u8>, n: u64) -> Result<(), NoMemory>
+    ensures ok { OnOk result (out.new.items ≡ out.old.items ++ decimal n) }
+    ensures err { OnErr result (out.new.items ≡ out.old.items) }
+{
+    if n < 10 {
+        Ok(out.push(b'0' + n as u8)?)
+    } else {
+        let mut buffer = Buffer::new();
+        Ok(out.extend_from_slice(buffer.format(n).as_bytes())?)
+    }
+}

@@ -4,7 +4,7 @@ ghost use Rattle.std.specs.Prelude.{◌≡◌, ◌++◌, length, map, take, OnOk
 ghost use Rattle.tss_io.specs.Lines.{as_line, spaced};
 ghost use Rattle.tss_io.specs.Words.{word_bytes, behind_spaces};
 
-use crate::decimals::push_decimal;
+use crate::decimals::{push_count, push_decimal};
 use crate::no_memory::NoMemory;
 
 /// A word of a printed line.
@@ -26,7 +26,7 @@ impl Word<'_> {
         match *self {
             Word::Text(text) => Ok(out.extend_from_slice(text)?),
             Word::Number(number) => push_decimal(out, i128::from(number)),
-            Word::Count(count) => push_decimal(out, i128::from(count)),
+            Word::Count(count) => push_count(out, count),
         }
     }
 }
