@@ -8,27 +8,47 @@ ghost use Rattle.run_recorder.specs.Text.{event_line, log_line, log_text, blocks
 use crate::block::Block;
 use crate::log::MirrorLog;
 use crate::race_record::RaceRecord;
-use game_trait::Event;
+use game_trait::{Command, Event};
 use match_file::print_match;
 use std::alloc::Global;
-use tss_io::{NoMemory, Seq, Word, push_line};
+use tss_io::{NoMemory, Seq, Word, push_count, push_line};
 
 fn push_event(out: &mut Vec<u8>, event: &Event) -> Result<(), NoMemory>
     ensures { OnOk result (out.new.items ≡ out.old.items ++ as_line (event_line event.now)) }
 {
     match event {
-        Event::Tick => push_whole(out, b"tick"),
-        Event::Arrive(x) => push_line(
+        Event::Tick => Ok(out.extend_from_slice(b"tick\n")?),
+        Event::Arrive(x) => push_arrive(out, x),
+        Event::Step(copy) => push_step(out, *copy),
+        Event::Restagger(plan) => push_line(
             out,
-            &[
-                Word::Text(b"arrive"),
-                Word::Count(u64::from(x.from)),
-                Word::Count(u64::from(x.number)),
-            ],
+            &[Word::Text(b"restagger"), Word::Count(u64::from(*plan))],
         ),
-        Event::Step(copy) => push_number(out, b"step", *copy),
-        Event::Restagger(plan) => push_number(out, b"restagger", *plan),
     }
+}
+
+// Appends the line of an arrival.
+#[tactic(auto, unfolding(tss_io::specs::Lines::spaced))]
+fn push_arrive(out: &mut Vec<u8>, x: &Command) -> Result<(), NoMemory>
+    ensures { OnOk result
+        (out.new.items ≡ out.old.items ++ as_line (event_line (Event.Arrive x.now))) }
+{
+    out.extend_from_slice(b"arrive ")?;
+    push_count(out, u64::from(x.from))?;
+    out.push(b' ')?;
+    push_count(out, u64::from(x.number))?;
+    Ok(out.push(b'\n')?)
+}
+
+// Appends the line of a step, the most frequent of a record.
+#[tactic(auto, unfolding(tss_io::specs::Lines::spaced))]
+fn push_step(out: &mut Vec<u8>, copy: u8) -> Result<(), NoMemory>
+    ensures { OnOk result
+        (out.new.items ≡ out.old.items ++ as_line (event_line (Event.Step copy))) }
+{
+    out.extend_from_slice(b"step ")?;
+    push_count(out, u64::from(copy))?;
+    Ok(out.push(b'\n')?)
 }
 
 // Appends a line of a single word, or of words that stand in it as they are.
@@ -37,14 +57,6 @@ fn push_whole(out: &mut Vec<u8>, line: &[u8]) -> Result<(), NoMemory>
     ensures { OnOk result (out.new.items ≡ out.old.items ++ as_line line.now) }
 {
     push_line(out, &[Word::Text(line)])
-}
-
-// Appends a line of a word and a number.
-fn push_number(out: &mut Vec<u8>, word: &[u8], number: u8) -> Result<(), NoMemory>
-    ensures { OnOk result
-        (out.new.items ≡ out.old.items ++ as_line (spaced (word.now ∷ decimal number ∷ []))) }
-{
-    push_line(out, &[Word::Text(word), Word::Count(u64::from(number))])
 }
 
 #[tactic(auto, using(tss_io::proofs::Printing::lines_none))]
