@@ -206,6 +206,17 @@ impl Feeder {
         sum
     }
 
+    // Rests after a turn where it found nothing to do, unless it hurries on. What to compare the
+    // progress with after the next turn.
+    fn rested<P: Post>(&self, rest: &mut Rest, post: &P, before: u64) -> u64 {
+        if rest.hurries_on() {
+            return before;
+        }
+        let progress = self.progress();
+        rest.after(post, progress == before);
+        progress
+    }
+
     // What the feeder gives back.
     fn ended(self) -> FeederEnd
         requires { self.issued < 2 ^ 32 }
@@ -293,9 +304,7 @@ pub fn run_feeder<P: Post, Q: Gate>(post: &mut P, gate: &Q, job: FeederJob) -> F
     while feeder.clock < end && feeder.turns < budget {
         gate.pass(mirror, copies, feeder.turns);
         feeder.turn(post);
-        let progress = feeder.progress();
-        rest.after(post, progress == before);
-        before = progress;
+        before = feeder.rested(&mut rest, post, before);
     }
     feeder.ended()
 }

@@ -54,6 +54,14 @@ impl Rest {
         self.left = self.left.saturating_sub(1);
     }
 
+    /// Whether it hurries through the next turn too, so that it isn't worth while to look whether
+    /// there was something to do in this one.
+    pub fn hurries_on(&mut self) -> bool {
+        let hurries = self.hurried > 0;
+        self.hurried = self.hurried.saturating_sub(1);
+        hurries
+    }
+
     /// After a turn: it naps where nothing was found to do, unless it hurries. One that hurries looks
     /// again after so many turns whether it still does.
     pub fn after<P: Post>(&mut self, post: &P, idle: bool) {
