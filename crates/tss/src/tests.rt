@@ -4,6 +4,7 @@
 mod arenas;
 mod commands;
 mod copies;
+mod deferred;
 mod limits;
 mod links;
 mod locks;
