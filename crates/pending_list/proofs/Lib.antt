@@ -1,3 +1,4 @@
 mod Slots
+mod Turned
 pub mod Walks
 mod Kept

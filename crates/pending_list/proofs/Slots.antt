@@ -1,13 +1,13 @@
 -- Commands in key order: where a test parts them, and how often it is passed.
 use Rattle.std.proofs.Common.{◌≡◌, refl, ◌∙◌, sym, ap, ℕ, zero, suc, ◌+◌, ◌≤◌, ◌<◌, Bool, true, false, List, [], ◌∷◌, length, get_or, ltb, arith}
-use Rattle.std.proofs.lemmas.Bool.{ltb-true, lt-ltb, false_from_ne_true}
+use Rattle.std.proofs.lemmas.Bool.{false_from_ne_true}
+use Rattle.std.proofs.lemmas.Bool.Decides.{nat_tests}
 use Rattle.std.proofs.lemmas.List.{get_or-map, length-map, get_or_default}
 use Rattle.std.specs.List.Sorted.{IsPartitionedBy, IsPartitionPoint}
 use Rattle.game_trait.specs.declared.command.Command.{Command}
-use Rattle.game_trait.specs.Keys.{before, KeysRise}
+use Rattle.game_trait.specs.declared.command.Act.{Act}
+use Rattle.game_trait.specs.Keys.{before, key_lt, KeysRise}
 use Rattle.game_trait.specs.Count.{times}
-use Rattle.game_trait.proofs.KeyOrder.{before-time}
-use Rattle.game_trait.proofs.Lists.{all-at}
 use Rattle.game_trait.proofs.Places.{rising-parted}
 use Rattle.pending_list.specs.Buckets.{placed_commands, AllBefore, NoneBefore}
 use Rattle.pending_list.specs.declared.order.Placed.{Placed}
@@ -55,20 +55,10 @@ point-commands q ys at parted within =
           ap q (get_or-map (λ (y : Placed). y.command) ys k e d (omega arith)) ∙ parted.1 k e low (omega arith),
     )
 
--- times never fall in key order
-times-rise : (xs : List Command) (i j : ℕ) (d : Command) → KeysRise xs → i ≤ j → j < length xs → (get_or xs i d).time ≤ (get_or xs j d).time
-unfolding KeysRise
-times-rise [] i j d rises upto within = absurd (omega arith)
-times-rise (x ∷ xs) zero zero d rises upto within = omega arith
-times-rise (x ∷ xs) (suc i) zero d rises upto within = absurd (omega arith)
-times-rise (x ∷ xs) zero (suc j) d rises upto within = before-time x (get_or xs j d) (all-at (λ y. before x y ≡ true) xs j d rises.0 (omega arith))
-times-rise (x ∷ xs) (suc i) (suc j) d rises upto within = times-rise xs i j d rises.1 (omega arith) (omega arith)
-
-time-parted : (t : ℕ) (xs : List Command) → KeysRise xs → IsPartitionedBy (λ y. ltb y.time t) xs
-time-parted t xs rises i j d upto within below =
-    let up = times-rise xs i j d rises upto within in
-    let k = ltb-true (get_or xs j d).time t below in
-    lt-ltb (get_or xs i d).time t (omega arith)
+-- a command stands before the first key of a tick where it is due before that tick
+pub before-first : (t : ℕ) (y : Command) → before y (record { time = t; number = 0; from = 0; player = 0; act = Act.Go }) ≡ ltb y.time t
+unfolding key_lt
+before-first t y = grind (arith, nat_tests)
 
 pub before-parted : (x : Command) (ys : List Placed) → KeysRise (placed_commands ys) → IsPartitionedBy (λ y. before y.command x) ys
 before-parted x ys rises = commands-parted (λ y. before y x) ys (rising-parted x (placed_commands ys) rises)
@@ -93,6 +83,3 @@ stopped-from x ys place y rises there at here k d low high =
     let front = before-parted x ys rises place k d low high passed in
     let same = ap (λ (z : Placed). before z.command x) (get_or_default ys place d y there ∙ sym at) in
     cc)
-
-pub due-parted : (t : ℕ) (ys : List Placed) → KeysRise (placed_commands ys) → IsPartitionedBy (λ y. ltb y.command.time t) ys
-due-parted t ys rises = commands-parted (λ y. ltb y.time t) ys (time-parted t (placed_commands ys) rises)

@@ -11,7 +11,7 @@ pub record IsStepping (x : Command) (ys : List Placed) (last step : ℕ) : Type 
   pub some : 0 < step
 
 abbrev pub invariant-loop-step : goal.invariant-loop-step
-invariant-loop-step l = IsStepping l.x l.in_order.items l.last l.step
+invariant-loop-step l = IsStepping l.x l.in_order l.last l.step
 
 abbrev pub decreases-loop-step : goal.decreases-loop-step
 decreases-loop-step l = l.last
