@@ -36,19 +36,19 @@ kept-length [] (h ∷ hs) all = absurd all
 kept-length (m ∷ ms) (h ∷ hs) all = omega (arith, kept-length ms hs all.1)
 
 -- the count of misses is far from its end
-pub misses-few :
-    (n more : ℕ) (first now : List LinkReceive) (hs : List Hearing) → n + more ≤ 2 ^ 63 → AllByRecursion (λ r. misses_of r < 2 ^ 63) first → AllByRecursion Hears hs → AllByRecursion (λ h. h.tries ≡ n) hs
-    → AllHeard first now hs → AllByRecursion (λ r. misses_of r + more < 2 ^ 64) now
+misses-few :
+    (n : ℕ) (first now : List LinkReceive) (hs : List Hearing) → n < 2 ^ 63 → AllByRecursion (λ r. misses_of r < 2 ^ 63) first → AllByRecursion Hears hs → AllByRecursion (λ h. h.tries ≡ n) hs
+    → AllHeard first now hs → AllByRecursion (λ r. misses_of r + 1 < 2 ^ 64) now
 unfolding AllHeard
-misses-few n more [] [] [] few start hears tries all = tt
-misses-few n more [] [] (h ∷ hs) few start hears tries all = absurd all
-misses-few n more [] (y ∷ ys) [] few start hears tries all = absurd all
-misses-few n more [] (y ∷ ys) (h ∷ hs) few start hears tries all = absurd all
-misses-few n more (x ∷ xs) [] [] few start hears tries all = absurd all
-misses-few n more (x ∷ xs) [] (h ∷ hs) few start hears tries all = absurd all
-misses-few n more (x ∷ xs) (y ∷ ys) [] few start hears tries all = absurd all
-misses-few n more (x ∷ xs) (y ∷ ys) (h ∷ hs) few start hears tries all =
-    ((let a = all.0.misses in let b = hears.0.each in let c = tries.0 in let d = start.0 in omega arith), misses-few n more xs ys hs few start.1 hears.1 tries.1 all.1)
+misses-few n [] [] [] few start hears tries all = tt
+misses-few n [] [] (h ∷ hs) few start hears tries all = absurd all
+misses-few n [] (y ∷ ys) [] few start hears tries all = absurd all
+misses-few n [] (y ∷ ys) (h ∷ hs) few start hears tries all = absurd all
+misses-few n (x ∷ xs) [] [] few start hears tries all = absurd all
+misses-few n (x ∷ xs) [] (h ∷ hs) few start hears tries all = absurd all
+misses-few n (x ∷ xs) (y ∷ ys) [] few start hears tries all = absurd all
+misses-few n (x ∷ xs) (y ∷ ys) (h ∷ hs) few start hears tries all =
+    ((let a = all.0.misses in let b = hears.0.each in let c = tries.0 in let d = start.0 in omega arith), misses-few n xs ys hs few start.1 hears.1 tries.1 all.1)
 
 -- seven links at most
 pub hear-seven : (c : Start) (f : Feeder) (asked : List Asked) (calls grows spent : ℕ) → Stands c f asked calls grows spent → length f.receives.items ≤ 7
@@ -68,7 +68,7 @@ hear-marks c f asked calls grows spent h =
 -- no count of misses overflows
 pub hear-few : (c : Start) (f : Feeder) (asked : List Asked) (calls grows : ℕ) → InTurn c f asked calls grows 0 0 → AllByRecursion (λ r. misses_of r + 1 < 2 ^ 64) f.receives.items
 hear-few c f asked calls grows h =
-    misses-few (f.turns + 0) 1 c.receives f.receives.items h.stands.state.hearings (let a = h.going in let b = c.short in omega arith) c.misses h.stands.fed.feeds.hears h.tries h.stands.heard
+    misses-few (f.turns + 0) c.receives f.receives.items h.stands.state.hearings (let a = h.going in let b = c.short in omega arith) c.misses h.stands.fed.feeds.hears h.tries h.stands.heard
 
 -- before the first link is asked
 pub hear-begins :

@@ -77,7 +77,7 @@ prefix-fewer : {X : Type 0} (xs ys : List X) (x : X) → IsPrefix xs (x ∷ ys) 
 prefix-fewer xs ys x p = (let a = ap length p.1 in let b = length-append xs p.0 in omega arith)
 
 -- the same end, twice
-pub same-trans : (a b c : LinkReceive) → SameReceive a b → SameReceive b c → SameReceive a c
+same-trans : (a b c : LinkReceive) → SameReceive a b → SameReceive b c → SameReceive a c
 same-trans a b c h k = ((k.0.0 ∙ h.0.0, k.0.1 ∙ h.0.1, k.0.2 ∙ h.0.2, k.0.3 ∙ h.0.3), k.1 ∙ h.1)
 
 -- where the place is within the list, there is a link to ask

@@ -11,7 +11,6 @@ pub mod Least
 pub mod Standings
 pub mod HearStands
 pub mod TurnStands
-pub mod Idle
 pub mod FeederStarts
 pub mod Contracts
 pub mod Races

@@ -1,23 +1,18 @@
 -- The end of a turn keeps the feeder standing for the machine.
-use Rattle.std.proofs.Common.{◌≡◌, ℕ, ◌+◌, ◌^◌, ◌<◌, ◌≤◌, ◌⊎◌, cond, List, [], ◌∷◌, ◌++◌, length, ap, sym, ◌∙◌, subst, inl, inr, append_assoc, arith, length-append}
+use Rattle.std.proofs.Common.{◌≡◌, ℕ, ◌+◌, ◌<◌, ◌≤◌, ◌⊎◌, cond, List, [], ◌∷◌, ◌++◌, length, ap, sym, ◌∙◌, subst, inl, inr, append_assoc, arith, length-append}
 use Rattle.std.specs.List.{AllByRecursion, AllZip}
 use Rattle.game_trait.specs.declared.event.Reply.{Reply}
 use Rattle.game_trait.proofs.KeyOrder.{all-weaker}
 use Rattle.link_ring.specs.declared.send.LinkSend.{LinkSend}
 use Rattle.link_ring.specs.declared.receive.LinkReceive.{LinkReceive}
-use Rattle.link_ring.specs.declared.message.Message.{Message}
-use Rattle.link_ring.specs.Ends.{misses_of}
 use Rattle.copy_workers.specs.declared.post.Asked.{Asked}
 use Rattle.copy_workers.specs.declared.feeder.Feeder.{Feeder}
 use Rattle.copy_workers.specs.Asking.{is_moved, ticking}
-use Rattle.copy_workers.specs.Messages.{commands_in}
-use Rattle.copy_workers.specs.Feed.{Hearing, ending_clock, least_mark, IsHeldByMarks, ticked, rested}
+use Rattle.copy_workers.specs.Feed.{Hearing, least_mark, IsHeldByMarks, ticked, rested}
 use Rattle.copy_workers.specs.Sending.{IsSent, IsFrom}
-use Rattle.copy_workers.specs.Refining.{IsAskedAgain, AllHeard, AllKept}
-use Rattle.copy_workers.specs.Standing.{Start, InTurn, IsIssued, IsHeld, Rests, Goes}
+use Rattle.copy_workers.specs.Refining.{AllHeard, AllKept}
+use Rattle.copy_workers.specs.Standing.{Start, InTurn, IsIssued, Rests, Goes}
 use Rattle.copy_workers.proofs.Hearings.{heard-length}
-use Rattle.copy_workers.proofs.HearStands.{misses-few}
-use Rattle.copy_workers.proofs.Idle.{kept-again, heard-again, none-known, idles}
 use Rattle.copy_workers.proofs.TurnEnds.{fed-ticked, fed-rested, between-ticked, between-rested}
 
 -- the clock may go on
@@ -154,59 +149,3 @@ turn-begins c f asked calls grows h =
       below = h.below;
       going = h.going;
     }
-
--- many turns more, in which nothing comes
-pub hold-stands :
-    (c : Start) (f then : Feeder) (asked : List Asked) (calls grows turns : ℕ)
-    → IsHeld f → f.clock < ending_clock c.job → AllZip (IsAskedAgain turns) f.receives.items then.receives.items
-    → then.clock ≡ f.clock → then.turns ≡ f.turns + turns
-    → then.bounds ≡ f.bounds → then.plan ≡ f.plan → then.sends ≡ f.sends → then.marks ≡ f.marks
-    → then.issued ≡ f.issued → then.marked ≡ f.marked → then.taken ≡ f.taken
-    → Rests c f asked calls grows → Rests c then asked calls grows
-hold-stands c f then asked calls grows turns held below again clock count bounds plan sends marks issued marked taken h =
-    let s = h.stands.state in
-    let least : least_mark f.bounds.length s.hearings ≡ least_mark c.job.length s.hearings = ap (λ (l : ℕ). least_mark l s.hearings) h.stands.limit in
-    let long = heard-length c.receives f.receives.items s.hearings h.stands.heard in
-    let held_now : IsHeldByMarks c.job s = held-as f.clock s.clock (least_mark f.bounds.length s.hearings) (least_mark c.job.length s.hearings) f.bounds.length c.job.length f.bounds.pace c.job.pace
-    h.stands.clock least h.stands.limit h.stands.pace (held.marks s.hearings (omega arith) h.stands.kept) in
-    let t = idles c.job turns s (let a = h.stands.clock in omega arith) held_now (none-known c.receives f.receives.items s.hearings held.none h.stands.heard) h.between h.stands.fed in
-    record {
-      stands = record {
-        state = t.state;
-        fed = t.fed;
-        plan = ap (λ v. v.items) plan ∙ h.stands.plan;
-        limit = ap (λ b. b.length) bounds ∙ h.stands.limit;
-        delay = ap (λ b. b.delay) bounds ∙ h.stands.delay;
-        pace = ap (λ b. b.pace) bounds ∙ h.stands.pace;
-        foreign = ap (λ b. b.foreign) bounds ∙ h.stands.foreign;
-        asks = h.stands.asks ∙ ap (λ (l : List Asked). c.asked ++ l) (sym t.asked);
-        taken = taken ∙ h.stands.taken ∙ sym t.taken;
-        clock = clock ∙ h.stands.clock ∙ sym t.clock;
-        marked = marked ∙ h.stands.marked ∙ sym t.marked;
-        turns = (let a = h.stands.turns in let b = t.turns in omega arith);
-        issued = issued ∙ h.stands.issued ∙ sym (ap (λ (l : List Message). length (commands_in l)) t.sent);
-        from = from-there;
-        kept = subst (λ (l : List ℕ). AllKept l t.state.hearings) (sym marks)
-            (subst (AllKept f.marks) (sym t.hearings) (kept-again turns f.marks s.hearings h.stands.kept));
-        heard = subst (AllHeard c.receives then.receives.items) (sym t.hearings)
-            (heard-again turns c.receives f.receives.items then.receives.items s.hearings held.none again h.stands.heard);
-        sends = subst (λ (l : List Message). AllZip (IsSent l) c.sends then.sends.items) (sym t.sent)
-            (subst (λ (l : List LinkSend). AllZip (IsSent s.sent) c.sends l) (sym (ap (λ v. v.items) sends)) h.stands.sends);
-        calls_left = (let a = h.stands.calls_left in omega arith);
-        grows_left = (let a = h.stands.grows_left in omega arith);
-        few = (let a = h.stands.few in let b = ap (λ b. b.foreign) bounds in omega arith);
-      };
-      between = t.between;
-    }
-  where
-    from-there : IsFrom then.plan.items then.issued then.marked
-    from-there =
-        subst (λ (k : ℕ). IsFrom then.plan.items then.issued k) (sym marked) (subst (λ (k : ℕ). IsFrom then.plan.items k f.marked) (sym issued)
-        (subst (λ l. IsFrom l f.issued f.marked) (sym (ap (λ v. v.items) plan)) h.stands.from))
-
--- no count of misses overflows meanwhile
-pub hold-few : (c : Start) (f : Feeder) (asked : List Asked) (calls grows turns : ℕ) → f.turns + turns ≤ c.budget → Rests c f asked calls grows
-    → AllByRecursion (λ r. misses_of r + turns < 2 ^ 64) f.receives.items
-hold-few c f asked calls grows turns within h =
-    misses-few (length h.stands.state.turns) turns c.receives f.receives.items h.stands.state.hearings (let a = h.stands.turns in let b = c.short in omega arith)
-    c.misses h.stands.fed.feeds.hears h.between.tries h.stands.heard

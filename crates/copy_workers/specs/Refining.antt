@@ -40,13 +40,6 @@ pub record HearsOnce (limit foreign : ℕ) (old new : LinkReceive) (mark mark_no
   pub same : SameReceive old new
   pub outcome : IsHandled message limit foreign taken taken_now mark mark_now before after
 
--- a link was asked so many times more, and each time nothing was seen
-pub record IsAskedAgain (times : ℕ) (old new : LinkReceive) : Type 0 where
-  pub received : received_of new ≡ received_of old
-  pub none_left : waiting_of new ≡ []
-  pub misses : misses_of new ≡ misses_of old + times
-  pub same : SameReceive old new
-
 -- a link's end as it was handed in, the same end now, and what the machine knows of it
 pub record IsHeardAs (first now : LinkReceive) (h : Hearing) : Type 0 where
   pub received : received_of now ≡ received_of first ++ h.got

@@ -1,17 +1,17 @@
 -- A feeder at work stands for the machine.
-use Rattle.std.specs.Prelude.{◌≡◌, ℕ, ◌+◌, ◌*◌, ◌<◌, ◌≤◌, ◌^◌, ◌⊎◌, min, List, [], ◌++◌, length}
+use Rattle.std.specs.Prelude.{◌≡◌, ℕ, ◌+◌, ◌*◌, ◌<◌, ◌≤◌, ◌^◌, ◌⊎◌, min, List, ◌++◌, length}
 use Rattle.std.specs.List.{AllByRecursion, AllZip}
 use Rattle.game_trait.specs.Keys.{KeysRise}
 use Rattle.link_ring.specs.declared.receive.LinkReceive.{LinkReceive}
 use Rattle.link_ring.specs.declared.send.LinkSend.{LinkSend}
 use Rattle.sync_model.specs.Schedule.{clock_end, longest_delay}
-use Rattle.link_ring.specs.Ends.{waiting_of, misses_of}
+use Rattle.link_ring.specs.Ends.{misses_of}
 use Rattle.copy_workers.specs.declared.post.Asked.{Asked}
 use Rattle.copy_workers.specs.declared.feeder.Feeder.{Feeder}
 use Rattle.copy_workers.specs.declared.feeder_job.FeederEnd.{FeederEnd}
 use Rattle.copy_workers.specs.declared.feeder_job.FeederJob.{FeederJob}
 use Rattle.copy_workers.specs.Messages.{commands_in}
-use Rattle.copy_workers.specs.Feed.{Task, Hearing, Feed, ending_clock, least_mark}
+use Rattle.copy_workers.specs.Feed.{Task, Feed, ending_clock}
 use Rattle.copy_workers.specs.Feeding.{IsFed, IsBetween}
 use Rattle.copy_workers.specs.Sending.{MaySend, IsSent, IsFrom}
 use Rattle.copy_workers.specs.Refining.{AllHeard, AllKept}
@@ -65,15 +65,6 @@ pub record InTurn (c : Start) (f : Feeder) (asked : List Asked)
 -- the tick of the clock is issued
 abbrev pub IsIssued : Feeder → Type 0
 IsIssued f = f.marked ≡ min f.bounds.length (f.clock + 1)
-
--- no turn has anything to do before a message comes: the marks hold the clock, and no message is
--- known to be on its way
-pub record IsHeld (f : Feeder) : Type 0 where
-  pub marks : (hearings : List Hearing) → length hearings ≡ length f.receives.items
-      → AllKept f.marks hearings
-      → (f.clock + 1 ≤ least_mark f.bounds.length hearings + f.bounds.pace)
-      ⊎ (f.bounds.length ≤ least_mark f.bounds.length hearings) → ⊥
-  pub none : AllByRecursion (λ r. waiting_of r ≡ []) f.receives.items
 
 -- between two turns
 pub record Rests (c : Start) (f : Feeder) (asked : List Asked) (calls grows : ℕ) : Type 0 where

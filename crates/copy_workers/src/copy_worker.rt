@@ -7,10 +7,11 @@ ghost use Rattle.copy_workers.specs.Copied.{is_ran, AreTurns, CopyEnds};
 
 use crate::copy_job::{CopyEnd, CopyJob};
 use crate::draft_post::{DraftPost, Draw};
-use crate::gate::{Gate, pass_all};
+use crate::gate::Gate;
 use crate::rest::Rest;
 use game_trait::{Event, Game, Reply, Stepped, Tick};
 use mirror_core::Committed;
+use std::ops::Range;
 
 // How many ticks a copy ran by an answer.
 fn runs_by(reply: Reply) -> Tick
@@ -75,6 +76,13 @@ fn run_turns<G: Game, P: DraftPost<G>>(post: &mut P, copy: u8, times: u64) -> Tu
     }
 }
 
+// Passes the gate for these turns.
+fn pass_all<Q: Gate>(gate: &Q, job: CopyJob, turns: Range<u64>) {
+    for turn in turns {
+        gate.pass(job.mirror, job.copy, turn);
+    }
+}
+
 /// Runs one copy of a mirror, turn by turn, until it has run as many ticks as the match has or the
 /// budget is spent. Each turn passes the gate and asks the post for the copy's due tick, once one
 /// seems to be due. A draft is executed away from the mirror and given back; where the tick has too
@@ -96,7 +104,7 @@ pub fn run_copy<G: Game, P: DraftPost<G>, Q: Gate>(post: &mut P, gate: &Q, job: 
         let times = rest.until_due::<G, P>(post).min(job.budget - end.turns);
         let turned = run_turns::<G, P>(post, job.copy, times);
         let turns = end.turns + turned.turns;
-        pass_all(gate, job.mirror, job.copy, end.turns + 1..turns);
+        pass_all(gate, job, end.turns + 1..turns);
         rest.after(post, turned.idle);
         end.ran += turned.ran;
         end.turns = turns;

@@ -9,11 +9,10 @@ ghost use Rattle.game_trait.specs.Events.{is_moved};
 ghost use Rattle.copy_workers.specs.Asking.{IsFeedingBelow};
 ghost use Rattle.copy_workers.specs.Sending.{MaySend};
 ghost use Rattle.copy_workers.specs.Fed.{FeederEnds};
-ghost use Rattle.copy_workers.specs.declared.post.Asked.{Asked};
 
 use crate::feeder_job::{FeederEnd, FeederJob};
-use crate::gate::{Gate, pass_all};
-use crate::hearing::{hear_again, hear_all, least, none_known};
+use crate::gate::Gate;
+use crate::hearing::{hear_all, least};
 use crate::issues::issue_tick;
 use crate::post::Post;
 use crate::rest::Rest;
@@ -197,36 +196,6 @@ impl Feeder {
 }
 
 impl Feeder {
-    ghost use Rattle.std.specs.Prelude.{true, vec_len};
-    ghost use Rattle.copy_workers.specs.Feed.{ending_clock};
-    ghost use Rattle.copy_workers.specs.Standing.{Start, IsHeld, Rests};
-
-    // Whether no turn has anything to do before a message comes.
-    fn is_held(&self) -> bool
-        requires { vec_len self.now.receives ≤ length self.now.marks }
-        ensures { result ≡ true → IsHeld self.now }
-    {
-        !self.is_free() && none_known(&self.receives)
-    }
-
-    // Makes so many turns more at once, in which there is nothing to do: each asks each link again.
-    fn hold(&mut self, turns: u64)
-        requires held { IsHeld self.old }
-        requires stands { (c : Start) × (asked : List Asked) × (calls : ℕ) × (grows : ℕ)
-            × Rests c self.old asked calls grows × (self.old.clock < ending_clock c.job)
-            × (self.old.turns + turns ≤ c.budget) }
-        ensures stands { (c : Start) (asked : List Asked) (calls grows : ℕ)
-            → Rests c self.old asked calls grows → self.old.clock < ending_clock c.job
-            → self.old.turns + turns ≤ c.budget → Rests c self.new asked calls grows }
-        ensures bounds { self.new.bounds ≡ self.old.bounds }
-        ensures turns { self.new.turns ≡ self.old.turns + turns }
-    {
-        hear_again(&mut self.receives, turns);
-        self.turns += turns;
-    }
-}
-
-impl Feeder {
     // What a turn in which there was something to do raises: the clock, the commands that were
     // taken and the marks, in sum.
     fn progress(&self) -> u64 {
@@ -235,6 +204,17 @@ impl Feeder {
             sum = sum.wrapping_add(u64::from(mark));
         }
         sum
+    }
+
+    // Rests after a turn where it found nothing to do, unless it hurries on. What to compare the
+    // progress with after the next turn.
+    fn rested<P: Post>(&self, rest: &mut Rest, post: &P, before: u64) -> u64 {
+        if rest.hurries_on() {
+            return before;
+        }
+        let progress = self.progress();
+        rest.after(post, progress == before);
+        progress
     }
 
     // What the feeder gives back.
@@ -273,9 +253,7 @@ impl Feeder {
 }
 
 /// Feeds a mirror, turn by turn, until the clock stands at the match's length plus the longest
-/// delay or the budget is spent. Each turn passes the gate, issues the tick of the clock, asks each
-/// link once, and ends with a tick unless the marks hold the clock. A feeder for which it isn't worth
-/// while to wait makes many turns at once in which nothing comes (this project's own).
+/// delay or the budget is spent.
 pub fn run_feeder<P: Post, Q: Gate>(post: &mut P, gate: &Q, job: FeederJob) -> FeederEnd
     requires rises { KeysRise job.plan.items }
     requires room { AllByRecursion
@@ -326,15 +304,7 @@ pub fn run_feeder<P: Post, Q: Gate>(post: &mut P, gate: &Q, job: FeederJob) -> F
     while feeder.clock < end && feeder.turns < budget {
         gate.pass(mirror, copies, feeder.turns);
         feeder.turn(post);
-        let progress = feeder.progress();
-        let times = rest
-            .after(post, progress == before)
-            .min(budget - feeder.turns);
-        before = progress;
-        if times > 0 && feeder.clock < end && feeder.is_held() {
-            pass_all(gate, mirror, copies, feeder.turns..feeder.turns + times);
-            feeder.hold(times);
-        }
+        before = feeder.rested(&mut rest, post, before);
     }
     feeder.ended()
 }

@@ -1,7 +1,5 @@
 //! The gate that a worker passes at the start of each turn.
 
-use std::ops::Range;
-
 /// What a worker passes at the start of each turn.
 pub trait Gate {
     /// Passes the gate: worker c of a mirror is the worker of its copy c, and the one behind all
@@ -14,11 +12,4 @@ pub struct OpenGate;
 
 impl Gate for OpenGate {
     fn pass(&self, mirror: u8, worker: u8, turn: u64) {}
-}
-
-/// Passes the gate for these turns of a worker, one after the other.
-pub fn pass_all<Q: Gate>(gate: &Q, mirror: u8, worker: u8, turns: Range<u64>) {
-    for turn in turns {
-        gate.pass(mirror, worker, turn);
-    }
 }

@@ -1,14 +1,14 @@
 //! A feeder hears its links, one message of each a turn.
 
-ghost use Rattle.std.specs.Prelude.{◌≡◌, ℕ, ◌+◌, ◌*◌, ◌-◌, ◌<◌, ◌≤◌, ◌^◌, ◌==◌, [], ◌∷◌, ◌++◌, List, length};
-ghost use Rattle.std.specs.List.{AllByRecursion, AllZip, list_all};
+ghost use Rattle.std.specs.Prelude.{◌≡◌, ℕ, ◌+◌, ◌*◌, ◌-◌, ◌<◌, ◌≤◌, ◌^◌, [], ◌∷◌, ◌++◌, List, length};
+ghost use Rattle.std.specs.List.{AllByRecursion};
 ghost use Rattle.game_trait.specs.declared.event.Event.{Event};
 ghost use Rattle.link_ring.specs.declared.receive.LinkReceive.{LinkReceive};
-ghost use Rattle.link_ring.specs.Ends.{waiting_of, misses_of};
+ghost use Rattle.link_ring.specs.Ends.{misses_of};
 ghost use Rattle.copy_workers.specs.declared.post.Asked.{Asked};
 ghost use Rattle.copy_workers.specs.Asking.{IsFeedingBelow};
 ghost use Rattle.copy_workers.specs.Feed.{Task, Hearing, Feed, least_mark};
-ghost use Rattle.copy_workers.specs.Refining.{HearsOnce, IsAskedAgain, AllKept, HeardTo};
+ghost use Rattle.copy_workers.specs.Refining.{HearsOnce, AllKept, HeardTo};
 
 use crate::post::Post;
 use game_trait::{Event, Tick};
@@ -87,24 +87,6 @@ pub fn hear_all<P: Post>(
         );
     }
     asked
-}
-
-/// Whether no message is known to be on its way on any of these links.
-pub fn none_known(receives: &[LinkReceive]) -> bool
-    ensures { result ≡ list_all (λ r. length (waiting_of r) == 0) receives.now }
-{
-    receives.iter().all(|receive| receive.known() == 0)
-}
-
-/// Asks each link so many times more at once, where no message is known to be on its way.
-pub fn hear_again(receives: &mut [LinkReceive], times: u64)
-    requires none { AllByRecursion (λ r. waiting_of r ≡ []) receives.old }
-    requires misses { AllByRecursion (λ r. misses_of r + times < 2 ^ 64) receives.old }
-    ensures { AllZip (IsAskedAgain times) receives.old receives.new }
-{
-    for receive in receives.iter_mut() {
-        receive.ask_again(times);
-    }
 }
 
 /// The least of the first so many marks; where there are none, the limit.
