@@ -277,7 +277,7 @@ pub fn put_at(queue: &mut VecDeque<Placed>, behind: usize, place: usize, placed:
     }
 }
 
-// No command stands before this one that is due before its tick, and none that is due at it.
+// Each command that is due before the tick stands before this one, and none that is due at it does.
 fn first_at(t: Tick) -> Command
     ensures { result ≡ record { time = t; from = 0; number = 0; player = 0; act = Act.Go } }
 {
