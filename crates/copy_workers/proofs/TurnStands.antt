@@ -11,13 +11,9 @@ use Rattle.copy_workers.specs.Asking.{is_moved, ticking}
 use Rattle.copy_workers.specs.Feed.{Hearing, least_mark, IsHeldByMarks, ticked, rested}
 use Rattle.copy_workers.specs.Sending.{IsSent, IsFrom}
 use Rattle.copy_workers.specs.Refining.{AllHeard, AllKept}
-use Rattle.copy_workers.specs.Standing.{Start, InTurn, IsIssued, Rests, Goes}
+use Rattle.copy_workers.specs.Standing.{Start, InTurn, IsIssued, IsFree, Rests, Goes}
 use Rattle.copy_workers.proofs.Hearings.{heard-length}
 use Rattle.copy_workers.proofs.TurnEnds.{fed-ticked, fed-rested, between-ticked, between-rested}
-
--- the clock may go on
-abbrev pub IsFree : Feeder → List Hearing → Type 0
-IsFree f hearings = (f.clock + 1 ≤ least_mark f.bounds.length hearings + f.bounds.pace) ⊎ (f.bounds.length ≤ least_mark f.bounds.length hearings)
 
 -- the clock is free, by the machine's marks
 free-as :

@@ -11,7 +11,7 @@ use Rattle.copy_workers.specs.declared.feeder.Feeder.{Feeder}
 use Rattle.copy_workers.specs.declared.feeder_job.FeederEnd.{FeederEnd}
 use Rattle.copy_workers.specs.declared.feeder_job.FeederJob.{FeederJob}
 use Rattle.copy_workers.specs.Messages.{commands_in}
-use Rattle.copy_workers.specs.Feed.{Task, Feed, ending_clock}
+use Rattle.copy_workers.specs.Feed.{Task, Hearing, Feed, ending_clock, least_mark}
 use Rattle.copy_workers.specs.Feeding.{IsFed, IsBetween}
 use Rattle.copy_workers.specs.Sending.{MaySend, IsSent, IsFrom}
 use Rattle.copy_workers.specs.Refining.{AllHeard, AllKept}
@@ -65,6 +65,19 @@ pub record InTurn (c : Start) (f : Feeder) (asked : List Asked)
 -- the tick of the clock is issued
 abbrev pub IsIssued : Feeder → Type 0
 IsIssued f = f.marked ≡ min f.bounds.length (f.clock + 1)
+
+-- the clock may go on, by the marks received
+abbrev pub IsFree : Feeder → List Hearing → Type 0
+IsFree f hearings =
+    (f.clock + 1 ≤ least_mark f.bounds.length hearings + f.bounds.pace)
+    ⊎ (f.bounds.length ≤ least_mark f.bounds.length hearings)
+
+-- there is nothing to do before a message comes: the tick of the clock is issued, and the marks hold
+-- the clock
+pub record IsHeld (f : Feeder) : Type 0 where
+  pub issued : IsIssued f
+  pub marks : (hearings : List Hearing) → length hearings ≡ length f.receives.items
+      → AllKept f.marks hearings → IsFree f hearings → ⊥
 
 -- between two turns
 pub record Rests (c : Start) (f : Feeder) (asked : List Asked) (calls grows : ℕ) : Type 0 where

@@ -30,6 +30,8 @@ pub struct Bounds {
 
 /// A feeder at work.
 pub struct Feeder {
+    mirror: u8,
+    copies: u8,
     bounds: Bounds,
     plan: Vec<Command>,
     sends: Vec<LinkSend>,
@@ -40,6 +42,66 @@ pub struct Feeder {
     marked: Tick,
     taken: u32,
     turns: u64,
+}
+
+impl Feeder {
+    ghost use Rattle.std.specs.Prelude.{replicate};
+    ghost use Rattle.sync_model.specs.Schedule.{longest_delay};
+
+    // A feeder before its first turn.
+    fn begin(job: FeederJob) -> Feeder
+        ensures { result ≡ record {
+          mirror = job.mirror;
+          copies = job.copies;
+          bounds = record {
+            length = job.stagger.length;
+            delay = longest_delay job.stagger.delays;
+            pace = job.pace;
+            foreign = job.foreign;
+          };
+          plan = job.plan;
+          sends = job.sends;
+          receives = job.receives;
+          marks = replicate 7 0;
+          clock = 0;
+          issued = 0;
+          marked = 0;
+          taken = 0;
+          turns = 0;
+        } }
+    {
+        let bounds = Bounds {
+            length: job.stagger.length(),
+            delay: job.stagger.longest(),
+            pace: job.pace,
+            foreign: job.foreign,
+        };
+        let FeederJob {
+            mirror,
+            copies,
+            stagger: _,
+            pace: _,
+            plan,
+            foreign: _,
+            sends,
+            receives,
+            budget: _,
+        } = job;
+        Feeder {
+            mirror,
+            copies,
+            bounds,
+            plan,
+            sends,
+            receives,
+            marks: [0; 7],
+            clock: 0,
+            issued: 0,
+            marked: 0,
+            taken: 0,
+            turns: 0,
+        }
+    }
 }
 
 impl Feeder {
@@ -61,6 +123,7 @@ impl Feeder {
         ensures same { (p : P) → P.same p post.old → P.same p post.new }
         ensures bounds { self.new.bounds ≡ self.old.bounds }
         ensures turns { self.new.turns ≡ self.old.turns }
+        ensures clock { self.new.clock ≡ self.old.clock }
     {
         if self.clock < self.bounds.length && self.marked <= self.clock {
             self.issued = issue_tick(
@@ -77,12 +140,13 @@ impl Feeder {
 }
 
 impl Feeder {
+    ghost use Rattle.std.specs.Prelude.{true};
     ghost use Rattle.game_trait.specs.declared.event.Event.{Event};
     ghost use Rattle.copy_workers.specs.Asking.{IsFeedingBelow};
-    ghost use Rattle.copy_workers.specs.Standing.{Start, InTurn, IsIssued};
+    ghost use Rattle.copy_workers.specs.Standing.{Start, InTurn, IsIssued, IsHeld};
 
-    // Asks each link once.
-    fn hear<P: Post>(&mut self, post: &mut P)
+    // Asks each link once. Whether nothing came: then marks that hold the clock still do.
+    fn hear<P: Post>(&mut self, post: &mut P) -> bool
         requires stands { (c : Start)
             × InTurn c self.old (P.asked post.old) (P.calls post.old) (P.grows post.old) 0 0 }
         requires takes { (e : Event) → IsFeedingBelow self.old.bounds.length e
@@ -95,15 +159,17 @@ impl Feeder {
         ensures same { (p : P) → P.same p post.old → P.same p post.new }
         ensures bounds { self.new.bounds ≡ self.old.bounds }
         ensures turns { self.new.turns ≡ self.old.turns }
+        ensures clock { self.new.clock ≡ self.old.clock }
+        ensures held { result ≡ true → IsHeld self.old → IsHeld self.new }
     {
-        self.taken = hear_all(
+        hear_all(
             post,
             &mut self.receives,
             &mut self.marks,
-            self.taken,
+            &mut self.taken,
             self.bounds.length,
             self.bounds.foreign,
-        );
+        )
     }
 }
 
@@ -121,12 +187,12 @@ fn moves_by(reply: Reply) -> Tick
 }
 
 impl Feeder {
-    ghost use Rattle.std.specs.Prelude.{◌⊎◌, ◌↔◌, IsTrue, vec_len};
+    ghost use Rattle.std.specs.Prelude.{◌⊎◌, ◌↔◌, true, IsTrue, vec_len};
     ghost use Rattle.game_trait.specs.declared.event.Event.{Event};
     ghost use Rattle.copy_workers.specs.Asking.{IsFeedingBelow};
     ghost use Rattle.copy_workers.specs.Feed.{Hearing, least_mark};
     ghost use Rattle.copy_workers.specs.Refining.{AllKept};
-    ghost use Rattle.copy_workers.specs.Standing.{Start, InTurn, IsIssued, Rests};
+    ghost use Rattle.copy_workers.specs.Standing.{Start, InTurn, IsIssued, IsHeld, Rests};
 
     // The marks don't hold the clock.
     fn is_free(&self) -> bool
@@ -143,8 +209,8 @@ impl Feeder {
             || self.bounds.length <= least
     }
 
-    // Ends the turn: with a tick, unless the marks hold the clock.
-    fn end_turn<P: Post>(&mut self, post: &mut P)
+    // Ends the turn: with a tick, unless the marks hold the clock, which it tells.
+    fn end_turn<P: Post>(&mut self, post: &mut P) -> bool
         requires stands { (c : Start)
             × InTurn c self.old (P.asked post.old) (P.calls post.old) (P.grows post.old) 7 1 }
         requires issued { IsIssued self.old }
@@ -157,26 +223,30 @@ impl Feeder {
         ensures same { (p : P) → P.same p post.old → P.same p post.new }
         ensures bounds { self.new.bounds ≡ self.old.bounds }
         ensures turns { self.new.turns ≡ self.old.turns + 1 }
+        ensures held { result ≡ true → IsHeld self.new }
+        ensures clock { result ≡ true → self.new.clock ≡ self.old.clock }
     {
         if self.is_free() {
             let reply = post.ask(&Event::Tick);
             self.clock += moves_by(reply);
             self.turns += 1;
+            false
         } else {
             self.turns += 1;
+            true
         }
     }
 }
 
 impl Feeder {
-    ghost use Rattle.std.specs.Prelude.{vec_len};
+    ghost use Rattle.std.specs.Prelude.{true, vec_len};
     ghost use Rattle.game_trait.specs.declared.event.Event.{Event};
     ghost use Rattle.copy_workers.specs.Asking.{IsFeedingBelow};
     ghost use Rattle.copy_workers.specs.Feed.{ending_clock};
-    ghost use Rattle.copy_workers.specs.Standing.{Start, Rests, Goes};
+    ghost use Rattle.copy_workers.specs.Standing.{Start, IsHeld, Rests, Goes};
 
-    // One turn.
-    fn turn<P: Post>(&mut self, post: &mut P)
+    // One turn. Whether the marks hold the clock.
+    fn turn<P: Post>(&mut self, post: &mut P) -> bool
         requires stands { (c : Start)
             × Goes c self.old (P.asked post.old) (P.calls post.old) (P.grows post.old) }
         requires takes { (e : Event) → IsFeedingBelow self.old.bounds.length e
@@ -188,10 +258,48 @@ impl Feeder {
         ensures same { (p : P) → P.same p post.old → P.same p post.new }
         ensures bounds { self.new.bounds ≡ self.old.bounds }
         ensures turns { self.new.turns ≡ self.old.turns + 1 }
+        ensures held { result ≡ true → IsHeld self.new }
+        ensures clock { result ≡ true → self.new.clock ≡ self.old.clock }
     {
         self.issue(post);
         self.hear(post);
-        self.end_turn(post);
+        self.end_turn(post)
+    }
+}
+
+impl Feeder {
+    ghost use Rattle.game_trait.specs.declared.event.Event.{Event};
+    ghost use Rattle.copy_workers.specs.Asking.{IsFeedingBelow};
+    ghost use Rattle.copy_workers.specs.Feed.{ending_clock};
+    ghost use Rattle.copy_workers.specs.Standing.{Start, IsHeld, Rests};
+
+    // Makes up to so many turns more, as long as nothing comes: the marks hold the clock, so that
+    // each of them only passes the gate and asks each link. The last is that in which something came.
+    fn hold<P: Post, Q: Gate>(&mut self, post: &mut P, gate: &Q, most: u64)
+        requires held { IsHeld self.old }
+        requires stands { (c : Start)
+            × Rests c self.old (P.asked post.old) (P.calls post.old) (P.grows post.old)
+            × (self.old.clock < ending_clock c.job) × (self.old.turns + most ≤ c.budget) }
+        requires takes { (e : Event) → IsFeedingBelow self.old.bounds.length e
+            → P.takes post.old e }
+        ensures stands { (c : Start)
+            → Rests c self.old (P.asked post.old) (P.calls post.old) (P.grows post.old)
+            → self.old.clock < ending_clock c.job → self.old.turns + most ≤ c.budget
+            → Rests c self.new (P.asked post.new) (P.calls post.new) (P.grows post.new) }
+        ensures takes { (e : Event) → P.takes post.old e → P.takes post.new e }
+        ensures same { (p : P) → P.same p post.old → P.same p post.new }
+        ensures bounds { self.new.bounds ≡ self.old.bounds }
+        ensures more { self.old.turns ≤ self.new.turns }
+        ensures most { self.new.turns ≤ self.old.turns + most }
+    {
+        for _ in 0..most {
+            gate.pass(self.mirror, self.copies, self.turns);
+            if !self.hear(post) {
+                self.end_turn(post);
+                return;
+            }
+            self.turns += 1;
+        }
     }
 }
 
@@ -206,17 +314,6 @@ impl Feeder {
         sum
     }
 
-    // Rests after a turn where it found nothing to do, unless it hurries on. What to compare the
-    // progress with after the next turn.
-    fn rested<P: Post>(&self, rest: &mut Rest, post: &P, before: u64) -> u64 {
-        if rest.hurries_on() {
-            return before;
-        }
-        let progress = self.progress();
-        rest.after(post, progress == before);
-        progress
-    }
-
     // What the feeder gives back.
     fn ended(self) -> FeederEnd
         requires { self.issued < 2 ^ 32 }
@@ -229,6 +326,8 @@ impl Feeder {
         ensures turns { result.turns ≡ self.turns }
     {
         let Feeder {
+            mirror: _,
+            copies: _,
             bounds: _,
             plan,
             sends,
@@ -253,7 +352,8 @@ impl Feeder {
 }
 
 /// Feeds a mirror, turn by turn, until the clock stands at the match's length plus the longest
-/// delay or the budget is spent.
+/// delay or the budget is spent. Each turn passes the gate, issues the tick of the clock, asks each
+/// link once, and asks a tick unless the marks hold the clock.
 pub fn run_feeder<P: Post, Q: Gate>(post: &mut P, gate: &Q, job: FeederJob) -> FeederEnd
     requires rises { KeysRise job.plan.items }
     requires room { AllByRecursion
@@ -268,43 +368,21 @@ pub fn run_feeder<P: Post, Q: Gate>(post: &mut P, gate: &Q, job: FeederJob) -> F
     ensures ends { FeederEnds job result (P.asked post.old) (P.asked post.new) }
     ensures same { (p : P) → P.same p post.old → P.same p post.new }
 {
-    let FeederJob {
-        mirror,
-        copies,
-        stagger,
-        pace,
-        plan,
-        foreign,
-        sends,
-        receives,
-        budget,
-    } = job;
-    let length = stagger.length();
-    let delay = stagger.longest();
-    let end = length + delay;
-    let mut feeder = Feeder {
-        bounds: Bounds {
-            length,
-            delay,
-            pace,
-            foreign,
-        },
-        plan,
-        sends,
-        receives,
-        marks: [0; 7],
-        clock: 0,
-        issued: 0,
-        marked: 0,
-        taken: 0,
-        turns: 0,
-    };
-    let mut rest = Rest::new(copies);
+    let end = job.stagger.length() + job.stagger.longest();
+    let budget = job.budget;
+    let mut rest = Rest::new(job.copies);
+    let mut feeder = Feeder::begin(job);
     let mut before = feeder.progress();
     while feeder.clock < end && feeder.turns < budget {
-        gate.pass(mirror, copies, feeder.turns);
-        feeder.turn(post);
-        before = feeder.rested(&mut rest, post, before);
+        gate.pass(feeder.mirror, feeder.copies, feeder.turns);
+        let held = feeder.turn(post);
+        let progress = feeder.progress();
+        let hurried = rest.after(post, progress == before);
+        before = progress;
+        if held {
+            let left = budget - feeder.turns;
+            feeder.hold(post, gate, hurried.min(left));
+        }
     }
     feeder.ended()
 }

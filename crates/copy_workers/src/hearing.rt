@@ -1,6 +1,6 @@
 //! A feeder hears its links, one message of each a turn.
 
-ghost use Rattle.std.specs.Prelude.{◌≡◌, ℕ, ◌+◌, ◌*◌, ◌-◌, ◌<◌, ◌≤◌, ◌^◌, [], ◌∷◌, ◌++◌, List, length};
+ghost use Rattle.std.specs.Prelude.{◌≡◌, ℕ, ◌+◌, ◌*◌, ◌-◌, ◌<◌, ◌≤◌, ◌^◌, true, [], ◌∷◌, ◌++◌, List, length};
 ghost use Rattle.std.specs.List.{AllByRecursion};
 ghost use Rattle.game_trait.specs.declared.event.Event.{Event};
 ghost use Rattle.link_ring.specs.declared.receive.LinkReceive.{LinkReceive};
@@ -15,7 +15,7 @@ use game_trait::{Event, Tick};
 use link_ring::{LinkReceive, Message};
 
 /// Asks one link once. A mark is kept; a command that is due within the match is asked, as long as
-/// fewer than `foreign` were.
+/// fewer than `foreign` were. Whether nothing came.
 pub fn hear_one<P: Post>(
     post: &mut P,
     receive: &mut LinkReceive,
@@ -23,13 +23,14 @@ pub fn hear_one<P: Post>(
     taken: &mut u32,
     limit: Tick,
     foreign: u32,
-)
+) -> bool
     requires takes { (e : Event) → IsFeedingBelow limit e → P.takes post.old e }
     requires calls { 0 < P.calls post.old }
     requires grows { taken.old < foreign → 0 < P.grows post.old }
     requires misses { misses_of receive.old + 1 < 2 ^ 64 }
     ensures heard { HearsOnce limit foreign receive.old receive.new mark.old mark.new
         taken.old taken.new (P.asked post.old) (P.asked post.new) }
+    ensures quiet { result ≡ true → mark.new ≡ mark.old }
     ensures calls { P.calls post.old ≤ P.calls post.new + 1 }
     ensures grows { P.grows post.new + taken.new ≡ P.grows post.old + taken.old }
     ensures within { taken.old ≤ foreign → taken.new ≤ foreign }
@@ -37,56 +38,56 @@ pub fn hear_one<P: Post>(
     ensures same { (p : P) → P.same p post.old → P.same p post.new }
 {
     match receive.receive() {
-        None => {}
+        None => true,
         Some(Message::Mark(n)) => {
             *mark = n;
+            false
         }
         Some(Message::Cmd(x)) => {
             if x.time < limit && *taken < foreign {
                 post.ask(&Event::Arrive(x));
                 *taken += 1;
             }
+            false
         }
     }
 }
 
-/// Asks each link once, in their order. The number of received commands that were asked.
+/// Asks each link once, in their order, and counts the received commands that were asked. Whether
+/// nothing came on any of them.
 pub fn hear_all<P: Post>(
     post: &mut P,
     receives: &mut [LinkReceive],
     marks: &mut [Tick],
-    taken: u32,
+    taken: &mut u32,
     limit: Tick,
     foreign: u32,
-) -> u32
+) -> bool
     requires takes { (e : Event) → IsFeedingBelow limit e → P.takes post.old e }
     requires calls { length receives.old ≤ P.calls post.old }
-    requires grows { foreign ≤ P.grows post.old + taken }
+    requires grows { foreign ≤ P.grows post.old + taken.old }
     requires misses { AllByRecursion (λ r. misses_of r + 1 < 2 ^ 64) receives.old }
     requires marks { length receives.old ≤ length marks.old }
     ensures heard { (job : Task) (first : List LinkReceive) (asked : List Asked) (s : Feed)
         → job.length ≡ limit → job.foreign ≡ foreign
-        → HeardTo job first asked s receives.old marks.old taken (P.asked post.old) 0
-        → HeardTo job first asked s receives.new marks.new result (P.asked post.new)
+        → HeardTo job first asked s receives.old marks.old taken.old (P.asked post.old) 0
+        → HeardTo job first asked s receives.new marks.new taken.new (P.asked post.new)
         (length receives.new) }
     ensures calls { P.calls post.old ≤ P.calls post.new + length receives.old }
-    ensures grows { P.grows post.new + result ≡ P.grows post.old + taken }
-    ensures within { taken ≤ foreign → result ≤ foreign }
+    ensures grows { P.grows post.new + taken.new ≡ P.grows post.old + taken.old }
+    ensures within { taken.old ≤ foreign → taken.new ≤ foreign }
+    ensures quiet { result ≡ true → marks.new ≡ marks.old }
     ensures takes { (e : Event) → P.takes post.old e → P.takes post.new e }
     ensures same { (p : P) → P.same p post.old → P.same p post.new }
 {
-    let mut asked = taken;
+    let mut quiet = true;
     for i in 0..receives.len() {
-        hear_one(
-            post,
-            &mut receives[i],
-            &mut marks[i],
-            &mut asked,
-            limit,
-            foreign,
-        );
+        let nothing = hear_one(post, &mut receives[i], &mut marks[i], taken, limit, foreign);
+        if !nothing {
+            quiet = false;
+        }
     }
-    asked
+    quiet
 }
 
 /// The least of the first so many marks; where there are none, the limit.

@@ -12,13 +12,13 @@ const MOST_WAITS: u32 = 64;
 // How many naps of a worker its rests may have in all.
 const ALL_NAPS: u32 = 4_096;
 
-// How many turns in a row are made at once, and without a nap, by a worker that hurries.
+// How many turns in a row are made without a nap by a worker that hurries.
 const AT_ONCE: u64 = 64;
 
 /// How a worker rests that finds nothing to do: by naps, in which it sleeps, so that others have
 /// the processor and the lock. One that napped for so long in a row as its post finds worth while,
-/// or so long in all, hurries: it naps no more, and is soon done with its turns. A copy's worker
-/// makes many of them by one call then.
+/// or so long in all, hurries: it naps no more, and makes many turns one after the other as long as
+/// nothing comes, so that it is soon done with them. A copy's worker makes them by one call.
 #[derive(Clone, Copy)]
 pub struct Rest {
     // Who rests: a copy, or the feeder, whose number is that of copies.
@@ -27,8 +27,6 @@ pub struct Rest {
     taken: u32,
     // How many are left in all.
     left: u32,
-    // How many turns are still made without a nap.
-    hurried: u64,
 }
 
 impl Rest {
@@ -38,7 +36,6 @@ impl Rest {
             worker,
             taken: 0,
             left: ALL_NAPS,
-            hurried: 0,
         }
     }
 
@@ -54,27 +51,18 @@ impl Rest {
         self.left = self.left.saturating_sub(1);
     }
 
-    /// Whether it hurries through the next turn too, so that it isn't worth while to look whether
-    /// there was something to do in this one.
-    pub fn hurries_on(&mut self) -> bool {
-        let hurries = self.hurried > 0;
-        self.hurried = self.hurried.saturating_sub(1);
-        hurries
-    }
-
-    /// After a turn: it naps where nothing was found to do, unless it hurries. One that hurries looks
-    /// again after so many turns whether it still does.
-    pub fn after<P: Post>(&mut self, post: &P, idle: bool) {
+    /// After a turn: it naps where nothing was found to do, unless it hurries. How many turns are then
+    /// to be made as long as nothing comes: several where it hurries, and else none.
+    pub fn after<P: Post>(&mut self, post: &P, idle: bool) -> u64 {
         if !idle {
             self.taken = 0;
-            self.hurried = 0;
-        } else if self.hurried > 0 {
-            self.hurried -= 1;
-        } else if self.hurries(post) {
-            self.hurried = AT_ONCE;
-        } else {
-            self.nap(post);
+            return 0;
         }
+        if self.hurries(post) {
+            return AT_ONCE;
+        }
+        self.nap(post);
+        0
     }
 
     /// Before a turn of a copy's worker: it naps until a tick of its copy seems to be due, up to a
