@@ -10,6 +10,7 @@ mod links;
 mod locks;
 mod mirrors;
 mod office;
+mod orders;
 mod program;
 mod races;
 mod rewinds;
