@@ -1,5 +1,6 @@
 //! The program `tss`: the real arguments, streams and exit code. What it does with them is
-//! `words_behind` and `run_watched`.
+//! `words_behind`, and `run` where the words are the one word `race`, which alone may wait, or else
+//! `run_watched`, which returns.
 #![tactic(auto)]
 
 #[cfg(test)]
@@ -11,7 +12,7 @@ use std::process::ExitCode;
 use std::rt::Env;
 use std::{env, io};
 use tss_io::{NoMemory, Seq, StdSink, StdSource};
-use tss_program::{Done, Status, run_watched, words_behind};
+use tss_program::{Done, Status, asks_race, run, run_watched, words_behind};
 
 // The program's own name and the words behind it, as the system tells them.
 fn arguments(rt: &(impl Env + Alloc<A = Global>)) -> io::Result<Vec<String>> {
@@ -24,7 +25,11 @@ fn main(rt: HostRuntime) -> ExitCode {
     let mut source = StdSource::new(rt.stdin());
     let mut sink = StdSink::new(rt.stdout());
     let done = match words_behind(&arguments) {
-        Ok(words) => run_watched(&rt, alloc, words, &mut source, &mut sink, &OpenGate),
+        Ok(words) if asks_race(words) => {
+            let untold = Vec::new(alloc);
+            run(&rt, alloc, words, &mut source, &mut sink, &OpenGate, untold)
+        }
+        Ok(words) => run_watched(alloc, words, &mut source, &mut sink),
         Err(NoMemory) => Done::of(Status::NoMemory, Seq::new(alloc)),
     };
     if let Some(failure) = done.failure() {

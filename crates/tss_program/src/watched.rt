@@ -1,20 +1,16 @@
 //! One run of the program with the watchers of `score`.
 
-ghost use Rattle.std.specs.Prelude.{◌≡◌, ◌≢◌, List, [], ◌∷◌, None, Err, map, IfOk, OnErr};
+ghost use Rattle.std.specs.Prelude.{◌≡◌, List, [], ◌∷◌, None, Err, map, false, IfOk, OnErr};
 ghost use Rattle.std.specs.String.{string_bytes};
 ghost use Rattle.watch_board.specs.Behaviour.{Behaviour};
 ghost use Rattle.watch_board.specs.Watchers.{repair_count, late_count, first_repair};
-ghost use Rattle.tss_words.specs.Subcommands.{subcommand_of, most_asked};
+ghost use Rattle.tss_words.specs.Subcommands.{subcommand_of, most_asked, races};
 ghost use Rattle.tss_program.specs.Run.{Seen, seen, taken, Answers, IsRun};
 
 use crate::done::Done;
-use crate::plain::ended;
-use crate::race::run;
+use crate::plain::{ended, run_plain};
 use crate::stop::Stop;
-use copy_workers::Gate;
 use std::alloc::Global;
-use std::sync::Wait;
-use std::thread::Threads;
 use tss_io::{NoMemory, Sink, Source};
 use tss_words::Subcommand;
 use watch_board::{FirstRepair, LateCount, RepairCount, Watcher};
@@ -33,14 +29,13 @@ fn stop_at_start(words: &[String]) -> Stop
 
 // Makes the watchers and runs the program. Where no memory is found for them, nothing is read and
 // nothing is put.
-fn run_told<R: Threads + Wait + Sync, S: Source, K: Sink, P: Gate + Sync>(
-    rt: &R,
+fn run_told<S: Source, K: Sink>(
     alloc: Global,
     words: &[String],
     source: &mut S,
     sink: &mut K,
-    gate: &P,
 ) -> Result<Done, NoMemory>
+    requires { races (subcommand_of (map string_bytes words.now)) ≡ false }
     ensures run { IfOk result (λ done. IsRun (record {
       watchers = repair_count 0 ∷ late_count 0 ∷ first_repair None ∷ [];
       words = map string_bytes words.now;
@@ -59,21 +54,20 @@ fn run_told<R: Threads + Wait + Sync, S: Source, K: Sink, P: Gate + Sync>(
     watchers.push(Box::new(alloc, RepairCount::new())?)?;
     watchers.push(Box::new(alloc, LateCount::new())?)?;
     watchers.push(Box::new(alloc, FirstRepair::new())?)?;
-    Ok(run(rt, alloc, words, source, sink, gate, watchers))
+    Ok(run_plain(alloc, words, source, sink, watchers))
 }
 
-/// Runs the program on the words behind its name, as `run` does, with the watchers of `score` in
-/// the order in which they are told: a count of repairs, a count of late commands, and the first
-/// repair. Where no memory is found for them it ends with status 1, and wrong words are answered
-/// all the same.
-pub fn run_watched<R: Threads + Wait + Sync, S: Source, K: Sink, P: Gate + Sync>(
-    rt: &R,
+/// Runs the program on the words behind its name, which are other than the one word `race`, as
+/// `run_plain` does, with the watchers of `score` in the order in which they are told: a count of
+/// repairs, a count of late commands, and the first repair. Where no memory is found for them it
+/// ends with status 1, and wrong words are answered all the same.
+pub fn run_watched<S: Source, K: Sink>(
     alloc: Global,
     words: &[String],
     source: &mut S,
     sink: &mut K,
-    gate: &P,
 ) -> Done
+    requires { races (subcommand_of (map string_bytes words.now)) ≡ false }
     ensures run { IsRun (record {
       watchers = repair_count 0 ∷ late_count 0 ∷ first_repair None ∷ [];
       words = map string_bytes words.now;
@@ -87,7 +81,7 @@ pub fn run_watched<R: Threads + Wait + Sync, S: Source, K: Sink, P: Gate + Sync>
     ensures untouched { most_asked (subcommand_of (map string_bytes words.now)) ≡ 0
         → source.new ≡ source.old }
 {
-    match run_told(rt, alloc, words, source, sink, gate) {
+    match run_told(alloc, words, source, sink) {
         Ok(done) => done,
         Err(NoMemory) => ended(alloc, sink, Err(stop_at_start(words))),
     }

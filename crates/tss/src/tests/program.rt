@@ -19,7 +19,7 @@ use std::process::Abort;
 use std::sync::Wait;
 use std::thread::Threads;
 use tss_io::{MemSink, MemSource, Seq};
-use tss_program::{Done, Status, run_watched};
+use tss_program::{Done, Status, asks_race, run, run_watched};
 
 // What a run is given, and how it has to end. Its text is a front that other rows may have, too, and
 // the rest.
@@ -65,7 +65,12 @@ fn ran<R: Threads + Wait + Sync + Abort>(
         let word = String::from_str(alloc, word).expect(rt, "memory");
         owned.push(word).expect(rt, "memory");
     }
-    run_watched(rt, alloc, owned.as_slice(), source, sink, &OpenGate)
+    let words = owned.as_slice();
+    if asks_race(words) {
+        run(rt, alloc, words, source, sink, &OpenGate, Vec::new(alloc))
+    } else {
+        run_watched(alloc, words, source, sink)
+    }
 }
 
 // The call that fails, where one does.

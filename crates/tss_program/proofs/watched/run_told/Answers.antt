@@ -17,4 +17,4 @@ returns-clause-run g c =
     ∙ ap (λ (w : LateCount). late_count w.count) c.in_ok-new-2.ensures.ok ∙ c.new-3.ensures)
     (read_made own.own-1 (own.own-1.entry own.at-1-3) own.at-1-3 refl _ (λ j y. j.1.behaviour y) _ _ _ c.into_dyn_box-in_ok-new-3.ensures.1
     ∙ ap (λ (w : FirstRepair). first_repair w.mirror) c.in_ok-new-3.ensures.ok ∙ c.new-5.ensures))
-    c.run.ensures.run
+    c.run_plain.ensures.run
