@@ -14,7 +14,7 @@ use Rattle.lossy_link.specs.Link.{LinkState, IsLinked, new_link, has_flown, next
 use Rattle.lossy_link.specs.Links.{NetLinks, AreLinks, row_at, link_at, changed, next_links}
 use Rattle.lossy_link.specs.Finish.{packet_lines, link_lines, row_lines, rows_lines}
 use Rattle.lossy_link.specs.Way.{IsThere}
-use Rattle.lossy_link.proofs.LinkLaws.{received-most}
+use Rattle.lossy_link.proofs.LinkLaws.{carry-is, received-most}
 use Rattle.lossy_link.proofs.Places.{changed-same, changed-other, same-place}
 use Rattle.lossy_link.proofs.LinksLaws.{send-still, carry-sent, carry-received, place-in, next-AreLinks}
 
@@ -98,7 +98,7 @@ moves-links m n (l ∷ ls) a h =
 
 -- the packet that is next brings its command
 pub sent-brings : (k : ℕ) (l : LinkState) → IsLinked l → k ≡ length l.received → k < length l.sent → length (after_carry k (after_send k l)).received ≡ k + 1
-unfolding after_send after_carry after_take
+unfolding after_send after_take
 sent-brings k l h at below =
     let acked = h.acked in
     let room = h.room in
@@ -109,7 +109,7 @@ sent-brings k l h at below =
     let left : length (drop (length l.received) l.sent) ≡ length l.sent - length l.received = length-drop (length l.received) l.sent in
     let one : length (next_of l) ≡ 1 = length-take 1 (drop (length l.received) l.sent) ∙ omega arith in
     let long = length-append l.received (next_of l) in
-    rw (may, flies, same) (omega arith)
+    ap (λ (s : LinkState). length s.received) (carry-is k (after_send k l)) ∙ rw (may, flies, same) (omega arith)
 
 link-grown : (m : MatchData) (n : NetLinks) (from to k : ℕ) → AreLinks m n → from < m.mirrors → to < m.mirrors → k ≤ length (link_at n.rows from to).received → k < length (link_at n.rows from to).sent
     → k + 1 ≤ length (link_at (next_links m.commands (next_links m.commands n (Send from to k)) (Carry from to k)).rows from to).received

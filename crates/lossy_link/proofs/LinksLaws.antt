@@ -21,7 +21,7 @@ use Rattle.lossy_link.specs.Ends.{is_open}
 use Rattle.lossy_link.specs.Link.{LinkState, IsLinked, new_link, has_flown, next_of, brings, brought, after_put, after_take, after_send, after_carry, after_ack, after_hear}
 use Rattle.lossy_link.specs.Links.{NetLinks, IsLinkOf, AreLinks, row_at, link_at, changed, row_issued, after_issue, next_links, new_links, new_rows, is_from}
 use Rattle.lossy_link.specs.Way.{IsThere}
-use Rattle.lossy_link.proofs.LinkLaws.{new-IsLinked, put-IsLinked, take-IsLinked, send-IsLinked, carry-IsLinked, ack-IsLinked, hear-IsLinked, next-none}
+use Rattle.lossy_link.proofs.LinkLaws.{new-IsLinked, put-IsLinked, take-IsLinked, send-IsLinked, carry-IsLinked, ack-IsLinked, hear-IsLinked, next-none, brought-is}
 use Rattle.lossy_link.proofs.Places.{IsPlace, changed-rows, changed-row, changed-same, changed-other, same-place}
 use Rattle.lossy_link.proofs.Names.{names-most, own-most, own-length, found-named}
 
@@ -50,16 +50,12 @@ hear-still k l =
     [ true ↦ record { sent = refl; received = refl; room = refl } | false ↦ record { sent = refl; received = refl; room = refl } ]
 
 pub carry-sent : (k : ℕ) (l : LinkState) → ((after_carry k l).sent ≡ l.sent) × ((after_carry k l).room ≡ l.room)
-unfolding after_carry after_take
-carry-sent k l =
-    elim (brings k l) as (λ v. ((cond v (after_take l) l).sent ≡ l.sent) × ((cond v (after_take l) l).room ≡ l.room))
-    [ true ↦ (refl, refl) | false ↦ (refl, refl) ]
+unfolding after_carry
+carry-sent k l = (refl, refl)
 
 pub carry-received : (k : ℕ) (l : LinkState) → (after_carry k l).received ≡ l.received ++ brought k l
-unfolding after_carry after_take brought
-carry-received k l =
-    elim (brings k l) as (λ v. (cond v (after_take l) l).received ≡ l.received ++ cond v (next_of l) [])
-    [ true ↦ refl | false ↦ sym (append-nil l.received) ]
+unfolding after_carry
+carry-received k l = refl
 
 pub take-received : (l : LinkState) → ((after_take l).received ≡ l.received ++ next_of l) × ((after_take l).sent ≡ l.sent) × ((after_take l).room ≡ l.room)
 unfolding after_take
@@ -71,9 +67,8 @@ put-sent x l = (refl, refl, refl)
 
 -- nothing is brought where all was received
 brought-none : (k : ℕ) (l : LinkState) → l.received ≡ l.sent → brought k l ≡ []
-unfolding brought
 brought-none k l all =
-    elim (brings k l) as (λ v. cond v (next_of l) [] ≡ []) [ true ↦ next-none l all | false ↦ refl ]
+    brought-is k l ∙ elim (brings k l) as (λ v. cond v (next_of l) [] ≡ []) [ true ↦ next-none l all | false ↦ refl ]
 
 -- ---- one link of all
 

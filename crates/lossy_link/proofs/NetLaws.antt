@@ -30,7 +30,7 @@ use Rattle.lossy_link.specs.Link.{LinkState, new_link, next_of, brings, brought,
 use Rattle.lossy_link.specs.Links.{NetLinks, AreLinks, row_at, link_at, changed, told, row_issued, after_issue, next_links, new_links, script_of, arriving, listed, is_from}
 use Rattle.lossy_link.specs.Net.{NetState, net_mirror, opening_net, next_net, after_net}
 use Rattle.lossy_link.specs.Way.{IsThere, AtMirror, IsNet}
-use Rattle.lossy_link.proofs.LinkLaws.{next-split}
+use Rattle.lossy_link.proofs.LinkLaws.{next-split, brought-is}
 use Rattle.lossy_link.proofs.Places.{IsPlace, changed-same, changed-other, same-place}
 use Rattle.lossy_link.proofs.Names.{found-named}
 use Rattle.lossy_link.proofs.LinksLaws.{send-still, ack-still, hear-still, carry-received, take-received, put-sent, place-in, issued-own, issued-same}
@@ -61,12 +61,12 @@ filter-all p (x ∷ xs) =
 
 -- a link brings nothing or one command
 pub brought-cases : (k : ℕ) (l : LinkState) → (brought k l ≡ []) ⊎ ((x : Command) × (brought k l ≡ x ∷ []) × (next_of l ≡ x ∷ []))
-unfolding brought
 brought-cases k l =
-    elim (brings k l) as (λ v. (cond v (next_of l) [] ≡ []) ⊎ ((x : Command) × (cond v (next_of l) [] ≡ x ∷ []) × (next_of l ≡ x ∷ []))) [
+    subst (λ (xs : List Command). (xs ≡ []) ⊎ ((x : Command) × (xs ≡ x ∷ []) × (next_of l ≡ x ∷ []))) (sym (brought-is k l))
+    (elim (brings k l) as (λ v. (cond v (next_of l) [] ≡ []) ⊎ ((x : Command) × (cond v (next_of l) [] ≡ x ∷ []) × (next_of l ≡ x ∷ []))) [
       | true ↦ first (drop (length l.received) l.sent)
       | false ↦ inl refl
-    ]
+    ])
   where
     first : (xs : List Command) → (take 1 xs ≡ []) ⊎ ((x : Command) × (take 1 xs ≡ x ∷ []) × (take 1 xs ≡ x ∷ []))
     first [] = inl refl
