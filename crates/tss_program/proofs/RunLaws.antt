@@ -31,7 +31,7 @@ use Rattle.tss_program.proofs.AnswerLaws.{not, one-due, due-status, due-no, due-
 -- ---- by cases
 
 -- an input was read, and this is due for it
-abbrev HasDue : Run → Due → Type 0
+abbrev pub HasDue : Run → Due → Type 0
 HasDue r due = OfInput (most_asked (asked r)) r.source_old r.source_new (λ input. IsDueOf r.watchers (asked r) input due)
 
 -- how a run ended, by its status
@@ -47,7 +47,7 @@ by-end P r (answered due has (whole is steady gains kept)) memory read write don
 by-end P r (answered due has (front n less is rose gains kept)) memory read write done = write due has is rose kept
 
 -- what is due at a status that no failure gives
-by-due :
+pub by-due :
     (P : Type 0) (r : Run) (n : ℕ) → IsRun r → nat_eq 1 n ≡ false → nat_eq 3 n ≡ false → nat_eq 4 n ≡ false → r.status ≡ n
     → ((due : Due) → HasDue r due → code due.status ≡ n → r.kept ≡ due.kept → Gains r.sink_old.bytes due.text r.sink_new.bytes → P) → P
 by-due P r n run one three four at f = by-end P r run.ends
@@ -59,11 +59,11 @@ pub told-same : (left : Option (List ℕ)) (input other : List ℕ) → left ≡
 told-same left input other told is = subst (λ (l : Option (List ℕ)). IsInput l other) told is
 
 -- what is due for an input that is told
-told-due : (r : Run) (input : List ℕ) (due : Due) → r.source_old.left ≡ Some input → HasDue r due → IsDueOf r.watchers (asked r) input due
+pub told-due : (r : Run) (input : List ℕ) (due : Due) → r.source_old.left ≡ Some input → HasDue r due → IsDueOf r.watchers (asked r) input due
 told-due r input due told has = subst (λ (l : List ℕ). IsDueOf r.watchers (asked r) l due) (sym (told-same r.source_old.left input has.input told has.told)) has.holds
 
 -- what is due where the words ask for this
-asked-due : (r : Run) (s : Subcommand) (input : List ℕ) (due : Due) → asked r ≡ Some s → IsDueOf r.watchers (asked r) input due → IsAnswer r.watchers s input due
+pub asked-due : (r : Run) (s : Subcommand) (input : List ℕ) (due : Due) → asked r ≡ Some s → IsDueOf r.watchers (asked r) input due → IsAnswer r.watchers s input due
 asked-due r s input due asks is = subst (λ (o : Option Subcommand). IsDueOf r.watchers o input due) asks is
 
 -- ---- ends as is due

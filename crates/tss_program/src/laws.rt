@@ -2,43 +2,51 @@
 //! contract of a function without parameters that does nothing.
 
 ghost use Rattle.std.specs.Prelude.{◌≡◌, ◌<◌, ◌≤◌, ◌⊎◌, ◌↔◌, ℕ, true, false, Option, List, [], None, Some, ◌++◌, length, take};
-ghost use Rattle.std.specs.List.{AllByRecursion};
+ghost use Rattle.std.specs.List.{AllByRecursion, Contains};
 ghost use Rattle.tss_io.specs.Streams.{Rose, Gains};
+ghost use Rattle.tss_io.specs.declared.fault.Refused.{Refused};
+ghost use Rattle.tss_io.specs.declared.fault.TextFault.TheVariants as text_faults;
 ghost use Rattle.tss_io.specs.declared.cause.Cause.TheVariants.{Number};
 ghost use Rattle.game_trait.specs.Ordered.{time_ordered};
 ghost use Rattle.sync_model.specs.State.{MirrorState};
 ghost use Rattle.arena_rules.specs.World.{World, arena_rules, opening_world};
 ghost use Rattle.match_file.specs.Data.{MatchData, IsMatch, lifted};
+ghost use Rattle.match_file.specs.Reading.{IsFirst};
 ghost use Rattle.match_file.specs.Text.{match_text};
 ghost use Rattle.match_hall.specs.Script.{scripted, played, logs_from};
 ghost use Rattle.match_hall.specs.Headline.{AllPlayed};
 ghost use Rattle.race_hall.specs.Raced.{AreRaced};
 ghost use Rattle.run_recorder.specs.declared.log.MirrorLog.{MirrorLog};
 ghost use Rattle.run_recorder.specs.Data.{IsRecord};
+ghost use Rattle.run_recorder.specs.Reading.{IsFirstOfRecord};
 ghost use Rattle.run_recorder.specs.Text.{record_text};
-ghost use Rattle.run_auditor.specs.Audit.{IsLegalRecord};
-ghost use Rattle.report_text.specs.Ends.{done_line};
+ghost use Rattle.run_auditor.specs.Audit.{IsLegalRecord, Tells};
+ghost use Rattle.run_auditor.specs.Verdicts.{verdict_text};
+ghost use Rattle.run_auditor.specs.declared.why.Why.{Why};
+ghost use Rattle.report_text.specs.Ends.{done_line, refused_text, usage_text};
 ghost use Rattle.report_text.specs.Soak.{soak_line, same_line};
 ghost use Rattle.report_text.specs.Worlds.{Showing};
 ghost use Rattle.soak.specs.Soak.{IsSoaked};
 ghost use Rattle.soak.specs.Answer.{soak_opening, soaked, whole_lines};
 ghost use Rattle.match_hall.specs.Report.{play_text};
 ghost use Rattle.run_recorder.specs.declared.race_record.RaceRecord.{RaceRecord};
-ghost use Rattle.run_auditor.specs.declared.verdict.Verdict.TheVariants.{Legal};
+ghost use Rattle.run_auditor.specs.declared.verdict.Verdict.TheVariants.{Legal, NotLegal};
 ghost use Rattle.run_auditor.specs.Audit.{event_count};
 ghost use Rattle.tss_race.specs.Record.{IsRecordOfRace};
 ghost use Rattle.watch_board.specs.Behaviour.{Behaviour};
 ghost use Rattle.tss_words.specs.declared.subcommand.Subcommand.{Subcommand};
 ghost use Rattle.tss_words.specs.declared.subcommand.Subcommand.TheVariants.{OfMatch, Audit, Lossy, Soak};
-ghost use Rattle.tss_words.specs.declared.subcommand.MatchTask.TheVariants.{Join, Play, Race};
+ghost use Rattle.tss_words.specs.declared.subcommand.MatchTask.{MatchTask};
+ghost use Rattle.tss_words.specs.declared.subcommand.MatchTask.TheVariants.{Join, Play, Race, Rewind};
 ghost use Rattle.lossy_text.specs.Data.{LossyData};
+ghost use Rattle.lossy_text.specs.Reading.{IsFirstOfLossy};
 ghost use Rattle.match_join.specs.Join.{IsTooLate, TellsOfBoth};
 ghost use Rattle.tss_program.specs.declared.due.Due.{Due};
 ghost use Rattle.tss_words.specs.Subcommands.{subcommand_of, most_asked, races};
 ghost use Rattle.tss_program.specs.declared.status.Status.TheVariants.{Complete};
-ghost use Rattle.tss_program.specs.Due.{IsAnswer, IsDue, IsMatchText, IsRecordText, IsLossyText, IsLegalOne, IsRaced, arena_shown, refusal_due, due_of_verdict, code, order_text};
+ghost use Rattle.tss_program.specs.Due.{IsAnswer, IsDue, IsMatchText, IsNoMatch, IsRecordText, IsNoRecord, IsLossyText, IsNoLossy, IsLegalOne, IsRaced, arena_shown, refusal_due, due_of_verdict, code, order_text};
 ghost use Rattle.tss_program.specs.Run.{Run, IsRun, IsPut, ReadsAtMost, behind, asked};
-ghost use Rattle.tss_program.specs.Promises.{keeps_logs, PlaysMatch, KeepsLogsOf, KeepsAMatch, KeepsSome, KeepsNet, SoaksWhole, AuditsARecord, IsLegalAnswer, EndsWith, IsComplete};
+ghost use Rattle.tss_program.specs.Promises.{keeps_logs, PlaysMatch, KeepsLogsOf, KeepsAMatch, KeepsSome, KeepsNet, LacksWhatIsAsked, SoaksWhole, AuditsARecord, IsLegalAnswer, EndsWith, IsComplete};
 
 use game_trait::Game;
 
@@ -148,6 +156,45 @@ pub fn statuses_have_causes()
         → (r.status ≡ 3) ⊎ (r.source_new.faults ≡ r.source_old.faults) }
     ensures write_steady { (r : Run) → IsRun r
         → (r.status ≡ 4) ⊎ (r.sink_new.faults ≡ r.sink_old.faults) }
+    ensures usage { (r : Run) → IsRun r → r.status ≡ 2
+        → Gains r.sink_old.bytes usage_text r.sink_new.bytes }
+    ensures verdict { (r : Run) (input : List ℕ) → IsRun r → r.source_old.left ≡ Some input
+        → r.status ≡ 6
+        → (record_read : RaceRecord) × (mirror : ℕ) × (place : ℕ) × (why : Why)
+        × IsRecordText record_read input
+        × Tells (arena_shown record_read.game) (opening_world record_read.game.layout) record_read
+        (NotLegal mirror place why)
+        × Gains r.sink_old.bytes (verdict_text (NotLegal mirror place why)) r.sink_new.bytes }
+{}
+
+/// What a refusal tells: the line that was written names a line and a cause. A text of nothing that
+/// the words ask to read is refused at its first faulty line, for that line's first failing check; a
+/// text of a match for what the match lacks, by the words `race`, `join` and `rewind` alone.
+pub fn refusals_name_the_first_fault()
+    ensures of_match { (r : Run) (input : List ℕ) (task : MatchTask) → IsRun r
+        → asked r ≡ Some (OfMatch task) → r.source_old.left ≡ Some input → r.status ≡ 5
+        → (refused : Refused) × Gains r.sink_old.bytes (refused_text refused) r.sink_new.bytes
+        × ((IsNoMatch input × IsFirst input (text_faults.Refused refused))
+        ⊎ ((m : MatchData) × IsMatchText m input × LacksWhatIsAsked task m refused)) }
+    ensures of_record { (r : Run) (input : List ℕ) → IsRun r → asked r ≡ Some Audit
+        → r.source_old.left ≡ Some input → r.status ≡ 5
+        → (refused : Refused) × Gains r.sink_old.bytes (refused_text refused) r.sink_new.bytes
+        × IsNoRecord input × IsFirstOfRecord input (text_faults.Refused refused) }
+    ensures of_lossy { (r : Run) (input : List ℕ) → IsRun r → asked r ≡ Some Lossy
+        → r.source_old.left ≡ Some input → r.status ≡ 5
+        → (refused : Refused) × Gains r.sink_old.bytes (refused_text refused) r.sink_new.bytes
+        × IsNoLossy input × IsFirstOfLossy input (text_faults.Refused refused) }
+    ensures only_reading { (r : Run) → IsRun r → r.status ≡ 5
+        → ((task : MatchTask) × (asked r ≡ Some (OfMatch task))) ⊎ (asked r ≡ Some Audit)
+        ⊎ (asked r ≡ Some Lossy) }
+    ensures lacks { (task : MatchTask) (m : MatchData) (refused : Refused)
+        → LacksWhatIsAsked task m refused
+        → ((task ≡ Race) × (m.pace ≡ 0) × (refused ≡ record { line = 6; cause = Number }))
+        ⊎ ((number : ℕ) × (lines : ℕ) × (task ≡ Join number lines) × (m.mirrors ≤ number)
+        × (refused ≡ record { line = 4; cause = Number }))
+        ⊎ ((every : ℕ) × (room : ℕ) × (ticks : List ℕ) × (task ≡ Rewind every room ticks)
+        × ((tick : ℕ) × Contains ticks tick × (m.length < tick))
+        × (refused ≡ record { line = 2; cause = Number })) }
 {}
 
 /// What was read and written: at status 0, 5, 6 and 7 the input up to its end, or to one byte past the
