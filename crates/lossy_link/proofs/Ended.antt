@@ -20,7 +20,7 @@ use Rattle.match_hall.proofs.Headline.{drained-IsPlayed}
 use Rattle.lossy_text.specs.declared.net_line.NetLine.{NetLine}
 use Rattle.lossy_text.specs.Data.{LossyData, IsLossy}
 use Rattle.lossy_link.specs.Links.{NetLinks, AreLinks, link_at}
-use Rattle.lossy_link.specs.Net.{NetState, net_mirror, opening_net, next_net, after_net, made_net}
+use Rattle.lossy_link.specs.Net.{HasEach, NetState, net_mirror, opening_net, next_net, after_net, made_net}
 use Rattle.lossy_link.specs.Finish.{rows_lines, closed_net, ended_net, IsEnd, IsEndedNet}
 use Rattle.lossy_link.specs.Way.{IsThere, AtMirror, IsNet}
 use Rattle.lossy_link.proofs.Names.{times-alike}
@@ -79,6 +79,13 @@ mirror-end {W} rules x opening n i s sound links below whole at =
           subst (λ (w : W). AllByRecursion (λ run. world_of rules opening run ≡ w) (drain s).runs) fold
           (subst (λ (w : W). AllByRecursion (λ run. world_of rules w run ≡ time_ordered rules w (drain s).accepted m.length) (drain s).runs) (start-opening opening m) played.worlds));
     }
+
+-- a net at its end has each mirror and link
+pub end-each : {W : Type 0} (x : LossyData) (opening : W) → IsLossy x → HasEach x.game.mirrors (ended_net x.game.commands (made_net opening x))
+end-each {W} x opening lossy =
+    let end = closed-way x.game opening (made_net opening x) lossy.game (made-way x opening lossy) in
+    let n = closed_net x.game.commands (made_net opening x) in
+    record { mirrors_count = length-map n.mirrors (λ (s : MirrorState W). drain s) ∙ end.count; rows = end.links.rows; row = end.links.row }
 
 pub net-ended : {W : Type 0} (rules : Rules W) (x : LossyData) (opening : W) → IsLossy x → IsEndedNet rules x opening (ended_net x.game.commands (made_net opening x))
 net-ended {W} rules x opening lossy =

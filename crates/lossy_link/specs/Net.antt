@@ -1,5 +1,5 @@
 -- A net: its links and the mirrors, line by line, and what that prints.
-use Rattle.std.specs.Prelude.{ℕ, ◌<◌, List, [], ◌∷◌, ◌++◌, length, replicate}
+use Rattle.std.specs.Prelude.{◌≡◌, ℕ, ◌<◌, List, [], ◌∷◌, ◌++◌, length, replicate}
 use Rattle.game_trait.specs.declared.command.Command.{Command}
 use Rattle.sync_model.specs.State.{MirrorState, opening_state}
 use Rattle.match_file.specs.Data.{MatchData}
@@ -7,7 +7,7 @@ use Rattle.match_hall.specs.Script.{all_plans, after_script}
 use Rattle.match_hall.specs.Report.{Showing, script_text}
 use Rattle.lossy_text.specs.declared.net_line.NetLine.{NetLine}
 use Rattle.lossy_link.specs.Link.{IsLinked}
-use Rattle.lossy_link.specs.Links.{NetLinks, new_links, next_links, script_of, note_text, link_at}
+use Rattle.lossy_link.specs.Links.{NetLinks, new_links, next_links, script_of, note_text, row_at, link_at}
 use Rattle.lossy_text.specs.Data.{LossyData}
 
 -- the links of a net, and its mirrors, mirror 0 first
@@ -54,6 +54,12 @@ net_text show commands n (l ∷ ls) =
 -- the net after all lines of a match over a lossy net
 abbrev pub made_net : {W : Type 0} → W → LossyData → NetState W
 made_net opening x = after_net x.game.commands (opening_net opening x.game) x.lines
+
+-- there are so many mirrors, and a link from each to each
+pub record HasEach {W : Type 0} (mirrors : ℕ) (n : NetState W) : Type 0 where
+  pub mirrors_count : length n.mirrors ≡ mirrors
+  pub rows : length n.links.rows ≡ mirrors
+  pub row : (from : ℕ) → from < mirrors → length (row_at n.links.rows from) ≡ mirrors
 
 -- each link between mirrors of the match is one
 abbrev pub AreLinked : MatchData → NetLinks → Type 0

@@ -1,7 +1,7 @@
 //! What a net promises. Each law is the contract of a function without parameters that does
 //! nothing.
 
-ghost use Rattle.std.specs.Prelude.{◌≡◌, ◌<◌, ◌≤◌, ◌+◌, ◌++◌, ℕ, List, [], Some, true, length, slice_get, take};
+ghost use Rattle.std.specs.Prelude.{◌≡◌, ◌<◌, ◌≤◌, ◌+◌, ◌++◌, ℕ, List, [], Some, true, false, length, slice_get, take, drop, filter};
 ghost use Rattle.std.specs.List.{AllByRecursion};
 ghost use Rattle.game_trait.specs.declared.command.Command.{Command};
 ghost use Rattle.game_trait.specs.Count.{times};
@@ -12,10 +12,11 @@ ghost use Rattle.sync_model.specs.State.{MirrorState};
 ghost use Rattle.match_file.specs.Data.{MatchData};
 ghost use Rattle.match_hall.specs.Headline.{IsPlayed};
 ghost use Rattle.lossy_text.specs.Data.{LossyData, IsLossy};
-ghost use Rattle.lossy_link.specs.Link.{has_flown};
-ghost use Rattle.lossy_link.specs.Links.{NetLinks, link_at};
-ghost use Rattle.lossy_link.specs.Net.{NetState, net_mirror, opening_net, after_net, made_net, AreLinked};
+ghost use Rattle.lossy_link.specs.Link.{LinkState, has_flown, brought, after_carry};
+ghost use Rattle.lossy_link.specs.Links.{NetLinks, link_at, is_from};
+ghost use Rattle.lossy_link.specs.Net.{NetState, net_mirror, opening_net, after_net, made_net, HasEach, AreLinked};
 ghost use Rattle.lossy_link.specs.Finish.{ended_net, is_turned, IsEndedNet};
+ghost use Rattle.lossy_link.specs.Way.{IsNet};
 
 use game_trait::Game;
 
@@ -25,6 +26,42 @@ pub fn a_net_stays_linked<G: Game>()
     ensures { (x : LossyData) (opening : G) → IsLossy x → (k : ℕ)
         → AreLinked x.game
         (after_net x.game.commands (opening_net opening x.game) (take k x.lines)).links }
+{}
+
+/// After every list of net lines there is a link from each mirror to each, over which its sender
+/// sent what it issued, in that order; its own it has received at once. And each mirror has what its
+/// links brought it, and nothing else: of each name as many commands as the link from that mirror
+/// brought, accepted or turned away.
+pub fn a_link_carries_what_its_mirror_issued<G: Game>()
+    ensures way { (x : LossyData) (opening : G) → IsLossy x → (k : ℕ)
+        → IsNet x.game opening
+        (after_net x.game.commands (opening_net opening x.game) (take k x.lines)) }
+    ensures count { (m : MatchData) (opening : G) (n : NetState G) → IsNet m opening n
+        → HasEach m.mirrors n }
+    ensures sent { (m : MatchData) (opening : G) (n : NetState G) (from to : ℕ) → IsNet m opening n
+        → from < m.mirrors → to < m.mirrors
+        → (link_at n.links.rows from to).sent ≡ filter (is_from from) n.links.issued }
+    ensures own { (m : MatchData) (opening : G) (n : NetState G) (from : ℕ) → IsNet m opening n
+        → from < m.mirrors
+        → (link_at n.links.rows from from).received ≡ filter (is_from from) n.links.issued }
+    ensures brought { (m : MatchData) (opening : G) (n : NetState G) (to from number : ℕ)
+        (s : MirrorState G) → IsNet m opening n → to < m.mirrors
+        → slice_get n.mirrors to ≡ Some s
+        → times (is_named from number) s.accepted + times (is_turned from number) s.turned
+        ≡ times (is_named from number) (link_at n.links.rows from to).received }
+{}
+
+/// A packet that has flown and is the next brings its own command, which is received. One that
+/// isn't the next, or never flew, brings nothing and leaves the link as it is.
+pub fn a_packet_brings_its_command_in_turn()
+    ensures next { (k : ℕ) (l : LinkState) → has_flown l.packets k ≡ true
+        → k ≡ length l.received
+        → (brought k l ≡ take 1 (drop k l.sent))
+        × ((after_carry k l).received ≡ l.received ++ take 1 (drop k l.sent)) }
+    ensures other { (k : ℕ) (l : LinkState) → (k ≡ length l.received → ⊥)
+        → (brought k l ≡ []) × (after_carry k l ≡ l) }
+    ensures unflown { (k : ℕ) (l : LinkState) → has_flown l.packets k ≡ false
+        → (brought k l ≡ []) × (after_carry k l ≡ l) }
 {}
 
 /// At its end a net has lost nothing: all that was sent was received, each command that was issued

@@ -8,7 +8,7 @@ ghost use Rattle.match_hall.specs.Stops.{IsFrontPut};
 ghost use Rattle.match_hall.specs.Script.{logs_from};
 ghost use Rattle.lossy_text.specs.Data.{LossyData};
 ghost use Rattle.lossy_link.specs.Links.{row_at, link_at};
-ghost use Rattle.lossy_link.specs.Net.{opening_net, next_net, net_line_text, after_net, net_text, made_net, AreLinked};
+ghost use Rattle.lossy_link.specs.Net.{opening_net, next_net, net_line_text, after_net, net_text, made_net, HasEach, AreLinked};
 ghost use Rattle.lossy_link.specs.Finish.{ended_net, end_text, IsEndedNet};
 ghost use Rattle.lossy_link.specs.Way.{IsThere, IsNet};
 
@@ -96,6 +96,7 @@ impl<G: Game + Shown> Net<G> {
         out: &mut Vec<u8>,
     ) -> Result<Net<G>, NoMemory>
         ensures net { IfOk result (λ n. n ≡ made_net opening.now x.now) }
+        ensures count { IfOk result (λ n. HasEach x.now.game.mirrors n) }
         ensures text { let show : Showing G =
             record { rules = G.rules; lines = G.lines; names = x.now.game.names } in
             OnOk result (out.new.items ≡ out.old.items
@@ -150,6 +151,7 @@ impl<G: Game + Shown> Net<G> {
     pub fn finish(&mut self, x: &LossyText, out: &mut Vec<u8>) -> Result<(), NoMemory>
         requires fresh { (opening : G) × (self.old ≡ made_net opening x.now) }
         ensures state { OnOk result (self.new ≡ ended_net x.now.game.commands self.old) }
+        ensures count { OnOk result (HasEach x.now.game.mirrors self.new) }
         ensures ended { OnOk result ((opening : G) → self.old ≡ made_net opening x.now
             → IsEndedNet G.rules x.now opening self.new) }
         ensures text { let show : Showing G =

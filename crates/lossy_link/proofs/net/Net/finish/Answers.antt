@@ -13,10 +13,10 @@ use Rattle.match_hall.proofs.StoppedDrain.{draining-front}
 use Rattle.lossy_text.specs.declared.net_line.NetLine.{NetLine}
 use Rattle.lossy_text.specs.Data.{LossyData, IsLossy}
 use Rattle.lossy_link.specs.Links.{row_at}
-use Rattle.lossy_link.specs.Net.{NetState, net_mirror, after_net, net_text, made_net}
+use Rattle.lossy_link.specs.Net.{NetState, net_mirror, after_net, net_text, made_net, HasEach}
 use Rattle.lossy_link.specs.Finish.{rows_lines, closed_net, end_text, ended_net, IsEndedNet}
 use Rattle.lossy_link.specs.Way.{IsThere, IsNet}
-use Rattle.lossy_link.proofs.Ended.{made-way, left-there, net-ended}
+use Rattle.lossy_link.proofs.Ended.{made-way, left-there, net-ended, end-each}
 use Rattle.lossy_link.proofs.Making.{on_ok_of}
 use Rattle.lossy_link.proofs.net.Net.finish.Goals as goal
 
@@ -259,3 +259,26 @@ returns-clause-ended g c =
     on_ok_of c.done_line.result
     (λ other begun. subst (IsEndedNet g.G.Game.rules c.args.x.now other) (sym (end ∙ ap (λ (k : NetState _). ended_net c.args.x.now.game.commands k) begun))
     (net-ended g.G.Game.rules c.args.x.now other (subst IsLossy c.x.view_is c.x.invariant)))
+
+pub returns-clause-count : goal.returns-clause-count
+returns-clause-count g c =
+    let opening = c.requires.fresh.0 in
+    let x : LossyData = record { game = c.x.inside.game; lines = c.x.inside.lines } in
+    let m = c.x.inside.game in
+    let n = c.args.self.now in
+    let sound : IsMatch m = c.x.invariant.game in
+    let way : IsNet m opening n = subst (IsNet m opening) (sym (c.requires.fresh.1 ∙ ap (λ (y : LossyData). made_net opening y) (sym c.x.view_is))) (made-way x opening c.x.invariant) in
+    let made : c.as_slice.result.now ≡ rows_lines 0 n.links.rows =
+    c.as_slice.ensures.value ∙ c.in_ok-push_left.ensures
+    ∙ ap (λ (l : List NetLine). l ++ rows_lines 0 c.self.inside.links.rows) c.new-lines.ensures.items
+    ∙ ap (λ (k : NetState _). rows_lines 0 k.links.rows) c.self.view_is in
+    let closed = closed_net m.commands n in
+    let after_lines = c.self-2.view_is ∙ c.in_ok-make_each.ensures.state ∙ ap (λ (ls : List NetLine). after_net m.commands n ls) made in
+    let drained : c.drain.new.self ≡ map (λ s. drain s) closed.mirrors = c.in_ok-drain.ensures.state ∙ ap (λ (k : NetState _). map (λ s. drain s) k.mirrors) after_lines in
+    let end : ◌≡◌ {A = NetState _} (record { links = c.self-2.inside.links; mirrors = c.drain.new.self }) (ended_net c.args.x.now.game.commands n) =
+    ap (λ (k : NetState _). record k { mirrors = c.drain.new.self }) after_lines
+    ∙ ap (λ (ms : List (MirrorState _)). record { links = closed.links; mirrors = ms }) drained
+    ∙ ap (λ (y : LossyData). ended_net y.game.commands n) c.x.view_is in
+    on_ok_of c.done_line.result
+    (subst (HasEach c.args.x.now.game.mirrors) (sym (end ∙ ap (λ (k : NetState _). ended_net c.args.x.now.game.commands k) c.requires.fresh.1))
+    (end-each c.args.x.now opening (subst IsLossy c.x.view_is c.x.invariant)))

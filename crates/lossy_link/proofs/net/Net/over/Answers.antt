@@ -6,10 +6,11 @@ use Rattle.match_hall.specs.Stops.{IsFrontPut}
 use Rattle.match_hall.proofs.Along.{on_err_of}
 use Rattle.lossy_text.specs.declared.net_line.NetLine.{NetLine}
 use Rattle.lossy_text.specs.Data.{LossyData, IsLossy}
-use Rattle.lossy_link.specs.Net.{NetState, opening_net, after_net, net_text, made_net}
+use Rattle.lossy_link.specs.Net.{NetState, opening_net, after_net, net_text, made_net, HasEach}
 use Rattle.lossy_link.specs.Way.{IsThere, IsNet}
 use Rattle.lossy_link.proofs.NetLaws.{net-opening}
-use Rattle.lossy_link.proofs.Linked.{lines-there, lossy-linked}
+use Rattle.lossy_link.proofs.Linked.{lines-there, lossy-linked, way-each}
+use Rattle.lossy_link.proofs.Ended.{made-way}
 use Rattle.lossy_link.proofs.Making.{opened}
 use Rattle.lossy_link.proofs.net.Net.over.Goals as goal
 
@@ -53,6 +54,12 @@ returns-clause-net g c =
     ∙ ap (λ (n : NetState _). after_net m.commands n c.as_slice.result.now) begun
     ∙ ap (λ (ls : List NetLine). after_net m.commands (opening_net c.args.opening.now m) ls) c.as_slice.ensures
     ∙ ap (λ (y : LossyData). made_net c.args.opening.now y) c.x.view_is
+
+pub returns-clause-count : goal.returns-clause-count
+returns-clause-count g c =
+    let x = c.args.x.now in
+    subst (HasEach x.game.mirrors) (sym (returns-clause-net g c))
+    (way-each x.game c.args.opening.now (made_net c.args.opening.now x) (made-way x c.args.opening.now (subst IsLossy c.x.view_is c.x.invariant)))
 
 pub returns-clause-text : goal.returns-clause-text
 returns-clause-text g c =
