@@ -43,7 +43,7 @@ use Rattle.tss_program.specs.Due.{IsDueFor, answer, refusal, IsMatchText, IsMatc
 use Rattle.tss_program.specs.Due.{no_mirror, mirrors_line, due_of_join, due_of_rewind, are_within, due_of_lossy, net_of, complete, order_text}
 use Rattle.tss_program.specs.Due.{arena_shown, IsRecordText, IsAudited, IsAnswer, IsDueOf, due_of_number, usage_due, refusal_due, code, IsVerdictOf}
 use Rattle.tss_program.specs.Due.{status_of, due_of_verdict}
-use Rattle.tss_program.specs.Promises.{keeps_logs, PlaysMatch, KeepsPlayed, KeepsPainted, KeepsNet, KeepsLogsOf, SaysIfLegal, IsLegalAnswer}
+use Rattle.tss_program.specs.Promises.{keeps_logs, KeepsPlayed, KeepsPainted, KeepsNet, Keeps, SaysIfLegal, IsLegalAnswer}
 use Rattle.tss_program.proofs.Texts.{one-for, some-for, match-exact, record-exact, lossy-exact}
 
 -- ---- numbers
@@ -183,23 +183,20 @@ due-no ws n what input due is zero two five six seven status of at =
 -- ---- what it keeps
 
 -- nothing: no match is played or raced for the input
-pub record KeepsNothing (s : Subcommand) (input : List ℕ) (due : Due) : Type 0 where
+pub record KeepsNothing (s : Subcommand) (due : Due) : Type 0 where
   pub kept : due.kept ≡ []
-  pub unplayed : (m : MatchData) → PlaysMatch s input m → ⊥
   pub later : keeps_logs s ≡ true → code due.status ≡ 0 → ⊥
 
 -- the logs of the match that is played or raced for the input
 pub record KeepsLogs (s : Subcommand) (input : List ℕ) (due : Due) : Type 0 where
-  pub m : MatchData
-  pub plays : PlaysMatch s input m
-  pub keeps : KeepsLogsOf s m due.kept
+  pub keeps : Keeps s input due.kept
   pub keeping : keeps_logs s ≡ true
   pub whole : code due.status ≡ 0
 
-of-played : (m : MatchData) (text : List ℕ) (due : Due) → IsMatch m → due ≡ complete text (logs_from 0 (played (opening_world m.layout) m)) → KeepsPlayed m due.kept
+pub of-played : (m : MatchData) (text : List ℕ) (due : Due) → IsMatch m → due ≡ complete text (logs_from 0 (played (opening_world m.layout) m)) → KeepsPlayed m due.kept
 of-played m text due sound is = subst (λ (d : Due). KeepsPlayed m d.kept) (sym is) (played-AllPlayed arena_rules m (opening_world m.layout) sound)
 
-of-painted : (m : MatchData) (text : List ℕ) (due : Due) → IsMatch m → due ≡ complete text (logs_from 0 (played (opening_paint m.layout) m)) → KeepsPainted m due.kept
+pub of-painted : (m : MatchData) (text : List ℕ) (due : Due) → IsMatch m → due ≡ complete text (logs_from 0 (played (opening_paint m.layout) m)) → KeepsPainted m due.kept
 of-painted m text due sound is = subst (λ (d : Due). KeepsPainted m d.kept) (sym is) (played-AllPlayed paint_rules m (opening_paint m.layout) sound)
 
 -- a match over its net keeps what its net came to
@@ -218,66 +215,37 @@ rewind-kept room ticks m = by (are_within m ticks) refl
     by true h = rw h refl
     by false h = rw h refl
 
--- what is played for an input is what the input is the text of
-plays-text : (task : MatchTask) (input : List ℕ) (m : MatchData) → PlaysMatch (OfMatch task) input m → IsMatchText m input
-plays-text Order input m plays = absurd plays
-plays-text Play input m plays = plays
-plays-text Race input m plays = plays.0
-plays-text Lift input m plays = absurd plays
-plays-text Score input m plays = plays
-plays-text PaintOrder input m plays = absurd plays
-plays-text PaintPlay input m plays = plays
-plays-text (Join number lines) input m plays = absurd plays
-plays-text (Rewind every room ticks) input m plays = absurd plays
+unkept : (s : Subcommand) (input : List ℕ) (due : Due) → due.kept ≡ [] → keeps_logs s ≡ false → (KeepsNothing s due) ⊎ (KeepsLogs s input due)
+unkept s input due kept silent = inl (record { kept = kept; later = λ keeping zero. absurd (let never = sym silent ∙ keeping in cc) })
 
-pub one-played : (s : Subcommand) (input : List ℕ) (m n : MatchData) → PlaysMatch s input m → PlaysMatch s input n → m ≡ n
-one-played (OfMatch task) input m n is its = match-exact.one m n input (plays-text task input m is) (plays-text task input n its)
-one-played Audit input m n is its = absurd is
-one-played Lossy input m n is its = is.2 ∙ ap (λ (x : LossyData). x.game) (lossy-exact.one is.0 its.0 input is.1 its.1) ∙ sym its.2
-one-played (Soak number) input m n is its = is ∙ sym its
-
-unkept : (s : Subcommand) (input : List ℕ) (due : Due) → due.kept ≡ [] → ((m : MatchData) → PlaysMatch s input m → ⊥) → keeps_logs s ≡ false → (KeepsNothing s input due) ⊎ (KeepsLogs s input due)
-unkept s input due kept unplayed silent = inl (record { kept = kept; unplayed = unplayed; later = λ keeping zero. absurd (let never = sym silent ∙ keeping in cc) })
-
-refused-keeps : (s : Subcommand) (input : List ℕ) (r : Refused) (due : Due) → due ≡ refusal_due r → ((m : MatchData) → PlaysMatch s input m → ⊥) → (KeepsNothing s input due) ⊎ (KeepsLogs s input due)
-refused-keeps s input r due is unplayed = inl (record {
+refused-keeps : (s : Subcommand) (input : List ℕ) (r : Refused) (due : Due) → due ≡ refusal_due r → (KeepsNothing s due) ⊎ (KeepsLogs s input due)
+refused-keeps s input r due is = inl (record {
   kept = ap (λ (d : Due). d.kept) is;
-  unplayed = unplayed;
   later = λ keeping zero. not 5 0 (code due.status) refl (ap (λ (d : Due). code d.status) is) zero;
 })
 
 match-keeps : (ws : List Behaviour) (task : MatchTask) (input : List ℕ) (m : MatchData) (due : Due) → IsMatchText m input → IsMatchAnswer ws task m due
-    → (KeepsNothing (OfMatch task) input due) ⊎ (KeepsLogs (OfMatch task) input due)
-match-keeps ws Order input m due text is = unkept (OfMatch Order) input due (ap (λ (d : Due). d.kept) is) (λ n plays. plays) refl
-match-keeps ws Play input m due text is = inr (record { m = m; plays = text; keeps = of-played m _ due text.0 is; keeping = refl; whole = ap (λ (d : Due). code d.status) is })
-match-keeps ws Race input m due text (raced mirrors pace is of fits) =
-    inr (record { m = m; plays = (text, pace); keeps = (mirrors, of.raced, of.kept_is); keeping = refl; whole = ap code is })
-match-keeps ws Race input m due text (no_pace pace is) = refused-keeps (OfMatch Race) input _ due is (λ n plays.
-    (let same : m ≡ n = match-exact.one m n input text plays.0 in let one = ap (λ (x : MatchData). x.pace) same in let more = plays.1 in absurd (omega arith)))
-match-keeps ws Lift input m due text is = unkept (OfMatch Lift) input due (ap (λ (d : Due). d.kept) is) (λ n plays. plays) refl
-match-keeps ws Score input m due text is = inr (record { m = m; plays = text; keeps = of-played m _ due text.0 is; keeping = refl; whole = ap (λ (d : Due). code d.status) is })
-match-keeps ws PaintOrder input m due text is = unkept (OfMatch PaintOrder) input due (ap (λ (d : Due). d.kept) is) (λ n plays. plays) refl
-match-keeps ws PaintPlay input m due text is =
-    inr (record { m = m; plays = text; keeps = of-painted m _ due text.0 is; keeping = refl; whole = ap (λ (d : Due). code d.status) is })
-match-keeps ws (Join number lines) input m due text is = unkept (OfMatch (Join number lines)) input due (join-kept number lines m due is) (λ n plays. plays) refl
-match-keeps ws (Rewind every room ticks) input m due text is =
-    unkept (OfMatch (Rewind every room ticks)) input due (ap (λ (d : Due). d.kept) is ∙ rewind-kept room ticks m) (λ n plays. plays) refl
+    → (KeepsNothing (OfMatch task) due) ⊎ (KeepsLogs (OfMatch task) input due)
+match-keeps ws Order input m due text is = unkept (OfMatch Order) input due (ap (λ (d : Due). d.kept) is) refl
+match-keeps ws Play input m due text is = inr (record { keeps = (m, text, of-played m _ due text.0 is); keeping = refl; whole = ap (λ (d : Due). code d.status) is })
+match-keeps ws Race input m due text (raced mirrors pace is of fits) = inr (record { keeps = (m, text, pace, (mirrors, of.raced, of.kept_is)); keeping = refl; whole = ap code is })
+match-keeps ws Race input m due text (no_pace pace is) = refused-keeps (OfMatch Race) input _ due is
+match-keeps ws Lift input m due text is = unkept (OfMatch Lift) input due (ap (λ (d : Due). d.kept) is) refl
+match-keeps ws Score input m due text is = inr (record { keeps = (m, text, of-played m _ due text.0 is); keeping = refl; whole = ap (λ (d : Due). code d.status) is })
+match-keeps ws PaintOrder input m due text is = unkept (OfMatch PaintOrder) input due (ap (λ (d : Due). d.kept) is) refl
+match-keeps ws PaintPlay input m due text is = inr (record { keeps = (m, text, of-painted m _ due text.0 is); keeping = refl; whole = ap (λ (d : Due). code d.status) is })
+match-keeps ws (Join number lines) input m due text is = unkept (OfMatch (Join number lines)) input due (join-kept number lines m due is) refl
+match-keeps ws (Rewind every room ticks) input m due text is = unkept (OfMatch (Rewind every room ticks)) input due (ap (λ (d : Due). d.kept) is ∙ rewind-kept room ticks m) refl
 
-pub due-keeps : (ws : List Behaviour) (s : Subcommand) (input : List ℕ) (due : Due) → IsAnswer ws s input due → (KeepsNothing s input due) ⊎ (KeepsLogs s input due)
+pub due-keeps : (ws : List Behaviour) (s : Subcommand) (input : List ℕ) (due : Due) → IsAnswer ws s input due → (KeepsNothing s due) ⊎ (KeepsLogs s input due)
 due-keeps ws (OfMatch task) input due (answer m text is) = match-keeps ws task input m due text is
-due-keeps ws (OfMatch task) input due (refusal r lacks is) = refused-keeps (OfMatch task) input r due is (λ m plays. match-exact.apart m input r (plays-text task input m plays) lacks)
-due-keeps ws Audit input due (answer r text is) = unkept Audit input due (ap (λ (d : Due). d.kept) is.2) (λ m plays. plays) refl
-due-keeps ws Audit input due (refusal r lacks is) = unkept Audit input due (ap (λ (d : Due). d.kept) is) (λ m plays. plays) refl
-due-keeps ws Lossy input due (answer x text is) =
-    inr (record { m = x.game; plays = (x, text, refl); keeps = (x, refl, of-net x due is text.0); keeping = refl; whole = ap (λ (d : Due). code d.status) is })
-due-keeps ws Lossy input due (refusal r lacks is) = refused-keeps Lossy input r due is (λ m plays. lossy-exact.apart plays.0 input r plays.1 lacks)
-due-keeps ws (Soak n) input due is = inr (record {
-  m = match_of_number n;
-  plays = refl;
-  keeps = of-played (match_of_number n) _ due (IsMatch-match_of_number n) is;
-  keeping = refl;
-  whole = ap (λ (d : Due). code d.status) is;
-})
+due-keeps ws (OfMatch task) input due (refusal r lacks is) = refused-keeps (OfMatch task) input r due is
+due-keeps ws Audit input due (answer r text is) = unkept Audit input due (ap (λ (d : Due). d.kept) is.2) refl
+due-keeps ws Audit input due (refusal r lacks is) = unkept Audit input due (ap (λ (d : Due). d.kept) is) refl
+due-keeps ws Lossy input due (answer x text is) = inr (record { keeps = (x, text, of-net x due is text.0); keeping = refl; whole = ap (λ (d : Due). code d.status) is })
+due-keeps ws Lossy input due (refusal r lacks is) = refused-keeps Lossy input r due is
+due-keeps ws (Soak n) input due is =
+    inr (record { keeps = of-played (match_of_number n) _ due (IsMatch-match_of_number n) is; keeping = refl; whole = ap (λ (d : Due). code d.status) is })
 
 -- ---- what is due for a race
 

@@ -10,23 +10,26 @@ use Rattle.arena_rules.specs.World.{opening_world}
 use Rattle.match_join.specs.declared.answer.JoinAnswer.TheVariants.{Told, TooLate}
 use Rattle.match_join.specs.Join.{IsTooLate, TellsOfBoth}
 use Rattle.lossy_text.specs.Data.{LossyData}
+use Rattle.match_maker.specs.Generator.{match_of_number}
+use Rattle.match_maker.proofs.Sound.{IsMatch-match_of_number}
 use Rattle.soak.specs.Answer.{soak_opening}
 use Rattle.soak.proofs.Agreed.{length-played}
 use Rattle.soak.proofs.Whole.{text-whole, soaked-each, soaked-all}
 use Rattle.watch_board.specs.Behaviour.{Behaviour}
 use Rattle.tss_words.specs.declared.subcommand.Subcommand.{Subcommand}
 use Rattle.tss_words.specs.declared.subcommand.Subcommand.TheVariants.{OfMatch, Audit, Lossy, Soak}
-use Rattle.tss_words.specs.declared.subcommand.MatchTask.TheVariants.{Race, Join}
+use Rattle.tss_words.specs.declared.subcommand.MatchTask.{MatchTask}
+use Rattle.tss_words.specs.declared.subcommand.MatchTask.TheVariants.{Play, Race, Score, PaintPlay, Join}
 use Rattle.tss_program.specs.declared.status.Status.{Status}
 use Rattle.tss_program.specs.declared.due.Due.{Due}
 use Rattle.tss_words.specs.Subcommands.{most_asked, races}
-use Rattle.tss_program.specs.Due.{IsDueFor, answer, refusal, IsMatchText, IsRecordText, IsLossyText, IsRaced, IsJoined, joined, no_mirror}
+use Rattle.tss_program.specs.Due.{IsDueFor, answer, refusal, IsMatchText, IsRecordText, IsLossyText, IsMatchAnswer, IsRaced, IsJoined, joined, no_mirror}
 use Rattle.tss_program.specs.Due.{arena_shown, due_of_lossy, IsDueOf, IsAnswer, due_of_number, code}
 use Rattle.tss_program.specs.Run.{IsInput, behind, OfInput, ReadsAtMost, IsSilent, IsPut, whole, front, Run, asked, Ends, no_memory, unread, answered, IsRun}
-use Rattle.tss_program.specs.Promises.{keeps_logs, PlaysMatch, KeepsLogsOf, KeepsAMatch, KeepsSome, KeepsNet, SoaksWhole, SaysIfLegal, AuditsARecord, EndsWith, IsComplete}
+use Rattle.tss_program.specs.Promises.{keeps_logs, Keeps, KeepsPlayed, KeepsPainted, KeepsRaced, KeepsAMatch, KeepsSome, KeepsNet, SoaksWhole, SaysIfLegal, AuditsARecord, EndsWith, IsComplete}
 use Rattle.tss_program.specs.Promises as promises
 use Rattle.tss_program.proofs.Texts.{match-exact, record-exact, lossy-exact}
-use Rattle.tss_program.proofs.AnswerLaws.{not, one-due, due-status, due-no, due-keeps, KeepsNothing, KeepsLogs, one-played, of-net, audit-says, race-audited, race-paced}
+use Rattle.tss_program.proofs.AnswerLaws.{not, one-due, due-status, due-no, due-keeps, KeepsNothing, KeepsLogs, of-played, of-painted, of-net, audit-says, race-raced, race-audited, race-paced}
 
 -- ---- by cases
 
@@ -185,12 +188,12 @@ kept-by :
 kept-by r None none due input told is same = inl (same ∙ ap (λ (d : Due). d.kept) is)
 kept-by r (Some s) asks due input told is same = by (due-keeps r.watchers s input due is)
   where
-    by : (KeepsNothing s input due) ⊎ (KeepsLogs s input due) → (r.kept ≡ []) ⊎ KeepsSome r
+    by : (KeepsNothing s due) ⊎ (KeepsLogs s input due) → (r.kept ≡ []) ⊎ KeepsSome r
     by (inl nothing) = inl (same ∙ nothing.kept)
     by (inr keeps) = inr (record {
       subcommand = s;
       asked_for = asks;
-      keeps = record { input = input; m = keeps.m; told = told; plays = keeps.plays; keeps = subst (λ (logs : List MirrorLog). KeepsLogsOf s keeps.m logs) (sym same) keeps.keeps };
+      keeps = record { input = input; told = told; keeps = subst (λ (logs : List MirrorLog). Keeps s input logs) (sym same) keeps.keeps };
     })
 
 pub run-logs : (r : Run) → IsRun r → (r.kept ≡ []) ⊎ KeepsSome r
@@ -204,26 +207,54 @@ run-keeps-whole r s run asks keeping zero = by-due (KeepsAMatch s r.source_old.l
   where
     by :
         (due : Due) (input : List ℕ) → IsInput r.source_old.left input → code due.status ≡ 0 → r.kept ≡ due.kept
-        → (KeepsNothing s input due) ⊎ (KeepsLogs s input due) → KeepsAMatch s r.source_old.left r.kept
+        → (KeepsNothing s due) ⊎ (KeepsLogs s input due) → KeepsAMatch s r.source_old.left r.kept
     by due input told is same (inl nothing) = absurd (nothing.later keeping is)
     by due input told is same (inr keeps) =
-        record { input = input; m = keeps.m; told = told; plays = keeps.plays; keeps = subst (λ (logs : List MirrorLog). KeepsLogsOf s keeps.m logs) (sym same) keeps.keeps }
+        record { input = input; told = told; keeps = subst (λ (logs : List MirrorLog). Keeps s input logs) (sym same) keeps.keeps }
 
-pub run-keeps-told : (r : Run) (s : Subcommand) (input : List ℕ) (m : MatchData) → IsRun r → asked r ≡ Some s → r.source_old.left ≡ Some input → PlaysMatch s input m
-    → (r.status ≡ 0) ⊎ (r.status ≡ 4) → KeepsLogsOf s m r.kept
-run-keeps-told r s input m run asks told plays when = by-end (KeepsLogsOf s m r.kept) r run.ends
-    (λ is asks steady silent. absurd (no-text 1 r.status refl refl is when)) (λ is asks rose silent. absurd (no-text 3 r.status refl refl is when))
-    (λ due has is rose kept. by due kept (due-keeps r.watchers s input due (asked-due r s input due asks (told-due r input due told has))))
-    (λ due has is steady kept gains. by due kept (due-keeps r.watchers s input due (asked-due r s input due asks (told-due r input due told has))))
+-- what was due where its text was written, or a part of it
+written-due :
+    (P : List MirrorLog → Type 0) (r : Run) (s : Subcommand) → IsRun r → asked r ≡ Some s → (r.status ≡ 0) ⊎ (r.status ≡ 4)
+    → ((due : Due) → HasDue r due → P due.kept) → P r.kept
+written-due P r s run asks when f = by-end (P r.kept) r run.ends
+    (λ is a steady silent. absurd (no-text 1 r.status refl refl is when)) (λ is a rose silent. absurd (no-text 3 r.status refl refl is when))
+    (λ due has is rose kept. subst P (sym kept) (f due has)) (λ due has is steady kept gains. subst P (sym kept) (f due has))
   where
     no-text : (n status : ℕ) → nat_eq n 0 ≡ false → nat_eq n 4 ≡ false → status ≡ n → (status ≡ 0) ⊎ (status ≡ 4) → ⊥
     no-text n status zero four is (inl e) = not n 0 status zero is e
     no-text n status zero four is (inr e) = not n 4 status four is e
 
-    by : (due : Due) → r.kept ≡ due.kept → (KeepsNothing s input due) ⊎ (KeepsLogs s input due) → KeepsLogsOf s m r.kept
-    by due same (inl nothing) = absurd (nothing.unplayed m plays)
-    by due same (inr keeps) =
-        subst (λ (logs : List MirrorLog). KeepsLogsOf s m logs) (sym same) (subst (λ (n : MatchData). KeepsLogsOf s n due.kept) (one-played s input keeps.m m keeps.plays plays) keeps.keeps)
+-- of a match whose text is told
+written-match :
+    (P : List MirrorLog → Type 0) (r : Run) (task : MatchTask) (input : List ℕ) (m : MatchData) → IsRun r → asked r ≡ Some (OfMatch task) → r.source_old.left ≡ Some input → IsMatchText m input
+    → (r.status ≡ 0) ⊎ (r.status ≡ 4) → ((due : Due) → IsMatchAnswer r.watchers task m due → P due.kept) → P r.kept
+written-match P r task input m run asks told text when f = written-due P r (OfMatch task) run asks when
+    (λ due has. by due (asked-due r (OfMatch task) input due asks (told-due r input due told has)))
+  where
+    by : (due : Due) → IsAnswer r.watchers (OfMatch task) input due → P due.kept
+    by due (answer n its is) = f due (subst (λ (x : MatchData). IsMatchAnswer r.watchers task x due) (match-exact.one n m input its text) is)
+    by due (refusal refused lacks is) = absurd (match-exact.apart m input refused text lacks)
+
+pub run-keeps-played :
+    (r : Run) (input : List ℕ) (m : MatchData) → IsRun r → (asked r ≡ Some (OfMatch Play)) ⊎ (asked r ≡ Some (OfMatch Score)) → r.source_old.left ≡ Some input → IsMatchText m input
+    → (r.status ≡ 0) ⊎ (r.status ≡ 4) → KeepsPlayed m r.kept
+run-keeps-played r input m run (inl asks) told text when = written-match (KeepsPlayed m) r Play input m run asks told text when (λ due is. of-played m _ due text.0 is)
+run-keeps-played r input m run (inr asks) told text when = written-match (KeepsPlayed m) r Score input m run asks told text when (λ due is. of-played m _ due text.0 is)
+
+pub run-keeps-painted :
+    (r : Run) (input : List ℕ) (m : MatchData) → IsRun r → asked r ≡ Some (OfMatch PaintPlay) → r.source_old.left ≡ Some input → IsMatchText m input
+    → (r.status ≡ 0) ⊎ (r.status ≡ 4) → KeepsPainted m r.kept
+run-keeps-painted r input m run asks told text when = written-match (KeepsPainted m) r PaintPlay input m run asks told text when (λ due is. of-painted m _ due text.0 is)
+
+pub run-keeps-raced :
+    (r : Run) (input : List ℕ) (m : MatchData) → IsRun r → asked r ≡ Some (OfMatch Race) → r.source_old.left ≡ Some input → IsMatchText m input
+    → 0 < m.pace → (r.status ≡ 0) ⊎ (r.status ≡ 4) → KeepsRaced m r.kept
+run-keeps-raced r input m run asks told text pace when = written-match (KeepsRaced m) r Race input m run asks told text when
+    (λ due is. let of = race-raced m due pace is in (of.1.0, of.1.1.raced, of.1.1.kept_is))
+
+pub run-keeps-soaked : (r : Run) (number : ℕ) → IsRun r → asked r ≡ Some (Soak number) → (r.status ≡ 0) ⊎ (r.status ≡ 4) → KeepsPlayed (match_of_number number) r.kept
+run-keeps-soaked r number run asks when = written-due (KeepsPlayed (match_of_number number)) r (Soak number) run asks when
+    (λ due has. of-played (match_of_number number) _ due (IsMatch-match_of_number number) (asked-due r (Soak number) has.input due asks has.holds))
 
 pub run-keeps-nothing : (r : Run) → IsRun r → (r.status ≡ 1) ⊎ (r.status ≡ 2) ⊎ (r.status ≡ 3) ⊎ (r.status ≡ 5) ⊎ (r.status ≡ 6) ⊎ (r.status ≡ 7) → r.kept ≡ []
 run-keeps-nothing r run when = by-end (r.kept ≡ []) r run.ends
@@ -240,7 +271,7 @@ run-keeps-nothing r run when = by-end (r.kept ≡ []) r run.ends
     no-kept n status one two three five six seven is (inr (inr (inr (inr (inl e))))) = not n 6 status six is e
     no-kept n status one two three five six seven is (inr (inr (inr (inr (inr e))))) = not n 7 status seven is e
 
-    keeps-none : (s : Subcommand) (due : Due) (input : List ℕ) → r.status ≡ code due.status → r.kept ≡ due.kept → (KeepsNothing s input due) ⊎ (KeepsLogs s input due) → r.kept ≡ []
+    keeps-none : (s : Subcommand) (due : Due) (input : List ℕ) → r.status ≡ code due.status → r.kept ≡ due.kept → (KeepsNothing s due) ⊎ (KeepsLogs s input due) → r.kept ≡ []
     keeps-none s due input is same (inl nothing) = same ∙ nothing.kept
     keeps-none s due input is same (inr keeps) = absurd (no-kept 0 r.status refl refl refl refl refl refl (is ∙ keeps.whole) when)
 
@@ -253,7 +284,7 @@ run-keeps-only r run others = by-end (r.kept ≡ []) r run.ends
     (λ is asks steady silent. silent.nothing) (λ is asks rose silent. silent.nothing)
     (λ due has is rose kept. by (asked r) refl due has.input has.holds kept) (λ due has is steady kept gains. by (asked r) refl due has.input has.holds kept)
   where
-    keeps-none : (s : Subcommand) (due : Due) (input : List ℕ) → asked r ≡ Some s → r.kept ≡ due.kept → (KeepsNothing s input due) ⊎ (KeepsLogs s input due) → r.kept ≡ []
+    keeps-none : (s : Subcommand) (due : Due) (input : List ℕ) → asked r ≡ Some s → r.kept ≡ due.kept → (KeepsNothing s due) ⊎ (KeepsLogs s input due) → r.kept ≡ []
     keeps-none s due input asks same (inl nothing) = same ∙ nothing.kept
     keeps-none s due input asks same (inr keeps) = absurd (others s asks keeps.keeping)
 
@@ -375,20 +406,12 @@ run-joins-both r input m number lines run asks told text zero = by-due (TellsPut
 pub run-loses-nothing :
     (r : Run) (input : List ℕ) (x : LossyData) → IsRun r → asked r ≡ Some Lossy → r.source_old.left ≡ Some input → IsLossyText x input
     → (r.status ≡ 0) ⊎ (r.status ≡ 4) → KeepsNet x r.kept
-run-loses-nothing r input x run asks told text when = by-end (KeepsNet x r.kept) r run.ends
-    (λ is a steady silent. absurd (no-net 1 r.status refl refl is when)) (λ is a rose silent. absurd (no-net 3 r.status refl refl is when))
-    (λ due has is rose kept. by due kept (asked-due r Lossy input due asks (told-due r input due told has)))
-    (λ due has is steady kept gains. by due kept (asked-due r Lossy input due asks (told-due r input due told has)))
+run-loses-nothing r input x run asks told text when = written-due (KeepsNet x) r Lossy run asks when
+    (λ due has. by due (asked-due r Lossy input due asks (told-due r input due told has)))
   where
-    no-net : (n status : ℕ) → nat_eq n 0 ≡ false → nat_eq n 4 ≡ false → status ≡ n → (status ≡ 0) ⊎ (status ≡ 4) → ⊥
-    no-net n status zero four is (inl e) = not n 0 status zero is e
-    no-net n status zero four is (inr e) = not n 4 status four is e
-
-    by : (due : Due) → r.kept ≡ due.kept → IsAnswer r.watchers Lossy input due → KeepsNet x r.kept
-    by due same (answer y its is) =
-        subst (λ (logs : List MirrorLog). KeepsNet x logs) (sym same)
-        (of-net x due (is ∙ ap (λ (z : LossyData). due_of_lossy z) (lossy-exact.one y x input its text)) text.0)
-    by due same (refusal refused lacks is) = absurd (lossy-exact.apart x input refused text lacks)
+    by : (due : Due) → IsAnswer r.watchers Lossy input due → KeepsNet x due.kept
+    by due (answer y its is) = of-net x due (is ∙ ap (λ (z : LossyData). due_of_lossy z) (lossy-exact.one y x input its text)) text.0
+    by due (refusal refused lacks is) = absurd (lossy-exact.apart x input refused text lacks)
 
 -- ---- the whole of a text
 

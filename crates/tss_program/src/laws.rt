@@ -15,6 +15,10 @@ ghost use Rattle.match_file.specs.Reading.{IsFirst};
 ghost use Rattle.match_file.specs.Text.{match_text};
 ghost use Rattle.match_hall.specs.Script.{scripted, played, logs_from};
 ghost use Rattle.match_hall.specs.Headline.{AllPlayed};
+ghost use Rattle.match_maker.specs.Generator.{match_of_number};
+ghost use Rattle.paint_rules.specs.World.{paint_rules};
+ghost use Rattle.paint_rules.specs.Scene.{opening as opening_paint};
+ghost use Rattle.lossy_link.specs.Finish.{IsEndedNet};
 ghost use Rattle.race_hall.specs.Raced.{AreRaced};
 ghost use Rattle.run_recorder.specs.declared.log.MirrorLog.{MirrorLog};
 ghost use Rattle.run_recorder.specs.Data.{IsRecord};
@@ -37,16 +41,16 @@ ghost use Rattle.watch_board.specs.Behaviour.{Behaviour};
 ghost use Rattle.tss_words.specs.declared.subcommand.Subcommand.{Subcommand};
 ghost use Rattle.tss_words.specs.declared.subcommand.Subcommand.TheVariants.{OfMatch, Audit, Lossy, Soak};
 ghost use Rattle.tss_words.specs.declared.subcommand.MatchTask.{MatchTask};
-ghost use Rattle.tss_words.specs.declared.subcommand.MatchTask.TheVariants.{Join, Play, Race, Rewind};
+ghost use Rattle.tss_words.specs.declared.subcommand.MatchTask.TheVariants.{Join, PaintPlay, Play, Race, Rewind, Score};
 ghost use Rattle.lossy_text.specs.Data.{LossyData};
 ghost use Rattle.lossy_text.specs.Reading.{IsFirstOfLossy};
 ghost use Rattle.match_join.specs.Join.{IsTooLate, TellsOfBoth};
 ghost use Rattle.tss_program.specs.declared.due.Due.{Due};
 ghost use Rattle.tss_words.specs.Subcommands.{subcommand_of, most_asked, races};
 ghost use Rattle.tss_program.specs.declared.status.Status.TheVariants.{Complete};
-ghost use Rattle.tss_program.specs.Due.{IsAnswer, IsDue, IsMatchText, IsNoMatch, IsRecordText, IsNoRecord, IsLossyText, IsNoLossy, IsLegalOne, IsRaced, arena_shown, refusal_due, due_of_verdict, code, order_text};
+ghost use Rattle.tss_program.specs.Due.{IsAnswer, IsDue, IsMatchText, IsNoMatch, IsRecordText, IsNoRecord, IsLossyText, IsNoLossy, IsLegalOne, IsRaced, arena_shown, refusal_due, due_of_verdict, code, net_of, order_text};
 ghost use Rattle.tss_program.specs.Run.{Run, IsRun, IsPut, ReadsAtMost, behind, asked};
-ghost use Rattle.tss_program.specs.Promises.{keeps_logs, PlaysMatch, KeepsLogsOf, KeepsAMatch, KeepsSome, KeepsNet, LacksWhatIsAsked, SoaksWhole, AuditsARecord, IsLegalAnswer, EndsWith, IsComplete};
+ghost use Rattle.tss_program.specs.Promises.{keeps_logs, Keeps, KeepsPlayed, KeepsPainted, KeepsRaced, KeepsAMatch, KeepsSome, KeepsNet, LacksWhatIsAsked, SoaksWhole, AuditsARecord, IsLegalAnswer, EndsWith, IsComplete};
 
 use game_trait::Game;
 
@@ -215,9 +219,6 @@ pub fn runs_keep_what_is_played()
     ensures logs { (r : Run) → IsRun r → (r.kept ≡ []) ⊎ KeepsSome r }
     ensures whole { (r : Run) (s : Subcommand) → IsRun r → asked r ≡ Some s → keeps_logs s ≡ true
         → r.status ≡ 0 → KeepsAMatch s r.source_old.left r.kept }
-    ensures told { (r : Run) (s : Subcommand) (input : List ℕ) (m : MatchData) → IsRun r
-        → asked r ≡ Some s → r.source_old.left ≡ Some input → PlaysMatch s input m
-        → (r.status ≡ 0) ⊎ (r.status ≡ 4) → KeepsLogsOf s m r.kept }
     ensures nothing { (r : Run) → IsRun r
         → (r.status ≡ 1) ⊎ (r.status ≡ 2) ⊎ (r.status ≡ 3) ⊎ (r.status ≡ 5) ⊎ (r.status ≡ 6)
         ⊎ (r.status ≡ 7) → r.kept ≡ [] }
@@ -226,24 +227,57 @@ pub fn runs_keep_what_is_played()
 {}
 
 /// Logs that are kept are those of what was played or raced for the run's words and the input that
-/// the source tells: of a played match each log is that of its mirror, as playing promises, and of
-/// one that is raced those of the mirrors of a race.
+/// the source tells.
 pub fn kept_logs_are_of_the_match()
     ensures asked { (r : Run) (h : KeepsSome r) → (asked r ≡ Some h.subcommand)
         × KeepsAMatch h.subcommand r.source_old.left r.kept }
     ensures told { (s : Subcommand) (left : Option (List ℕ)) (kept : List MirrorLog)
         (h : KeepsAMatch s left kept) (input : List ℕ) → left ≡ Some input
-        → (h.input ≡ input) × PlaysMatch s input h.m × KeepsLogsOf s h.m kept }
-    ensures played { (input : List ℕ) (m : MatchData) (kept : List MirrorLog)
-        → PlaysMatch (OfMatch Play) input m → KeepsLogsOf (OfMatch Play) m kept
-        → IsMatch m × (input ≡ match_text m)
+        → (h.input ≡ input) × Keeps s input kept }
+    ensures played { (input : List ℕ) (kept : List MirrorLog) → Keeps (OfMatch Play) input kept
+        → (m : MatchData) × IsMatch m × (input ≡ match_text m)
         × AllPlayed arena_rules (opening_world m.layout) m 0 (played (opening_world m.layout) m)
         kept }
-    ensures raced { (input : List ℕ) (m : MatchData) (kept : List MirrorLog)
-        → PlaysMatch (OfMatch Race) input m → KeepsLogsOf (OfMatch Race) m kept
-        → IsMatch m × (input ≡ match_text m) × (0 < m.pace)
+    ensures scored { (input : List ℕ) (kept : List MirrorLog) → Keeps (OfMatch Score) input kept
+        → (m : MatchData) × IsMatch m × (input ≡ match_text m)
+        × AllPlayed arena_rules (opening_world m.layout) m 0 (played (opening_world m.layout) m)
+        kept }
+    ensures painted { (input : List ℕ) (kept : List MirrorLog)
+        → Keeps (OfMatch PaintPlay) input kept
+        → (m : MatchData) × IsMatch m × (input ≡ match_text m)
+        × AllPlayed paint_rules (opening_paint m.layout) m 0 (played (opening_paint m.layout) m)
+        kept }
+    ensures raced { (input : List ℕ) (kept : List MirrorLog) → Keeps (OfMatch Race) input kept
+        → (m : MatchData) × IsMatch m × (input ≡ match_text m) × (0 < m.pace)
         × ((mirrors : List (MirrorState World))
         × AreRaced arena_rules m (opening_world m.layout) mirrors × (kept ≡ logs_from 0 mirrors)) }
+    ensures netted { (input : List ℕ) (kept : List MirrorLog) → Keeps Lossy input kept
+        → (x : LossyData) × IsLossyText x input
+        × IsEndedNet arena_rules x (opening_world x.game.layout) (net_of x)
+        × (kept ≡ logs_from 0 (net_of x).mirrors) }
+    ensures soaked { (number : ℕ) (input : List ℕ) (kept : List MirrorLog)
+        → Keeps (Soak number) input kept
+        → let m = match_of_number number in
+        AllPlayed arena_rules (opening_world m.layout) m 0 (played (opening_world m.layout) m)
+        kept }
+{}
+
+/// Where the source tells a text of what the words play or race, the logs are kept also where the
+/// text that is due was written in part alone.
+pub fn logs_are_kept_of_what_is_told()
+    ensures played { (r : Run) (input : List ℕ) (m : MatchData) → IsRun r
+        → (asked r ≡ Some (OfMatch Play)) ⊎ (asked r ≡ Some (OfMatch Score))
+        → r.source_old.left ≡ Some input → IsMatchText m input
+        → (r.status ≡ 0) ⊎ (r.status ≡ 4) → KeepsPlayed m r.kept }
+    ensures painted { (r : Run) (input : List ℕ) (m : MatchData) → IsRun r
+        → asked r ≡ Some (OfMatch PaintPlay)
+        → r.source_old.left ≡ Some input → IsMatchText m input
+        → (r.status ≡ 0) ⊎ (r.status ≡ 4) → KeepsPainted m r.kept }
+    ensures raced { (r : Run) (input : List ℕ) (m : MatchData) → IsRun r
+        → asked r ≡ Some (OfMatch Race) → r.source_old.left ≡ Some input → IsMatchText m input
+        → 0 < m.pace → (r.status ≡ 0) ⊎ (r.status ≡ 4) → KeepsRaced m r.kept }
+    ensures soaked { (r : Run) (number : ℕ) → IsRun r → asked r ≡ Some (Soak number)
+        → (r.status ≡ 0) ⊎ (r.status ≡ 4) → KeepsPlayed (match_of_number number) r.kept }
 {}
 
 /// A soak that ends with status 0 made, played and told the whole match of its number.
