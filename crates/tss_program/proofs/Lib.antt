@@ -2,6 +2,7 @@ mod AnswerLaws
 mod Ends
 mod Inputs
 mod Lifting
+mod RacedLogs
 mod RefusalLaws
 mod RunLaws
 mod Texts

@@ -1,14 +1,22 @@
 //! What the words of a run's promise come to, so that none can be read more weakly. Each is the
 //! contract of a function without parameters that does nothing.
 
-ghost use Rattle.std.specs.Prelude.{◌≡◌, ◌<◌, ◌≤◌, ◌⊎◌, ◌↔◌, ℕ, true, false, Option, List, [], None, Some, ◌++◌, length, take};
+ghost use Rattle.std.specs.Prelude.{◌≡◌, ◌<◌, ◌≤◌, ◌⊎◌, ◌↔◌, ℕ, true, false, Option, List, [], None, Some, ◌++◌, length, slice_get, take};
 ghost use Rattle.std.specs.List.{AllByRecursion, Contains};
 ghost use Rattle.tss_io.specs.Streams.{Rose, Gains};
 ghost use Rattle.tss_io.specs.declared.fault.Refused.{Refused};
 ghost use Rattle.tss_io.specs.declared.fault.TextFault.TheVariants as text_faults;
 ghost use Rattle.tss_io.specs.declared.cause.Cause.TheVariants.{Number};
+ghost use Rattle.game_trait.specs.declared.command.Command.{Command};
+ghost use Rattle.game_trait.specs.declared.event.Event.{Event};
+ghost use Rattle.game_trait.specs.declared.event.Event.TheVariants.{Arrive};
+ghost use Rattle.game_trait.specs.declared.event.Reply.TheVariants.{Arrive as ToArrive};
+ghost use Rattle.game_trait.specs.declared.event.Arrived.TheVariants.{Late};
 ghost use Rattle.game_trait.specs.Ordered.{time_ordered};
-ghost use Rattle.sync_model.specs.State.{MirrorState};
+ghost use Rattle.sync_model.specs.State.{MirrorState, last_clock};
+ghost use Rattle.sync_model.specs.Change.{said, after, is_repeat};
+ghost use Rattle.sync_model.specs.History.{opening_of};
+ghost use Rattle.sync_model.specs.Staggered.{IsStaggered};
 ghost use Rattle.arena_rules.specs.World.{World, arena_rules, opening_world};
 ghost use Rattle.match_file.specs.Data.{MatchData, IsMatch, lifted};
 ghost use Rattle.match_file.specs.Reading.{IsFirst};
@@ -142,6 +150,26 @@ pub fn races_are_legal_for_audit()
         → r.status ≡ 0 → r.sink_old.bytes ≡ Some [] → r.sink_new.bytes ≡ Some text
         → IsRun s → asked s ≡ Some Audit → s.source_old.left ≡ Some text
         → (s.status ≡ 0) ⊎ (s.status ≡ 1) ⊎ (s.status ≡ 3) ⊎ (s.status ≡ 4) }
+{}
+
+/// A log of a mirror of a race, as one of a mirror that was played: after each front of it the mirror
+/// is staggered, an arrival would be answered Late there exactly where the command is new and older
+/// than the last copy's clock, and the whole of it leads to the mirror.
+pub fn raced_logs_are_as_played_ones<G: Game>()
+    ensures staggered { (m : MatchData) (opening : G) (mirrors : List (MirrorState G)) (number : ℕ)
+        (t : MirrorState G) (front rest : List Event)
+        → IsMatch m → AreRaced G.rules m opening mirrors → slice_get mirrors number ≡ Some t
+        → t.history ≡ front ++ rest → IsStaggered (after (opening_of t) front) }
+    ensures late { (m : MatchData) (opening : G) (mirrors : List (MirrorState G)) (number : ℕ)
+        (t : MirrorState G) (front rest : List Event) (x : Command) (bound : ℕ)
+        → AreRaced G.rules m opening mirrors → slice_get mirrors number ≡ Some t
+        → t.history ≡ front ++ rest → let s = after (opening_of t) front in
+        (said s (Arrive x) ≡ ToArrive (Late bound))
+        ↔ ((is_repeat s x ≡ false) × (x.time < last_clock s.runs) × (bound ≡ last_clock s.runs)) }
+    ensures leads { (m : MatchData) (opening : G) (mirrors : List (MirrorState G)) (number : ℕ)
+        (t : MirrorState G)
+        → AreRaced G.rules m opening mirrors → slice_get mirrors number ≡ Some t
+        → after (opening_of t) t.history ≡ t }
 {}
 
 /// Which statuses there are, and the cause of each.
