@@ -324,7 +324,7 @@ unfolding front_at words_of
 alone_end = refl
 
 -- what a kind writes is taken, where its keyword leads to it
-kind_again : {R A : Type 0} {k : Kind Body R A Body} {Fits : Body → A → Type 0} (o : Opening) → ExactKind k Fits
+pub kind_again : {R A : Type 0} {k : Kind Body R A Body} {Fits : Body → A → Type 0} (o : Opening) → ExactKind k Fits
     → (b : Body) (a : A) → Sound k Fits b a → take_words (body_table o).entries b k.keyword ((k.form b).words a)
     ≡ step k b ((k.form b).words a)
     → is_last b ≡ false → (is_last b ≡ false) × (is_long (line_text k b a) ≡ false) × (take o b (line_text k b a) ≡ Ok (k.put b a))

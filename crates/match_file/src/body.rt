@@ -1,9 +1,10 @@
 //! The lines behind the pace.
 
-ghost use Rattle.std.specs.Prelude.{◌≡◌, ◌≤◌, ◌<◌, ◌+◌, ◌^◌, ◌&&◌, length, IfOk};
+ghost use Rattle.std.specs.Prelude.{◌≡◌, ◌≤◌, ◌<◌, ◌+◌, ◌^◌, ◌&&◌, length, IfOk, IfErr, IfSome, IfNone, Ok};
 ghost use Rattle.game_trait.specs.declared.limits.TheConstants.{MOST_COPIES};
 ghost use Rattle.tss_io.specs.Lines.{lines_of, words_of};
 ghost use Rattle.tss_io.specs.Reading.{GivesLine, Placed};
+ghost use Rattle.tss_io.specs.declared.fault.LineFault.TheVariants as line_faults;
 ghost use Rattle.tss_io.specs.Kinds.{step};
 ghost use Rattle.tss_io.specs.Machines.{take_words};
 ghost use Rattle.tss_io.specs.Runs.{line_step, run_to, stopped};
@@ -13,7 +14,7 @@ ghost use Rattle.match_file.specs.Reading.{body_entries, may_open, may_end, take
 
 use crate::cell::Cell;
 use crate::commands::Commands;
-use crate::glance::{is_text, keyword_of, line_of};
+use crate::glance::{arrival_of, command_of, is_text, keyword_of, line_of, turn_of};
 use crate::opening::{Opening, rises};
 use crate::place::{has_pickup, has_wall, is_behind_all, kind_of};
 use crate::player::{Player, face_of, has_home, has_name, is_name};
@@ -334,6 +335,116 @@ impl Body {
         self.take_words(alloc, opening, word, words)
     }
 
+    // A command's line at the front of the text, if all is right with it, and the text behind it.
+    #[inline(never)]
+    #[tactic(auto, using(crate::proofs::SeenLaws::command_taken))]
+    fn take_command_seen<'a>(
+        &mut self,
+        opening: &Opening,
+        text: &'a [u8],
+    ) -> Result<Option<&'a [u8]>, LineFault>
+        requires { IsOpening opening.now }
+        ensures some { IfOk result (λ x. IfSome x (λ rest. (line_step (take opening.now) self.old
+            (lines_of text.now) ≡ Ok (self.new, lines_of rest.now))
+            × (length rest.now < length text.now))) }
+        ensures none { IfOk result (λ x. IfNone x (self.new ≡ self.old)) }
+        ensures err { IfErr result (λ fault. fault ≡ line_faults.NoMemory) }
+    {
+        let Some((command, rest)) = command_of(opening.ranges(), text) else {
+            return Ok(None);
+        };
+        if self.may_open()
+            && self.commands.len() < most_commands(opening.version)
+            && usize::from(command.player) < self.players.len()
+            && !self.commands.has(command.from, command.number)
+        {
+            self.commands.push(&command)?;
+            return Ok(Some(rest));
+        }
+        Ok(None)
+    }
+
+    // An arrival's line at the front of the text, if all is right with it, and the text behind it.
+    #[inline(never)]
+    #[tactic(auto, using(crate::proofs::SeenLaws::arrival_taken))]
+    fn take_arrive_seen<'a>(
+        &mut self,
+        opening: &Opening,
+        text: &'a [u8],
+    ) -> Result<Option<&'a [u8]>, LineFault>
+        requires { IsOpening opening.now }
+        ensures some { IfOk result (λ x. IfSome x (λ rest. (line_step (take opening.now) self.old
+            (lines_of text.now) ≡ Ok (self.new, lines_of rest.now))
+            × (length rest.now < length text.now))) }
+        ensures none { IfOk result (λ x. IfNone x (self.new ≡ self.old)) }
+        ensures err { IfErr result (λ fault. fault ≡ line_faults.NoMemory) }
+    {
+        let Some((mirror, from, number, rest)) = arrival_of(opening.last_mirror(), text) else {
+            return Ok(None);
+        };
+        if is_script(self.stage) && self.script.has_room() && self.commands.has(from, number) {
+            self.script.push(ScriptLine::Arrive {
+                mirror,
+                from,
+                number,
+            })?;
+            return Ok(Some(rest));
+        }
+        Ok(None)
+    }
+
+    // A turn's line at the front of the text, if all is right with it, and the text behind it.
+    #[inline(never)]
+    #[tactic(auto, using(crate::proofs::SeenLaws::turn_taken))]
+    fn take_turn_seen<'a>(
+        &mut self,
+        opening: &Opening,
+        text: &'a [u8],
+    ) -> Result<Option<&'a [u8]>, LineFault>
+        requires { IsOpening opening.now }
+        ensures some { IfOk result (λ x. IfSome x (λ rest. (line_step (take opening.now) self.old
+            (lines_of text.now) ≡ Ok (self.new, lines_of rest.now))
+            × (length rest.now < length text.now))) }
+        ensures none { IfOk result (λ x. IfNone x (self.new ≡ self.old)) }
+        ensures err { IfErr result (λ fault. fault ≡ line_faults.NoMemory) }
+    {
+        let Some((mirror, rest)) = turn_of(opening.last_mirror(), text) else {
+            return Ok(None);
+        };
+        if is_script(self.stage) && self.script.has_room() {
+            self.script.push(ScriptLine::Turn { mirror })?;
+            return Ok(Some(rest));
+        }
+        Ok(None)
+    }
+
+    fn take_frequent<'a>(
+        &mut self,
+        opening: &Opening,
+        text: &'a [u8],
+    ) -> Result<Option<&'a [u8]>, LineFault>
+        requires { IsOpening opening.now }
+        ensures some { IfOk result (λ x. IfSome x (λ rest. (line_step (take opening.now) self.old
+            (lines_of text.now) ≡ Ok (self.new, lines_of rest.now))
+            × (length rest.now < length text.now))) }
+        ensures none { IfOk result (λ x. IfNone x (self.new ≡ self.old)) }
+        ensures err { IfErr result (λ fault. fault ≡ line_faults.NoMemory) }
+    {
+        if text.is_empty() {
+            return Ok(None);
+        }
+        if text[0] == b'a' {
+            return self.take_arrive_seen(opening, text);
+        }
+        if text[0] == b't' {
+            return self.take_turn_seen(opening, text);
+        }
+        if text[0] == b'c' {
+            return self.take_command_seen(opening, text);
+        }
+        Ok(None)
+    }
+
     // The next line of the body, and the text behind it.
     #[tactic(auto, unfolding(tss_io::specs::Runs::line_step))]
     fn take_line<'a>(
@@ -342,11 +453,15 @@ impl Body {
         opening: &Opening,
         text: &'a [u8],
     ) -> Result<&'a [u8], LineFault>
-        requires { length opening.now.delays ≤ MOST_COPIES }
+        requires copies { length opening.now.delays ≤ MOST_COPIES }
+        requires opening { IsOpening opening.now }
         ensures read { GivesLine (λ rest. (self.new, lines_of rest.now)) result
             (line_step (take opening.now) self.old (lines_of text.now)) }
         ensures shorter { IfOk result (λ rest. length rest.now < length text.now) }
     {
+        if let Some(rest) = self.take_frequent(opening, text)? {
+            return Ok(rest);
+        }
         let (line, rest) = line_of(text)?;
         self.take(alloc, opening, line)?;
         Ok(rest)

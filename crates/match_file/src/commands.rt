@@ -55,7 +55,7 @@ impl Commands {
         ensures ok { OnOk result (self.new ≡ self.old ++ x.now ∷ []) }
         ensures err { OnErr result (self.new ≡ self.old) }
     {
-        self.list.insert(x)?;
+        self.list.push(x)?;
         Ok(())
     }
 

@@ -1,6 +1,6 @@
 -- What happens to the mirrors of a match: along its script, and while they are drained. Nothing is
 -- printed here.
-use Rattle.std.specs.Prelude.{ℕ, zero, suc, ◌+◌, Bool, false, ◌==◌, List, [], ◌∷◌, Option, Some, None, map, length}
+use Rattle.std.specs.Prelude.{◌≡◌, ◌<◌, ◌≤◌, slice_index_or, ℕ, zero, suc, ◌+◌, Bool, false, ◌==◌, List, [], ◌∷◌, Option, Some, None, map, length}
 use Rattle.game_trait.specs.declared.command.Command.{Command}
 use Rattle.game_trait.specs.declared.event.Event.{Event}
 use Rattle.game_trait.specs.declared.event.Event.TheVariants.{Tick, Arrive, Step, Restagger}
@@ -97,6 +97,14 @@ restaggers_at number (lines.Arrive mirror from named) = false
 restaggers_at number (lines.Step mirror copy) = false
 restaggers_at number (lines.World mirror copy) = false
 restaggers_at number (lines.Run mirror copy) = false
+
+-- mirror by mirror, how many lines of the script are arrivals there, and how many change its plan
+abbrev pub AreRooms : List ℕ → List ℕ → List ScriptLine → Type 0
+AreRooms arrivals changes script = (k : ℕ) → k < 8
+    → (slice_index_or arrivals k 0 ≡ times (arrives_at k) script)
+    × (slice_index_or changes k 0 ≡ times (restaggers_at k) script)
+    × (slice_index_or arrivals k 0 ≤ length script)
+    × (slice_index_or changes k 0 ≤ length script)
 
 -- a mirror as the match begins, with room for each of its arrivals and each change of its plan
 unfoldable pub opening_mirror : {W : Type 0} → W → MatchData → ℕ → MirrorState W

@@ -1,4 +1,4 @@
-use Rattle.std.proofs.Common.{◌≡◌, ◌-◌, List, length, sym, ap, subst, ◌∙◌, arith}
+use Rattle.std.proofs.Common.{◌≡◌, ℕ, get_or, ◌-◌, List, length, sym, ap, subst, ◌∙◌, arith}
 use Rattle.std.specs.List.{AllByRecursion}
 use Rattle.game_trait.specs.Count.{times}
 use Rattle.match_file.specs.Data.{MatchData, IsMatch}
@@ -15,21 +15,25 @@ loop-number-init g c = rw c.new-mirrors.ensures.items (let n : c.args.m.now.mirr
 
 pub new-requires-clause-equal_ticks : goal.new-requires-clause-equal_ticks
 new-requires-clause-equal_ticks g c =
-    subst (λ (ps : List Schedule). AllByRecursion (λ plan. plan.length ≡ ticks_of_first ps) ps) (sym (c.as_slice-in-loop-number-2.ensures.value ∙ c.in_ok-plans.ensures.plans))
+    subst (λ (ps : List Schedule). AllByRecursion (λ plan. plan.length ≡ ticks_of_first ps) ps) (sym (c.as_slice-in-loop-number.ensures.value ∙ c.in_ok-plans.ensures.plans))
     (equal-ticks c.args.m.now (subst IsMatch c.m.view_is c.m.invariant))
 
 pub new-requires-clause-equal_copies : goal.new-requires-clause-equal_copies
 new-requires-clause-equal_copies g c =
-    subst (λ (ps : List Schedule). AllByRecursion (λ plan. length plan.delays ≡ copies_of_first ps) ps) (sym (c.as_slice-in-loop-number-2.ensures.value ∙ c.in_ok-plans.ensures.plans))
+    subst (λ (ps : List Schedule). AllByRecursion (λ plan. length plan.delays ≡ copies_of_first ps) ps) (sym (c.as_slice-in-loop-number.ensures.value ∙ c.in_ok-plans.ensures.plans))
     (equal-copies c.args.m.now (subst IsMatch c.m.view_is c.m.invariant))
 
 pub loop-number-preserved : goal.loop-number-preserved
 loop-number-preserved g c =
+    let number = c.loop-number.number in
     let all = ap (λ (m : MatchData). m.script) c.m.view_is in
-    let room = c.arrivals_at-room.ensures.value ∙ ap (λ (ls : List ScriptLine). times (arrives_at c.loop-number.number) ls) (c.as_slice.ensures ∙ all) in
-    let changes = c.changes_at-changes.ensures.value ∙ ap (λ (ls : List ScriptLine). times (restaggers_at c.loop-number.number) ls) (c.as_slice-in-loop-number.ensures ∙ all) in
-    opened-more c.args.opening.now c.args.m.now c.loop-number.number _ _ _ _ _ _ (rw (← c.m.view_is) c.loop-number-test.true)
-    (c.as_slice-in-loop-number-2.ensures.value ∙ c.in_ok-plans.ensures.plans) room changes c.in_ok-new.ensures c.in_ok-push.ensures.items
+    let counted = c.of-rooms.ensures number (omega (arith, c.loop-number-test.true, c.m.invariant.mirrors.1)) in
+    let arrivals = ap (λ (i : ℕ). get_or c.of-rooms.result.arrivals i 0) c.from.ensures ∙ counted.0 in
+    let restaggers = ap (λ (i : ℕ). get_or c.of-rooms.result.changes i 0) c.from-in-loop-number.ensures ∙ counted.1 in
+    let room = arrivals ∙ ap (λ (ls : List ScriptLine). times (arrives_at number) ls) (c.as_slice.ensures ∙ all) in
+    let changes = restaggers ∙ ap (λ (ls : List ScriptLine). times (restaggers_at number) ls) (c.as_slice.ensures ∙ all) in
+    opened-more c.args.opening.now c.args.m.now number _ _ _ _ _ _ (rw (← c.m.view_is) c.loop-number-test.true)
+    (c.as_slice-in-loop-number.ensures.value ∙ c.in_ok-plans.ensures.plans) room changes c.in_ok-new.ensures c.in_ok-push.ensures.items
     ∙ c.loop-number.invariant
 
 pub returns-clause-mirrors : goal.returns-clause-mirrors
@@ -45,3 +49,13 @@ pub returns-clause-few : goal.returns-clause-few
 returns-clause-few g c =
     let made = sym (opened-all c.args.opening.now c.args.m.now c.loop-number.number _ (rw (← c.m.view_is) c.loop-number-test.false)) ∙ c.loop-number.invariant in
     rw made (opened-few c.args.opening.now c.args.m.now (subst IsMatch c.m.view_is c.m.invariant))
+
+pub new-requires-clause-room : goal.new-requires-clause-room
+new-requires-clause-room g c =
+    let counted = c.of-rooms.ensures c.loop-number.number (omega (arith, c.loop-number-test.true, c.m.invariant.mirrors.1)) in
+    rw c.from.ensures (omega (arith, counted.2, c.m.invariant.script_count, ap length c.as_slice.ensures))
+
+pub new-requires-clause-restaggers : goal.new-requires-clause-restaggers
+new-requires-clause-restaggers g c =
+    let counted = c.of-rooms.ensures c.loop-number.number (omega (arith, c.loop-number-test.true, c.m.invariant.mirrors.1)) in
+    rw c.from-in-loop-number.ensures (omega (arith, counted.3, c.m.invariant.script_count, ap length c.as_slice.ensures))
