@@ -104,6 +104,17 @@ impl<G: Game> DeferredMirror<G> {
         self.inner.step(copy)
     }
 
+    /// What `Mirror::make` does and answers. The worlds of the copies that it repairs are made when
+    /// they are looked at.
+    pub fn make(&mut self, e: &Event) -> Reply
+        requires fits { Fits self.old e.now }
+        requires room { HasRoom self.old e.now }
+        ensures state { self.new ≡ next self.old e.now }
+        ensures answer { result ≡ said self.old e.now }
+    {
+        self.inner.make(e)
+    }
+
     /// Makes events one after another, and hands back what was answered to each, in order. They fit
     /// the mirror, there is room for the arrivals and the changes of the plan among them, and they
     /// are no more than the answer holds.

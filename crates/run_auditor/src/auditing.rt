@@ -15,7 +15,7 @@ use crate::why::{Fault, Why};
 use arena_rules::Shown;
 use game_trait::{Game, MirrorId};
 use match_file::Match;
-use mirror_core::Mirror;
+use mirror_core::{DeferredMirror, Mirrored};
 use report_text::copy_block;
 use run_recorder::{Block, MirrorLog, RaceRecord};
 use std::alloc::Global;
@@ -35,11 +35,21 @@ fn walk_log<G: Game>(walk: &mut LogWalk<G>) -> Option<Fault>
     }
 }
 
+// Does what `walk_log` does, and then makes the worlds that are still to be made, each once.
+fn walk_through<G: Game>(walk: &mut LogWalk<G>) -> Option<Fault>
+    ensures on { WentOn walk.old walk.new }
+    ensures stopped { Stopped walk.new result }
+{
+    let stuck = walk_log(walk);
+    walk.refresh();
+    stuck
+}
+
 // Whether the block of the copy, which is there, is exactly as it is stated.
 fn is_stated<G: Game + Shown>(
     alloc: Global,
     game: &Match,
-    mirror: &Mirror<G>,
+    mirror: &DeferredMirror<G>,
     number: MirrorId,
     copy: u8,
     block: &Block,
@@ -58,7 +68,7 @@ fn is_stated<G: Game + Shown>(
         number,
         copy,
         mirror.copy_clock(copy),
-        mirror.world(copy),
+        &mirror.world_twin(copy),
         &game.roster,
     )?;
     Ok(block.as_bytes() == text.as_slice())
@@ -68,7 +78,7 @@ fn is_stated<G: Game + Shown>(
 fn false_world<G: Game + Shown>(
     alloc: Global,
     game: &Match,
-    mirror: &Mirror<G>,
+    mirror: &DeferredMirror<G>,
     number: MirrorId,
     blocks: &[Block],
 ) -> Result<Option<u32>, NoMemory>
@@ -109,7 +119,7 @@ fn audit_walk<G: Game + Shown>(
         IfOk result (Found show walk.old.mirror.opening game.now log.now.mirror log.now.events
         blocks.now) }
 {
-    let stuck = walk_log(walk);
+    let stuck = walk_through(walk);
     let mirror = walk.mirror();
     mirror.always();
     if let Some(fault) = stuck {

@@ -11,7 +11,7 @@ ghost use Rattle.run_auditor.specs.Walks.{walk_of, told_next, moved_on};
 use crate::why::{Why, why_of};
 use game_trait::{Event, Game, MirrorId, Note};
 use match_file::{Match, plans_of};
-use mirror_core::Mirror;
+use mirror_core::{DeferredMirror, Mirrored};
 use run_recorder::MirrorLog;
 use std::alloc::Global;
 use std::marker::Model;
@@ -38,7 +38,7 @@ pub enum Walked {
 #[derive(Drop)]
 pub struct LogWalk<'a, G: Game> {
     number: MirrorId,
-    mirror: Mirror<G>,
+    mirror: DeferredMirror<G>,
     left: &'a [Event],
 }
 
@@ -114,7 +114,7 @@ impl<'a, G: Game> LogWalk<'a, G> {
     {
         let plans = plans_of(alloc, m)?;
         let events = log.events.as_slice();
-        let mirror = Mirror::new(
+        let mirror = DeferredMirror::new(
             alloc,
             opening,
             plans.as_slice(),
@@ -152,8 +152,15 @@ impl<'a, G: Game> LogWalk<'a, G> {
         }
     }
 
-    /// The mirror as it stands.
-    pub fn mirror(&self) -> &Mirror<G>
+    /// Makes the worlds of the mirror that are still to be made, each once.
+    pub fn refresh(&mut self)
+        ensures { self.new ≡ self.old }
+    {
+        self.mirror.refresh();
+    }
+
+    /// The mirror as it stands. Its worlds are made when they are looked at.
+    pub fn mirror(&self) -> &DeferredMirror<G>
         ensures { result.now ≡ self.now.mirror }
     {
         &self.mirror
