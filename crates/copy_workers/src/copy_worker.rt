@@ -42,11 +42,13 @@ fn run_turns<G: Game, P: DraftPost<G>>(post: &mut P, copy: u8, times: u64) -> Tu
     requires takes { P.takes post.old (Step copy) }
     requires calls { 2 ≤ P.calls post.old }
     requires some { 0 < times }
+    requires at_once { times ≤ 64 }
     ensures turns { AreTurns copy result.turns result.ran (P.asked post.old) (P.asked post.new)
         (P.trail post.old) (P.trail post.new) }
     ensures some { 0 < result.turns }
     ensures few { result.turns ≤ times }
     ensures calls { P.calls post.old ≤ P.calls post.new + 2 }
+    ensures often { result.turns + 64 * P.calls post.new ≤ 64 * P.calls post.old }
     ensures takes { (e : AnEvent) → P.takes post.old e → P.takes post.new e }
     ensures same { (p : P) → P.same p post.old → P.same p post.new }
 {
@@ -95,6 +97,7 @@ pub fn run_copy<G: Game, P: DraftPost<G>, Q: Gate>(post: &mut P, gate: &Q, job: 
     requires calls { 2 * job.budget ≤ P.calls post.old }
     ensures ends { CopyEnds job result (P.asked post.old) (P.asked post.new)
         (P.trail post.old) (P.trail post.new) }
+    ensures often { result.turns + 64 * P.calls post.new ≤ 64 * P.calls post.old }
     ensures same { (p : P) → P.same p post.old → P.same p post.new }
 {
     let mut end = CopyEnd { ran: 0, turns: 0 };

@@ -1,7 +1,10 @@
 //! What the ends of a race's workers come to, so that none can be read more weakly. Each is the
 //! contract of a function without parameters that does nothing.
 
-ghost use Rattle.std.specs.Prelude.{◌≡◌, ◌<◌, ◌≤◌, ◌+◌, ◌++◌, ◌∷◌, ℕ, List, [], length, flat_map};
+ghost use Rattle.std.specs.Prelude.{◌≡◌, ◌<◌, ◌≤◌, ◌+◌, ◌-◌, ◌++◌, ◌∷◌, ℕ, List, [], length, flat_map, min, slice_get, Some};
+ghost use Rattle.link_ring.specs.declared.receive.LinkReceive.{LinkReceive};
+ghost use Rattle.link_ring.specs.declared.message.Message.{Message};
+ghost use Rattle.link_ring.specs.Ends.{received_of, waiting_of, misses_of};
 ghost use Rattle.std.specs.List.{AllByRecursion};
 ghost use Rattle.sync_model.specs.Schedule.{clock_end};
 ghost use Rattle.tss_io.specs.Totals.{total};
@@ -12,7 +15,7 @@ ghost use Rattle.copy_workers.specs.declared.feeder_job.FeederJob.{FeederJob};
 ghost use Rattle.copy_workers.specs.declared.post.Asked.{Asked};
 ghost use Rattle.copy_workers.specs.declared.post.TrailMark.{TrailMark};
 ghost use Rattle.copy_workers.specs.Asking.{moves_in, ticks_in};
-ghost use Rattle.copy_workers.specs.Messages.{commands_in, IsOrderly};
+ghost use Rattle.copy_workers.specs.Messages.{messages, commands_in, IsOrderly};
 ghost use Rattle.copy_workers.specs.Copied.{CopyTurn, CopyEnds, RunsOn, asked_of, marks_of, runs_in};
 ghost use Rattle.copy_workers.specs.Feeding.{joined};
 ghost use Rattle.copy_workers.specs.Fed.{FeederEnds, least_last, misses_between};
@@ -50,6 +53,9 @@ pub fn a_feeder_ends_where_it_is_done()
         (h : FeederEnds job end before after)
         → (after ≡ before ++ h.asked) × (h.asked ≡ joined h.turns) × (end.turns ≡ length h.turns)
         × (end.turns ≤ job.budget) × (end.clock ≡ moves_in h.asked) }
+    ensures late { (job : FeederJob) (end : FeederEnd) (before after : List Asked)
+        (h : FeederEnds job end before after) (front rest : List (List Asked)) (turn : List Asked)
+        → h.turns ≡ front ++ turn ∷ rest → moves_in (joined front) < clock_end job.stagger }
     ensures single { (job : FeederJob) (end : FeederEnd) (before after : List Asked)
         (h : FeederEnds job end before after) (front rest : List (List Asked)) (turn : List Asked)
         → h.turns ≡ front ++ turn ∷ rest → ticks_in turn ≤ 1 }
@@ -68,4 +74,17 @@ pub fn a_feeder_ends_where_it_is_done()
         → end.turns ≤ ticks_in h.asked
         + (total (λ got. length (commands_in got)) h.gots
         + misses_between job.receives.items end.receives.items) }
+    ensures issued { (job : FeederJob) (end : FeederEnd) (before after : List Asked)
+        (h : FeederEnds job end before after)
+        → (min job.stagger.length end.clock ≤ end.marked)
+        × (end.marked ≤ min job.stagger.length (end.clock + 1))
+        × (end.issued ≡ length (commands_in (messages job.plan.items end.marked))) }
+    ensures asked { (job : FeederJob) (end : FeederEnd) (before after : List Asked)
+        (h : FeederEnds job end before after) (place : ℕ) (first now : LinkReceive)
+        (got : List Message) → slice_get job.receives.items place ≡ Some first
+        → slice_get end.receives.items place ≡ Some now → slice_get h.gots place ≡ Some got
+        → (received_of now ≡ received_of first ++ got)
+        × (misses_of first ≤ misses_of now)
+        × (length got + (misses_of now - misses_of first) ≡ end.turns)
+        × (min (length (waiting_of first)) end.turns ≤ length got) }
 {}

@@ -1,6 +1,6 @@
 //! How a worker that finds nothing to do leaves the processor to the others.
 
-ghost use Rattle.std.specs.Prelude.{◌<◌};
+ghost use Rattle.std.specs.Prelude.{◌<◌, ◌≤◌};
 
 use crate::draft_post::DraftPost;
 use crate::post::Post;
@@ -69,7 +69,8 @@ impl Rest {
     /// bound and unless it hurries. How many turns are then to be made at once, where no tick is
     /// due: several where it hurries, and else one.
     pub fn until_due<G: Game, P: DraftPost<G>>(&mut self, post: &P) -> u64
-        ensures { 0 < result }
+        ensures some { 0 < result }
+        ensures few { result ≤ 64 }
     {
         for _ in 0..MOST_WAITS {
             if post.seems_due(self.worker) {

@@ -3,6 +3,7 @@
 ghost use Rattle.std.specs.Prelude.{◌≡◌, ◌++◌, ◌∷◌, ℕ, ◌<◌, ◌≤◌, Bool, List, [], Some, length, slice_get};
 ghost use Rattle.std.specs.List.{AllByRecursion};
 ghost use Rattle.game_trait.specs.declared.command.Command.{Command};
+ghost use Rattle.game_trait.specs.declared.event.Event.{Event};
 ghost use Rattle.game_trait.specs.declared.event.Event.TheVariants.{Arrive};
 ghost use Rattle.game_trait.specs.Count.{times};
 ghost use Rattle.game_trait.specs.Run.{world_of};
@@ -10,14 +11,14 @@ ghost use Rattle.game_trait.specs.Ordered.{time_ordered};
 ghost use Rattle.link_ring.specs.declared.message.Message.{Message};
 ghost use Rattle.match_file.specs.Data.{MatchData};
 ghost use Rattle.sync_model.specs.State.{MirrorState};
-ghost use Rattle.sync_model.specs.Change.{said};
+ghost use Rattle.sync_model.specs.Change.{said, after};
 ghost use Rattle.sync_model.specs.History.{opening_of, IsFromHistory};
 ghost use Rattle.sync_model.specs.Legal.{IsLegal};
 ghost use Rattle.sync_model.specs.Staggered.{IsUnchangedPlan};
 ghost use Rattle.sync_model.specs.Turns.{IsDrained};
 ghost use Rattle.copy_workers.specs.declared.feeder_job.FeederEnd.{FeederEnd};
 ghost use Rattle.copy_workers.specs.declared.feeder_job.FeederJob.{FeederJob};
-ghost use Rattle.race_hall.specs.Entries.{Entry, IsNeverRefused};
+ghost use Rattle.race_hall.specs.Entries.{Entry, IsNeverRefused, pairs_of, events_asked, commands_asked};
 ghost use Rattle.race_hall.specs.Race.{Course, IsCourse, Raced, race_opening};
 ghost use Rattle.race_hall.specs.Finish.{to_deliver, delivered, finished, EndsAtFold, NothingLate};
 ghost use Rattle.race_hall.specs.Joined.{Closed, AllFed, IsLeftAt};
@@ -88,6 +89,16 @@ pub fn what_is_left_is_taken<G: Game>()
     ensures none { (c : Course) (opening : G) (spare m : ℕ) (marked : ℕ → ℕ)
         (left : ℕ → List Message) (history : List Entry) (s : MirrorState G)
         → NothingLate c opening spare m marked left history s → s.turned ≡ [] }
+    ensures arrived { (c : Course) (opening : G) (spare m : ℕ) (marked : ℕ → ℕ)
+        (left : ℕ → List Message) (history : List Entry) (s : MirrorState G)
+        (front behind : List Event) (x : Command)
+        → NothingLate c opening spare m marked left history s
+        → events_asked (pairs_of history) ≡ front ++ Arrive x ∷ behind
+        → IsNeverRefused (said (after (race_opening c opening spare) front) (Arrive x)) }
+    ensures accepted { (c : Course) (opening : G) (spare m : ℕ) (marked : ℕ → ℕ)
+        (left : ℕ → List Message) (history : List Entry) (s : MirrorState G)
+        → NothingLate c opening spare m marked left history s
+        → s.accepted ≡ commands_asked (events_asked (pairs_of history)) }
     ensures later { (c : Course) (opening : G) (spare m : ℕ) (marked : ℕ → ℕ)
         (left : ℕ → List Message) (history : List Entry) (s : MirrorState G)
         (front behind : List Command) (x : Command)

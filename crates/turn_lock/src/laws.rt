@@ -7,8 +7,21 @@ ghost use Rattle.turn_lock.specs.declared.history.Entry.{Entry};
 ghost use Rattle.turn_lock.specs.declared.view.Member.{Member};
 ghost use Rattle.turn_lock.specs.Histories.{value, IsSound, own};
 ghost use Rattle.turn_lock.specs.Closing.{IsHistoryOf};
+ghost use Rattle.std.specs.Prelude.{◌+◌, length};
+ghost use Rattle.atomic_table.specs.Table.{State};
+ghost use Rattle.tss_io.specs.Totals.{total};
+ghost use Rattle.turn_lock.specs.declared.place.Place.{Place};
+ghost use Rattle.turn_lock.specs.declared.view.View.{View};
+ghost use Rattle.turn_lock.specs.Law.{Kept, tickets_of};
 
 use crate::held::Held;
+
+/// No ticket is lost: of those that were drawn each is passed on, or a seat holds it.
+pub fn no_ticket_is_lost<H: Held>()
+    ensures { (opening : H) (count : ℕ) (s : State (Place H H.Call H.Reply) (View H H.Call H.Reply))
+        (k : Kept H.rules opening count s) → (s.words ≡ k.drawn ∷ length k.log ∷ [])
+        × (k.drawn ≡ length k.log + total tickets_of s.views) }
+{}
 
 /// The one history of a lock that is closed: the object is what it leads to from the opening, and
 /// each reply is the object's at that point. Each call in it is one of these seats', each seat has

@@ -6,7 +6,7 @@ ghost use Rattle.std.specs.List.{AllByRecursion};
 ghost use Rattle.game_trait.specs.declared.event.Note.{Note};
 ghost use Rattle.tss_io.specs.Lines.{as_line};
 ghost use Rattle.watch_board.specs.Behaviour.{Behaviour, leaves, told};
-ghost use Rattle.watch_board.specs.Board.{IsCutShort, board, last_lines, leaving_lines, still_there};
+ghost use Rattle.watch_board.specs.Board.{IsClosedShort, IsCutShort, board, last_lines, leaving_lines, still_there};
 ghost use Rattle.watch_board.specs.Told.{AreTold, after_notes, left_lines};
 
 /// Notes that watchers are told, and then others, are all of them, told one after another.
@@ -37,6 +37,16 @@ pub fn a_note_is_cut_short_where_one_leaves()
     ensures nobody { (note : Note) (old new : List Behaviour) (before after : List ℕ)
         → IsCutShort note old new before after
         → AllByRecursion (λ w. leaves note w ≡ false) old → ⊥ }
+{}
+
+/// The last lines are cut short at the line of one watcher: the lines of those in front of it were
+/// appended. Where there is no watcher nothing is cut short.
+pub fn last_lines_are_cut_short_at_one()
+    ensures there { (old : List Behaviour) (before after : List ℕ)
+        → IsClosedShort old before after
+        → (front : List Behaviour) × (behind : List Behaviour) × (gone : Behaviour)
+        × (old ≡ front ++ gone ∷ behind) × (after ≡ before ++ last_lines front) }
+    ensures nobody { (before after : List ℕ) → IsClosedShort [] before after → ⊥ }
 {}
 
 /// A note goes to one watcher after another: who stays has taken it and has no line yet, and who
