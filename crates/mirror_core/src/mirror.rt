@@ -249,6 +249,20 @@ impl<G: Game> Mirror<G> {
         self.inner.clock
     }
 
+    /// The match's length, in ticks.
+    pub fn length(&self) -> Tick
+        ensures { result ≡ self.now.length }
+    {
+        self.inner.stagger().length()
+    }
+
+    /// How many plans there are, 1 to 8.
+    pub fn plans(&self) -> usize
+        ensures { result ≡ length self.now.plans }
+    {
+        self.inner.plans.len()
+    }
+
     /// The number of the plan that is in force.
     pub fn plan(&self) -> u8
         ensures { result ≡ self.now.plan }
