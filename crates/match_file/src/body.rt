@@ -92,7 +92,7 @@ pub fn is_ended(stage: Stage) -> bool
 }
 
 impl Body {
-    fn new(alloc: Global) -> Body
+    pub(crate) fn new(alloc: Global) -> Body
         ensures { result ≡ no_body }
     {
         Body {
@@ -317,7 +317,7 @@ impl Body {
 
     // A line of the body.
     #[tactic(auto, unfolding(tss_io::specs::Machines::take_by, tss_io::specs::Machines::take_whole))]
-    fn take(&mut self, alloc: Global, opening: &Opening, line: &[u8]) -> Result<(), LineFault>
+    pub(crate) fn take(&mut self, alloc: Global, opening: &Opening, line: &[u8]) -> Result<(), LineFault>
         requires { length opening.now.delays ≤ MOST_COPIES }
         ensures { GivesLine (λ _. self.new) result (take opening.now self.old line.now) }
     {

@@ -76,7 +76,7 @@ impl Opening {
 }
 
 // The version that the first line names.
-fn version_of(line: &[u8]) -> Result<u8, Cause>
+pub(crate) fn version_of(line: &[u8]) -> Result<u8, Cause>
     ensures { Answers (λ x. x) result (head_version line.now) }
 {
     if line == b"tss match 1".as_slice() {
@@ -161,7 +161,7 @@ fn delays_line(alloc: Global, text: &[u8]) -> Result<(Seq<Tick>, &[u8]), LineFau
 
 // The last of the delays.
 #[tactic(auto, unfolding(sync_model::specs::Lists::last_of))]
-fn longest_of(delays: &Seq<Tick>) -> Tick
+pub(crate) fn longest_of(delays: &Seq<Tick>) -> Tick
     ensures { result ≡ longest_delay delays.now }
 {
     let mut last = 0;
