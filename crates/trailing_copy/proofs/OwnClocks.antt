@@ -5,10 +5,9 @@ use Rattle.game_trait.specs.declared.command.Command.{Command}
 use Rattle.game_trait.specs.declared.command.Item.{Item}
 use Rattle.game_trait.specs.Game.{Rules}
 use Rattle.game_trait.specs.Run.{beats}
-use Rattle.game_trait.specs.Keys.{NamesDiffer}
 use Rattle.std.specs.List.{AllByRecursion}
 use Rattle.executed_list.specs.Segments.{OneList, clocks_at, end_of, runs_at}
-use Rattle.trailing_copy.specs.Stack.{AreStaggered, IsStack, IsSettled}
+use Rattle.trailing_copy.specs.Stack.{IsStack, IsSettled}
 
 pub clocks-own :
     (items : List Item) (ends : List ℕ) → clocks_at items ends ≡ map beats (runs_at items ends)
@@ -43,18 +42,12 @@ clocks-within :
 clocks-within ticks [] within = tt
 clocks-within ticks (run ∷ runs) within = (within.0, clocks-within ticks runs within.1)
 
--- and what always holds
-pub always-kept :
+-- and no run is longer than the match
+pub within-kept :
     {W : Type 0} {rules : Rules W} {opening : W} {ticks : ℕ} {all : List Command} {spare : ℕ}
     {s : OneList} {worlds : List W} {ks : List ℕ} {stale : ℕ}
-    → IsStack rules opening ticks all spare s worlds ks stale → NamesDiffer all
-    → AllByRecursion (λ x. x.time < ticks) all
-    → AreStaggered ticks all (runs_at s.items s.ends)
-always-kept {W} {rules} {opening} {ticks} {all} {spare} {s} {worlds} {ks} {stale} h names due = record {
-  trailing = h.trailing;
-  within_match =
-      clocks-within ticks (runs_at s.items s.ends)
-      (subst (AllByRecursion (λ k. k ≤ ticks)) h.clocks_are h.within);
-  names = names;
-  due = due;
-}
+    → IsStack rules opening ticks all spare s worlds ks stale
+    → AllByRecursion (λ run. beats run ≤ ticks) (runs_at s.items s.ends)
+within-kept {W} {rules} {opening} {ticks} {all} {spare} {s} h =
+    clocks-within ticks (runs_at s.items s.ends)
+    (subst (AllByRecursion (λ k. k ≤ ticks)) h.clocks_are h.within)

@@ -6,7 +6,6 @@ use Rattle.game_trait.specs.declared.limits.TheConstants.{LONGEST_MATCH, MOST_CO
 use Rattle.game_trait.specs.declared.command.Command.{Command}
 use Rattle.game_trait.specs.declared.command.Item.{Item}
 use Rattle.game_trait.specs.Game.{Rules}
-use Rattle.game_trait.specs.Keys.{NamesDiffer}
 use Rattle.game_trait.specs.Run.{beats, world_of}
 use Rattle.game_trait.specs.Ordered.{ordered}
 use Rattle.sync_model.specs.Staggered.{IsTrailing}
@@ -30,14 +29,6 @@ pub record LazyCopies (W : Type 0) : Type 0 where
   pub runs : List (List Item)
   pub spare : ℕ
   pub stale : ℕ
-
--- what is true of a mirror's copies at every moment: their runs are staggered, no copy's clock is
--- past the match's end, and the accepted commands have different names and are due within the match
-pub record AreStaggered (ticks : ℕ) (accepted : List Command) (runs : List (List Item)) : Type 0 where
-  pub trailing : IsTrailing accepted runs
-  pub within_match : AllByRecursion (λ run. beats run ≤ ticks) runs
-  pub names : NamesDiffer accepted
-  pub due : AllByRecursion (λ x. x.time < ticks) accepted
 
 -- from copy n on, each world is the world of its run
 abbrev pub AreWorlds : {W : Type 0} → Rules W → W → OneList → ℕ → List W → Type 0

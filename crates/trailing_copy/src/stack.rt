@@ -2,16 +2,16 @@
 
 ghost use Rattle.std.specs.Prelude.{◌≡◌, ◌+◌, ◌-◌, ◌<◌, ◌≤◌, false, Some, IfOk, [], ◌∷◌, ◌++◌, length};
 ghost use Rattle.std.specs.Prelude.{slice_get, slice_index_or, replicate};
-ghost use Rattle.std.specs.List.{list_any};
+ghost use Rattle.std.specs.List.{AllByRecursion, list_any};
 ghost use Rattle.game_trait.specs.declared.limits.TheConstants.{LONGEST_MATCH, MOST_COPIES};
 ghost use Rattle.game_trait.specs.declared.limits.TheConstants.{MOST_ROOM};
-ghost use Rattle.game_trait.specs.Run.{world_of};
-ghost use Rattle.game_trait.specs.Keys.{same_name};
+ghost use Rattle.game_trait.specs.Run.{beats, world_of};
+ghost use Rattle.game_trait.specs.Keys.{NamesDiffer, same_name};
 ghost use Rattle.game_trait.specs.Ordered.{due_at};
 ghost use Rattle.sync_model.specs.Settle.{settle, repaired};
+ghost use Rattle.sync_model.specs.Staggered.{IsTrailing};
 ghost use Rattle.sync_model.specs.Change.{with_tick, proposed_by_arrival, proposed_by_step};
 ghost use Rattle.sync_model.specs.State.{copy_clock, last_clock};
-ghost use Rattle.trailing_copy.specs.Stack.{AreStaggered};
 
 use crate::lazy::LazyStack;
 use arrayvec::ArrayVec;
@@ -74,9 +74,14 @@ impl<G: Game> CopyStack<G> {
         })
     }
 
-    /// What always holds of the copies. It does nothing.
+    /// What always holds of the copies: their runs are staggered, no copy's clock is past the match's
+    /// end, and the accepted commands have different names and are due within the match. It does
+    /// nothing.
     pub fn always(&self)
-        ensures { AreStaggered self.now.ticks self.now.accepted self.now.runs }
+        ensures trailing { IsTrailing self.now.accepted self.now.runs }
+        ensures within_match { AllByRecursion (λ run. beats run ≤ self.now.ticks) self.now.runs }
+        ensures names { NamesDiffer self.now.accepted }
+        ensures due { AllByRecursion (λ x. x.time < self.now.ticks) self.now.accepted }
     {
         self.inner.always();
     }
