@@ -1,3 +1,4 @@
+pub mod Deferred
 pub mod Epochs
 pub mod Kept
 pub mod Drafts

@@ -1,14 +1,15 @@
 //! A mirror whose repaired copies execute again when they are looked at.
 
-ghost use Rattle.std.specs.Prelude.{◌≡◌, ◌<◌, ◌≤◌, ◌^◌, IfOk, [], length, slice_get, slice_index_or};
+ghost use Rattle.std.specs.Prelude.{◌≡◌, ◌<◌, ◌≤◌, ◌-◌, ◌^◌, IfOk, [], length, max, slice_get, slice_index_or};
 ghost use Rattle.std.specs.List.{AllByRecursion};
 ghost use Rattle.game_trait.specs.Run.{world_of};
 ghost use Rattle.sync_model.specs.State.{opening_state, copy_clock as clock_of};
 ghost use Rattle.sync_model.specs.Change.{next, said, after, answers, Fits};
 ghost use Rattle.sync_model.specs.Consistent.{IsConsistent};
 ghost use Rattle.sync_model.specs.History.{HasRoom, HasRoomAlong, repairs as repairs_of};
-ghost use Rattle.sync_model.specs.Turns.{turn, turn_events, is_drained, drain_bound};
+ghost use Rattle.sync_model.specs.Turns.{turn, turn_events, IsDrained, is_drained, drain_bound};
 ghost use Rattle.mirror_core.specs.Kept.{delays_of_each, ticks_of_first, copies_of_first};
+ghost use Rattle.mirror_core.specs.Deferred.{AreDeferred};
 
 use crate::lazy::LazyMirror;
 use crate::mirrored::Mirrored;
@@ -22,20 +23,59 @@ use sync_model::Turned;
 use tss_io::NoMemory;
 
 /// A mirror as `Mirror` is one, and answers each event as that does, but only its last copy executes
-/// as it goes: the copies ahead, which may be repaired, execute when their worlds are looked at (this
-/// project's own). So a match that is played to its end, and looked at there, executes each tick
-/// about once. Contracts see a state of the model. Only `new` takes memory.
+/// as it goes: the copies ahead, which may be repaired, execute when their worlds are looked at, and
+/// at the latest when every copy has run the whole match (this project's own). So a match that is
+/// played to its end executes each tick about once. Contracts see a state of the model. Only `new`
+/// takes memory.
 #[derive(Drop)]
 pub struct DeferredMirror<G: Game> {
     inner: LazyMirror<G>,
+    // for how many more calls the copies ahead execute as they go, too, since somebody looked
+    looked: u32,
 }
 
 impl<G: Game> Model for DeferredMirror<G> {
     ghost use Rattle.sync_model.specs.State.{MirrorState};
+    ghost use Rattle.mirror_core.specs.Deferred.{AreDeferred};
 
     ghost Value = { MirrorState G };
 
     ghost view = { λ m. m.inner.state };
+
+    ghost invariant = { λ m. AreDeferred m.inner.state m.inner.stale m.looked };
+}
+
+// How many items lie between the ends of the last copy's run and of copy 0's, and at least 1: so many
+// a look executes where nobody looked before.
+fn window<G: Game>(inner: &LazyMirror<G>) -> u32
+    ensures { result ≡ max 1 (length (slice_index_or inner.now.state.runs 0 [])
+        - length (slice_index_or inner.now.state.runs (length inner.now.state.runs - 1) [])) }
+{
+    let last = inner.stagger().copies() - 1;
+    let items = inner
+        .stack
+        .run_len(0)
+        .saturating_sub(inner.stack.run_len(last));
+    items.max(1)
+}
+
+// Sees to the worlds of the copies ahead behind a call that made events: where every copy has run
+// the whole match they are made, and where somebody looked long enough ago they are left to be made
+// again. Answers for how many more calls the copies ahead execute as they go.
+fn settle<G: Game>(inner: &mut LazyMirror<G>, looked: u32) -> u32
+    ensures state { inner.new.state ≡ inner.old.state }
+    ensures worlds { AreDeferred inner.new.state inner.new.stale result }
+    ensures fewer { result ≡ looked - 1 }
+{
+    let left = looked.saturating_sub(1);
+    if inner.drained() {
+        inner.refresh();
+        return left;
+    }
+    if left == 0 {
+        inner.defer();
+    }
+    left
 }
 
 impl<G: Game> DeferredMirror<G> {
@@ -61,8 +101,8 @@ impl<G: Game> DeferredMirror<G> {
             restaggers) }
     {
         let mut inner = LazyMirror::new(alloc, opening, plans, room, restaggers)?;
-        inner.defer();
-        Ok(DeferredMirror { inner })
+        let looked = settle(&mut inner, 0);
+        Ok(DeferredMirror { inner, looked })
     }
 
     /// What `Mirror::tick` does and answers.
@@ -70,7 +110,9 @@ impl<G: Game> DeferredMirror<G> {
         ensures state { self.new ≡ next self.old Event.Tick }
         ensures answer { said self.old Event.Tick ≡ Reply.Tick result }
     {
-        self.inner.tick()
+        let ticked = self.inner.tick();
+        self.looked = settle(&mut self.inner, self.looked);
+        ticked
     }
 
     /// What `Mirror::restagger` does.
@@ -81,38 +123,45 @@ impl<G: Game> DeferredMirror<G> {
         ensures answer { said self.old (Event.Restagger plan) ≡ Reply.Restaggered }
     {
         self.inner.restagger(plan);
+        self.looked = settle(&mut self.inner, self.looked);
     }
 
     /// What `Mirror::arrive` does and answers. The worlds of the copies that it repairs are made when
-    /// they are looked at.
+    /// they are looked at, or when every copy has run the whole match.
     pub fn arrive(&mut self, x: &Command) -> Arrived
         requires within_match { x.now.time < self.old.length }
         requires room { 0 < self.old.spare }
         ensures state { self.new ≡ next self.old (Event.Arrive x.now) }
         ensures answer { said self.old (Event.Arrive x.now) ≡ Reply.Arrive result }
     {
-        self.inner.arrive(x)
+        let arrived = self.inner.arrive(x);
+        self.looked = settle(&mut self.inner, self.looked);
+        arrived
     }
 
     /// What `Mirror::step` does and answers. The worlds of the copies that it repairs are made when
-    /// they are looked at.
+    /// they are looked at, or when every copy has run the whole match.
     pub fn step(&mut self, copy: u8) -> Stepped
         requires { copy < length self.old.runs }
         ensures state { self.new ≡ next self.old (Event.Step copy) }
         ensures answer { said self.old (Event.Step copy) ≡ Reply.Step result }
     {
-        self.inner.step(copy)
+        let stepped = self.inner.step(copy);
+        self.looked = settle(&mut self.inner, self.looked);
+        stepped
     }
 
     /// What `Mirror::make` does and answers. The worlds of the copies that it repairs are made when
-    /// they are looked at.
+    /// they are looked at, or when every copy has run the whole match.
     pub fn make(&mut self, e: &Event) -> Reply
         requires fits { Fits self.old e.now }
         requires room { HasRoom self.old e.now }
         ensures state { self.new ≡ next self.old e.now }
         ensures answer { result ≡ said self.old e.now }
     {
-        self.inner.make(e)
+        let reply = self.inner.make(e);
+        self.looked = settle(&mut self.inner, self.looked);
+        reply
     }
 
     /// Makes events one after another, and hands back what was answered to each, in order. They fit
@@ -125,7 +174,9 @@ impl<G: Game> DeferredMirror<G> {
         ensures state { self.new ≡ after self.old events.now }
         ensures replies { result.items ≡ answers self.old events.now }
     {
-        self.inner.make_each(events)
+        let replies = self.inner.make_each(events);
+        self.looked = settle(&mut self.inner, self.looked);
+        replies
     }
 
     /// Makes a turn: a tick, and then a step of each copy from copy 0 on. Hands back what was answered
@@ -134,14 +185,19 @@ impl<G: Game> DeferredMirror<G> {
         ensures state { self.new ≡ turn self.old }
         ensures replies { result.items ≡ answers self.old (turn_events (length self.old.runs)) }
     {
-        self.inner.turn()
+        let replies = self.inner.turn();
+        self.looked = settle(&mut self.inner, self.looked);
+        replies
     }
 
     /// Makes the worlds that are still to be made, each once. What follows looks at them without
-    /// executing anything, until an event repairs copies again.
+    /// executing anything, until an event repairs copies again. The copies ahead then execute as
+    /// they go, too, for as many calls as the look had items to execute: who looks at each turn has
+    /// each tick executed once, and behind a single look the last copy alone executes again.
     pub fn refresh(&mut self)
         ensures { self.new ≡ self.old }
     {
+        self.looked = window(&self.inner);
         self.inner.refresh();
     }
 
@@ -160,6 +216,17 @@ impl<G: Game> DeferredMirror<G> {
         ensures { slice_get (slice_index_or self.now.runs copy []) place ≡ Some result }
     {
         self.inner.stack.run_item(copy, place)
+    }
+
+    /// The copy's live world: the opening after all items of its run. The copy is there, and every
+    /// copy has run the whole match. Nothing is executed.
+    pub fn world(&self, copy: u8) -> &G
+        requires there { copy < length self.now.runs }
+        requires drained { IsDrained self.now }
+        ensures { result.now
+            ≡ world_of G.rules self.now.opening (slice_index_or self.now.runs copy []) }
+    {
+        self.inner.stack.world(copy)
     }
 
     /// How many turns are enough to drain the mirror.

@@ -1,6 +1,6 @@
 //! A mirror whose copies' worlds may still be to be made.
 
-ghost use Rattle.std.specs.Prelude.{◌≡◌, ◌<◌, ◌≤◌, IfOk, length};
+ghost use Rattle.std.specs.Prelude.{◌≡◌, ◌<◌, ◌≤◌, ◌-◌, IfOk, length};
 ghost use Rattle.std.specs.List.{AllByRecursion};
 ghost use Rattle.sync_model.specs.State.{opening_state, schedule_of, step_limit};
 ghost use Rattle.sync_model.specs.State.{last_clock as last_clock_of};
@@ -354,7 +354,7 @@ impl<G: Game> LazyMirror<G> {
 
     /// Leaves the worlds of all copies but the last to be made.
     pub fn defer(&mut self)
-        ensures { self.new.state ≡ self.old.state }
+        ensures { self.new ≡ record self.old { stale = length self.old.state.runs - 1 } }
     {
         self.stack.defer();
     }
