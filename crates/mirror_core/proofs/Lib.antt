@@ -8,4 +8,5 @@ mod Opened
 mod Calls
 mod Along
 mod Executed
+mod Deferring
 pub mod WholeTurns

@@ -30,7 +30,8 @@ use tss_io::NoMemory;
 #[derive(Drop)]
 pub struct DeferredMirror<G: Game> {
     inner: LazyMirror<G>,
-    // for how many more calls the copies ahead execute as they go, too, since somebody looked
+    // for how many more steps and turns the copies ahead execute as they go, too, since somebody
+    // looked
     looked: u32,
 }
 
@@ -59,9 +60,9 @@ fn window<G: Game>(inner: &LazyMirror<G>) -> u32
     items.max(1)
 }
 
-// Sees to the worlds of the copies ahead behind a call that made events: where every copy has run
-// the whole match they are made, and where somebody looked long enough ago they are left to be made
-// again. Answers for how many more calls the copies ahead execute as they go.
+// Sees to the worlds of the copies ahead behind a call that may have made steps: where every copy has
+// run the whole match they are made, and where somebody looked long enough ago they are left to be
+// made again. Answers for how many more such calls the copies ahead execute as they go.
 fn settle<G: Game>(inner: &mut LazyMirror<G>, looked: u32) -> u32
     ensures state { inner.new.state ≡ inner.old.state }
     ensures worlds { AreDeferred inner.new.state inner.new.stale result }
@@ -110,9 +111,7 @@ impl<G: Game> DeferredMirror<G> {
         ensures state { self.new ≡ next self.old Event.Tick }
         ensures answer { said self.old Event.Tick ≡ Reply.Tick result }
     {
-        let ticked = self.inner.tick();
-        self.looked = settle(&mut self.inner, self.looked);
-        ticked
+        self.inner.tick()
     }
 
     /// What `Mirror::restagger` does.
@@ -123,20 +122,18 @@ impl<G: Game> DeferredMirror<G> {
         ensures answer { said self.old (Event.Restagger plan) ≡ Reply.Restaggered }
     {
         self.inner.restagger(plan);
-        self.looked = settle(&mut self.inner, self.looked);
     }
 
     /// What `Mirror::arrive` does and answers. The worlds of the copies that it repairs are made when
-    /// they are looked at, or when every copy has run the whole match.
+    /// they are looked at, or when every copy has run the whole match: where it has, none is late.
     pub fn arrive(&mut self, x: &Command) -> Arrived
         requires within_match { x.now.time < self.old.length }
         requires room { 0 < self.old.spare }
         ensures state { self.new ≡ next self.old (Event.Arrive x.now) }
         ensures answer { said self.old (Event.Arrive x.now) ≡ Reply.Arrive result }
     {
-        let arrived = self.inner.arrive(x);
-        self.looked = settle(&mut self.inner, self.looked);
-        arrived
+        self.always();
+        self.inner.arrive(x)
     }
 
     /// What `Mirror::step` does and answers. The worlds of the copies that it repairs are made when
@@ -192,8 +189,9 @@ impl<G: Game> DeferredMirror<G> {
 
     /// Makes the worlds that are still to be made, each once. What follows looks at them without
     /// executing anything, until an event repairs copies again. The copies ahead then execute as
-    /// they go, too, for as many calls as the look had items to execute: who looks at each turn has
-    /// each tick executed once, and behind a single look the last copy alone executes again.
+    /// they go, too, for as many steps and turns as the look had items to execute: who looks at each
+    /// turn has each tick executed once by each copy, and behind a single look the last copy alone
+    /// executes again.
     pub fn refresh(&mut self)
         ensures { self.new ≡ self.old }
     {

@@ -1,11 +1,11 @@
 //! A mirror whose copies' worlds may still be to be made.
 
-ghost use Rattle.std.specs.Prelude.{◌≡◌, ◌<◌, ◌≤◌, ◌-◌, IfOk, length};
+ghost use Rattle.std.specs.Prelude.{◌≡◌, ◌<◌, ◌≤◌, ◌-◌, IfOk, length, max};
 ghost use Rattle.std.specs.List.{AllByRecursion};
 ghost use Rattle.sync_model.specs.State.{opening_state, schedule_of, step_limit};
 ghost use Rattle.sync_model.specs.State.{last_clock as last_clock_of};
 ghost use Rattle.sync_model.specs.Change.{next, said, after, answers, Fits};
-ghost use Rattle.sync_model.specs.History.{HasRoom, HasRoomAlong};
+ghost use Rattle.sync_model.specs.History.{HasRoom, HasRoomAlong, repaired_in};
 ghost use Rattle.sync_model.specs.Turns.{turn, turn_events, is_drained, drain_bound};
 ghost use Rattle.sync_model.specs.Drafts.{epoch as epoch_of, ready_of, FitsReady};
 ghost use Rattle.mirror_core.specs.Kept.{delays_of_each, ticks_of_first, copies_of_first};
@@ -206,6 +206,8 @@ impl<G: Game> LazyMirror<G> {
         requires room { 0 < self.old.state.spare }
         ensures state { self.new.state ≡ next self.old.state (Event.Arrive x.now) }
         ensures answer { said self.old.state (Event.Arrive x.now) ≡ Reply.Arrive result }
+        ensures stale { self.new.stale
+            ≡ max self.old.stale (repaired_in (Reply.Arrive result)) }
     {
         if self.names.contains(&(x.from, x.number)) {
             return Arrived::Repeat;
