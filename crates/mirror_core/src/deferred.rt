@@ -2,12 +2,13 @@
 
 ghost use Rattle.std.specs.Prelude.{◌≡◌, ◌<◌, ◌≤◌, ◌-◌, ◌^◌, IfOk, [], length, max, slice_get, slice_index_or};
 ghost use Rattle.std.specs.List.{AllByRecursion};
+ghost use Rattle.game_trait.specs.CommandList.{has_command};
 ghost use Rattle.game_trait.specs.Run.{world_of};
 ghost use Rattle.sync_model.specs.State.{opening_state, copy_clock as clock_of};
 ghost use Rattle.sync_model.specs.Change.{next, said, after, answers, Fits};
 ghost use Rattle.sync_model.specs.Consistent.{IsConsistent};
 ghost use Rattle.sync_model.specs.History.{HasRoom, HasRoomAlong, repairs as repairs_of};
-ghost use Rattle.sync_model.specs.Turns.{turn, turn_events, IsDrained, is_drained, drain_bound};
+ghost use Rattle.sync_model.specs.Turns.{turn, turn_events, IsDrained, is_drained, drain, drain_bound};
 ghost use Rattle.mirror_core.specs.Kept.{delays_of_each, ticks_of_first, copies_of_first};
 ghost use Rattle.mirror_core.specs.Deferred.{AreDeferred};
 
@@ -15,7 +16,9 @@ use crate::lazy::LazyMirror;
 use crate::mirrored::Mirrored;
 use arrayvec::ArrayVec;
 use game_trait::limits::{MOST_PLANS, MOST_ROOM};
-use game_trait::{Arrived, Command, Event, Game, Item, Reply, Stepped, Tick, Ticked};
+use game_trait::{
+    Arrived, Command, Event, Game, Item, MirrorId, Number, Reply, Stepped, Tick, Ticked,
+};
 use stagger_clock::Stagger;
 use std::alloc::Global;
 use std::marker::Model;
@@ -240,6 +243,33 @@ impl<G: Game> DeferredMirror<G> {
     {
         self.inner.drained()
     }
+
+    /// Whether a command with this mirror and number was accepted. It is looked up by its name.
+    pub fn has(&self, from: MirrorId, number: Number) -> bool
+        ensures { result ≡ has_command self.now.accepted from number }
+    {
+        self.inner.has(from, number)
+    }
+
+    /// Makes turns until every copy has run the whole match.
+    pub fn drain(&mut self)
+        ensures { self.new ≡ drain self.old }
+    {
+        let turns = self.turns_to_drain();
+        for _ in 0..turns {
+            if self.drained() {
+                return;
+            }
+            let _answers = self.turn();
+        }
+    }
+
+    /// How many more arrivals there is room for.
+    pub fn spare(&self) -> u32
+        ensures { result ≡ self.now.spare }
+    {
+        self.inner.spare
+    }
 }
 
 impl<G: Game> Mirrored<G> for DeferredMirror<G> {
@@ -247,6 +277,14 @@ impl<G: Game> Mirrored<G> for DeferredMirror<G> {
 
     fn always(&self) {
         let _ = &self.inner.clock;
+    }
+
+    fn opening(&self) -> &G {
+        self.inner.stack.opening()
+    }
+
+    fn plan(&self) -> u8 {
+        self.inner.plan
     }
 
     fn copies(&self) -> u8 {

@@ -2,6 +2,7 @@
 
 ghost use Rattle.std.specs.Prelude.{◌≡◌, ◌<◌, ◌≤◌, ◌-◌, IfOk, length, max};
 ghost use Rattle.std.specs.List.{AllByRecursion};
+ghost use Rattle.game_trait.specs.CommandList.{has_command};
 ghost use Rattle.sync_model.specs.State.{opening_state, schedule_of, step_limit};
 ghost use Rattle.sync_model.specs.State.{last_clock as last_clock_of};
 ghost use Rattle.sync_model.specs.Change.{next, said, after, answers, Fits};
@@ -231,6 +232,14 @@ impl<G: Game> LazyMirror<G> {
         let repaired = self.stack.accept(x);
         self.repairs += u64::from(repaired);
         Arrived::Taken { repaired }
+    }
+
+    /// Whether a command with this mirror and number was accepted.
+    pub fn has(&self, from: MirrorId, number: Number) -> bool
+        ensures { result ≡ has_command self.now.state.accepted from number }
+    {
+        let _ = &self.stack;
+        self.names.contains(&(from, number))
     }
 
     /// What `Mirror::step` does. Worlds may be left to be made.

@@ -2,6 +2,7 @@
 
 ghost use Rattle.std.specs.Prelude.{◌≡◌, ◌<◌, ◌≤◌, ◌^◌, IfOk, [], length, slice_get, slice_index_or};
 ghost use Rattle.std.specs.List.{AllByRecursion};
+ghost use Rattle.game_trait.specs.CommandList.{has_command};
 ghost use Rattle.game_trait.specs.Run.{world_of};
 ghost use Rattle.sync_model.specs.State.{opening_state, copy_clock as clock_of};
 ghost use Rattle.sync_model.specs.Change.{next, said, after, answers, Fits};
@@ -17,7 +18,9 @@ use crate::lazy::LazyMirror;
 use crate::mirrored::Mirrored;
 use arrayvec::ArrayVec;
 use game_trait::limits::{MOST_PLANS, MOST_ROOM};
-use game_trait::{Arrived, Command, Event, Game, Item, Reply, Stepped, Tick, Ticked};
+use game_trait::{
+    Arrived, Command, Event, Game, Item, MirrorId, Number, Reply, Stepped, Tick, Ticked,
+};
 use stagger_clock::Stagger;
 use std::alloc::Global;
 use std::marker::Model;
@@ -318,6 +321,14 @@ impl<G: Game> Mirror<G> {
         self.inner.stack.accepted()
     }
 
+    /// Whether a command with this mirror and number was accepted. It is looked up by its name
+    /// (this project's own).
+    pub fn has(&self, from: MirrorId, number: Number) -> bool
+        ensures { result ≡ has_command self.now.accepted from number }
+    {
+        self.inner.has(from, number)
+    }
+
     /// The arrivals that were turned away, in order.
     pub fn turned(&self) -> &[Turned]
         ensures { result.now ≡ self.now.turned }
@@ -374,6 +385,14 @@ impl<G: Game> Mirrored<G> for Mirror<G> {
 
     fn always(&self) {
         self.always();
+    }
+
+    fn opening(&self) -> &G {
+        self.opening()
+    }
+
+    fn plan(&self) -> u8 {
+        self.plan()
     }
 
     fn copies(&self) -> u8 {

@@ -20,6 +20,14 @@ pub trait Mirrored<G: Game> {
     fn always(&self)
         ensures { IsConsistent (state self.now) };
 
+    /// The opening world.
+    fn opening(&self) -> &G
+        ensures { result.now ≡ (state self.now).opening };
+
+    /// The number of the plan that is in force.
+    fn plan(&self) -> u8
+        ensures { result ≡ (state self.now).plan };
+
     /// How many copies there are, 1 to 8.
     fn copies(&self) -> u8
         ensures { result ≡ length (state self.now).runs };

@@ -60,7 +60,7 @@ settled-home n (h ∷ hs) owners (suc k) d long homes other within =
     settled-home (n + 1) hs (painted owners (spot_cell h) n) k d length_is (All-tail Near h hs homes) (IsDistinct-tail same_cell (spot_cell h) (map spot_cell hs) other) (omega arith)
     ∙ omega arith
 
-length-unowned : length unowned ≡ 4096
+pub length-unowned : length unowned ≡ 4096
 unfolding unowned
 length-unowned = length-replicate {A = ℕ} 4096 32
 
@@ -70,12 +70,12 @@ get_or-unowned zero i = refl
 get_or-unowned (suc n) zero = refl
 get_or-unowned (suc n) (suc i) = get_or-unowned n i
 
-owner_of-unowned : (cell : Cell) → owner_of unowned cell ≡ 32
+pub owner_of-unowned : (cell : Cell) → owner_of unowned cell ≡ 32
 unfolding unowned
 owner_of-unowned cell = get_or-unowned 4096 (cell_place cell)
 
 -- the back of a list of different cells
-distinct-back : (xs ys : List Cell) → IsDistinct same_cell (xs ++ ys) → IsDistinct same_cell ys
+pub distinct-back : (xs ys : List Cell) → IsDistinct same_cell (xs ++ ys) → IsDistinct same_cell ys
 distinct-back [] ys other = other
 distinct-back (x ∷ xs) ys other = distinct-back xs ys (IsDistinct-tail same_cell x (xs ++ ys) other)
 

@@ -6,3 +6,5 @@ mod Computing
 mod Homes
 mod Marks
 mod Left
+mod Places
+mod Letters

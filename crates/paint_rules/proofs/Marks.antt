@@ -41,7 +41,7 @@ clean-painted marks pickups owners x y owner near all_near marked free clean =
     ∙ clean k d within
 
 -- what is nobody's stays so while cells become nobody's
-set-kept : (owners : List ℕ) (j i : ℕ) → get_or {A = ℕ} owners i 32 ≡ 32 → get_or {A = ℕ} (set owners j 32) i 32 ≡ 32
+pub set-kept : (owners : List ℕ) (j i : ℕ) → get_or {A = ℕ} owners i 32 ≡ 32 → get_or {A = ℕ} (set owners j 32) i 32 ≡ 32
 set-kept [] j i h = h
 set-kept (o ∷ owners) zero zero h = refl
 set-kept (o ∷ owners) zero (suc i) h = h

@@ -43,7 +43,8 @@ impl Cells {
     /// How many cells the player of this number owns, from 0 to 4,096.
     pub fn owned(&self, player: u8) -> u32
         requires { player < 32 }
-        ensures { result ≡ owned player self.now }
+        ensures count { result ≡ owned player self.now }
+        ensures few { result ≤ 4096 }
     {
         self.counts[player as usize]
     }

@@ -1,13 +1,17 @@
 //! What commands and beats leave as it is, and whose a cell may become. Each law is the contract of
 //! a function without parameters that does nothing.
 
-ghost use Rattle.std.specs.Prelude.{◌≡◌, ◌<◌, ◌⊎◌, ℕ, false, length, slice_get, slice_index_or};
-ghost use Rattle.std.specs.List.{list_any};
+ghost use Rattle.std.specs.Prelude.{◌≡◌, ◌==◌, ◌<◌, ◌≤◌, ◌⊎◌, ℕ, true, false, length, map, flat_map, slice_get, slice_index_or, All};
+ghost use Rattle.std.specs.List.{AllByRecursion, IsDistinct, list_any, range_with_len};
 ghost use Rattle.game_trait.specs.declared.command.Command.{Command};
-ghost use Rattle.arena_rules.specs.Setup.{Cell, same_cell, pickup_cell};
+ghost use Rattle.game_trait.specs.Count.{times};
+ghost use Rattle.game_trait.specs.declared.limits.TheConstants.{MOST_PLAYERS, MOST_PICKUPS};
+ghost use Rattle.arena_rules.specs.Ground.{IsGrid, is_open};
+ghost use Rattle.arena_rules.specs.Setup.{Cell, same_cell, spot_cell, pickup_cell};
 ghost use Rattle.arena_rules.specs.declared.pickup.PickupSpot.{PickupSpot};
 ghost use Rattle.paint_rules.specs.World.{PaintWorld, IsPaintWorld};
-ghost use Rattle.paint_rules.specs.Owners.{nobody, owner_of};
+ghost use Rattle.paint_rules.specs.Owners.{nobody, owner_of, owned};
+ghost use Rattle.paint_rules.specs.Block.{owner_byte, row_word};
 ghost use Rattle.paint_rules.specs.Command.{applied};
 ghost use Rattle.paint_rules.specs.Beat.{beaten};
 
@@ -41,4 +45,34 @@ pub fn a_beat_wipes_the_pickups()
         → list_any (λ p. same_cell cell (pickup_cell p)) world.pickups ≡ false
         → owner_of (beaten world).owners cell ≡ owner_of world.owners cell }
     ensures players { (world : PaintWorld) → (beaten world).players ≡ world.players }
+{}
+
+/// What a world of the game is: its grid is one of a match, at most 32 players stand in open cells,
+/// no two of them in one, there are 64 rows of 64 owners, each a player's number or nobody's, what
+/// isn't an open cell of the grid is nobody's, and at most 32 pickups lie in open cells. So a player
+/// owns at most 4,096 cells.
+pub fn what_a_world_is()
+    ensures grid { (world : PaintWorld) → IsPaintWorld world → IsGrid world.grid }
+    ensures players { (world : PaintWorld) → IsPaintWorld world
+        → (length world.players ≤ MOST_PLAYERS)
+        × AllByRecursion (λ p. is_open world.grid p.x p.y ≡ true) world.players
+        × IsDistinct same_cell (map spot_cell world.players) }
+    ensures owners { (world : PaintWorld) → IsPaintWorld world → (length world.owners ≡ 4096)
+        × AllByRecursion (λ o. o ≤ nobody) world.owners
+        × ((x y : ℕ) → x < 64 → is_open world.grid x y ≡ false
+        → owner_of world.owners (record { x = x; y = y }) ≡ nobody) }
+    ensures pickups { (world : PaintWorld) → IsPaintWorld world
+        → (length world.pickups ≤ MOST_PICKUPS)
+        × All (λ p. is_open world.grid p.x p.y ≡ true) world.pickups }
+    ensures cells { (world : PaintWorld) (player : ℕ) → IsPaintWorld world
+        → owned player world.owners ≤ 4096 }
+{}
+
+/// A player owns as many cells as the words of the rows have letters of that player, who is one of
+/// 32.
+pub fn a_players_cells_are_their_letters()
+    ensures { (world : PaintWorld) (player : ℕ) → IsPaintWorld world → player < 32
+        → owned player world.owners
+        ≡ times (λ b. b == owner_byte player)
+        (flat_map (row_word world.grid world.owners) (range_with_len 0 world.grid.height)) }
 {}

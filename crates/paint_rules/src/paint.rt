@@ -1,11 +1,12 @@
 //! The game of painting: a world that commands and beats change, and that a block shows.
 
-ghost use Rattle.std.specs.Prelude.{◌≡◌, ℕ, ◌<◌, ◌++◌, false, length, take, OnOk, OnSome, slice_get, slice_index_or};
+ghost use Rattle.std.specs.Prelude.{◌≡◌, ℕ, ◌<◌, ◌≤◌, ◌++◌, false, length, take, OnOk, OnSome, slice_get, slice_index_or};
 ghost use Rattle.arena_rules.specs.Setup.{layout_of, IsLayout, spot_cell};
 ghost use Rattle.arena_rules.specs.Command.{turned_left, turned_right};
 ghost use Rattle.arena_rules.specs.declared.spot.Spot.{Spot as ASpot};
 ghost use Rattle.paint_rules.specs.Owners.{nobody, owner_of, owned};
 ghost use Rattle.paint_rules.specs.Scene.{opening};
+ghost use Rattle.paint_rules.specs.World.{IsPaintWorld};
 ghost use Rattle.paint_rules.specs.Command.{is_held, turned, moved, shot, applied};
 ghost use Rattle.paint_rules.specs.Beat.{beaten};
 ghost use Rattle.paint_rules.specs.Block.{block_of};
@@ -79,11 +80,22 @@ impl Paint {
         }
     }
 
+    /// What always holds of a world: each player stands in an open cell of their own, there are 64
+    /// rows of 64 owners, of whom each is a player's number or 32, and what isn't in the grid, or is
+    /// walled, is nobody's. It does nothing.
+    pub fn always(&self)
+        ensures { IsPaintWorld self.now }
+    {
+        // Reads the world, whose invariant this is.
+        let _ = &self.time;
+    }
+
     /// How many cells the player of this number owns, from 0 to 4,096. The number is counted from
     /// 0, and the player must be there.
     pub fn cells(&self, player: u8) -> u32
         requires { player < length self.now.players }
-        ensures { result ≡ owned player self.now.owners }
+        ensures count { result ≡ owned player self.now.owners }
+        ensures few { result ≤ 4096 }
     {
         // Reads the world, whose invariant the answers below rest on.
         let _ = &self.time;

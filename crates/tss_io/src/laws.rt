@@ -1,12 +1,12 @@
 //! What the words of sources, sinks and refusals come to, so that none can be read more weakly.
 //! Each is the contract of a function without parameters that does nothing.
 
-ghost use Rattle.std.specs.Prelude.{◌≡◌, ◌<◌, ◌-◌, ◌^◌, ℕ, List, Option, Some, None, ◌++◌};
+ghost use Rattle.std.specs.Prelude.{◌≡◌, ◌<◌, ◌+◌, ◌-◌, ◌^◌, ℕ, List, Option, Some, None, ◌++◌, length};
 ghost use Rattle.tss_io.specs.declared.fault.Refused.{Refused};
 ghost use Rattle.tss_io.specs.Kinds.{fault_of, first_failing};
 ghost use Rattle.tss_io.specs.Lines.{Lines};
 ghost use Rattle.tss_io.specs.Machines.{Machine};
-ghost use Rattle.tss_io.specs.Runs.{FirstFault};
+ghost use Rattle.tss_io.specs.Runs.{FirstFault, Follows, ahead, line_checks};
 ghost use Rattle.tss_io.specs.Streams.{Rose, Yields, Gains, next_count};
 
 /// A count that rose is greater than before, unless it stands at the last value of a counter of 64
@@ -41,4 +41,14 @@ pub fn one_first_fault<S>()
         → ((t : S) (l : List ℕ) → fault_of (m.take t l) ≡ first_failing (m.checks t l))
         → FirstFault m.take m.checks m.is_last n s lines a
         → FirstFault m.take m.checks m.is_last n s lines b → a ≡ b }
+{}
+
+/// A first fault stands behind good lines alone: these lead to a state, its number is that of the
+/// line that comes then, and its cause is that line's first check that fails there.
+pub fn a_first_fault_is_behind_good_lines<S>()
+    ensures { (m : Machine S) (n : ℕ) (s : S) (lines : Lines) (refused : Refused)
+        → FirstFault m.take m.checks m.is_last n s lines refused
+        → (front : List (List ℕ)) × (met : S) × (rest : Lines) × (lines ≡ ahead front rest)
+        × Follows m.take m.is_last s front met × (refused.line ≡ n + length front)
+        × (first_failing (line_checks m.checks m.is_last met rest) ≡ Some refused.cause) }
 {}

@@ -1,6 +1,7 @@
 use Rattle.std.proofs.Common.{refl}
 use Rattle.paint_rules.proofs.Openings.{homes-near, pickups-lie, pickups-near}
 use Rattle.paint_rules.proofs.Homes.{opening-homes, opening-others}
+use Rattle.paint_rules.proofs.Places.{homes-stand, homes-apart, owners-opening}
 use Rattle.paint_rules.proofs.paint.Paint.start.Goals as goal
 
 pub settle-requires-clause-within : goal.settle-requires-clause-within
@@ -13,6 +14,9 @@ pub invariant_of-result : goal.invariant_of-result
 invariant_of-result c = rw (c.copied.ensures, c.new.ensures) (record {
   grid = c.requires.grid;
   players = c.requires.players.1;
+  stand = homes-stand _ c.requires;
+  apart = homes-apart _ c.requires;
+  owners = rw (c.settle.ensures, c.deref.ensures.0, c.unowned-cells.ensures) (owners-opening _ c.requires);
   count = c.requires.pickups;
   pickups = pickups-lie _ c.requires;
 })
