@@ -1,4 +1,5 @@
+mod Cut
+mod Puts
 mod Slots
-mod Turned
 pub mod Walks
 mod Kept

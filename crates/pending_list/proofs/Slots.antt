@@ -2,15 +2,14 @@
 use Rattle.std.proofs.Common.{◌≡◌, refl, ◌∙◌, sym, ap, ℕ, zero, suc, ◌+◌, ◌≤◌, ◌<◌, Bool, true, false, List, [], ◌∷◌, length, get_or, ltb, arith}
 use Rattle.std.proofs.lemmas.Bool.{false_from_ne_true}
 use Rattle.std.proofs.lemmas.Bool.Decides.{nat_tests}
-use Rattle.std.proofs.lemmas.List.{get_or-map, length-map, get_or_default}
-use Rattle.std.specs.List.Sorted.{IsPartitionedBy, IsPartitionPoint}
+use Rattle.std.proofs.lemmas.List.{get_or_default}
+use Rattle.std.specs.List.Sorted.{IsPartitionPoint}
 use Rattle.game_trait.specs.declared.command.Command.{Command}
 use Rattle.game_trait.specs.declared.command.Act.{Act}
 use Rattle.game_trait.specs.Keys.{before, key_lt, KeysRise}
 use Rattle.game_trait.specs.Count.{times}
 use Rattle.game_trait.proofs.Places.{rising-parted}
-use Rattle.pending_list.specs.Buckets.{placed_commands, AllBefore, NoneBefore}
-use Rattle.pending_list.specs.declared.order.Placed.{Placed}
+use Rattle.pending_list.specs.Buckets.{AllBefore, NoneBefore}
 
 -- where a test parts a list, so many pass it
 pub partition-times :
@@ -27,59 +26,28 @@ partition-times p (x ∷ xs) (suc at) within parted =
     let rest = partition-times p xs at (omega arith) (λ k d low h. parted.0 (suc k) d (omega arith) (omega arith), λ k d low h. parted.1 (suc k) d (omega arith) (omega arith)) in
     rw here (omega arith)
 
-pub commands-times : (q : Command → Bool) (ys : List Placed) → times (λ y. q y.command) ys ≡ times q (placed_commands ys)
-unfolding times
-commands-times q [] = refl
-commands-times q (y ∷ ys) = rw (commands-times q ys) refl
-
--- what parts the commands parts them with their slots
-commands-parted : (q : Command → Bool) (ys : List Placed) → IsPartitionedBy q (placed_commands ys) → IsPartitionedBy (λ y. q y.command) ys
-commands-parted q ys parted i j d upto within h =
-    let at_i = get_or-map (λ (y : Placed). y.command) ys i d d.command (omega arith) in
-    let at_j = get_or-map (λ (y : Placed). y.command) ys j d d.command within in
-    let many = length-map ys (λ (y : Placed). y.command) in
-    ap q (sym at_i) ∙ parted i j d.command upto (omega arith) (ap q at_j ∙ h)
-
--- a place that parts them with their slots parts the commands
-pub point-commands :
-    (q : Command → Bool) (ys : List Placed) (at : ℕ)
-    → IsPartitionPoint (λ y. q y.command ≡ true) (λ y. q y.command ≡ false) ys at → at ≤ length ys
-    → IsPartitionPoint (λ x. q x ≡ true) (λ x. q x ≡ false) (placed_commands ys) at
-point-commands q ys at parted within =
-    let many = length-map ys (λ (y : Placed). y.command) in (
-      λ k d low h.
-          let e : Placed = record { slot = 0; command = d } in
-          ap q (get_or-map (λ (y : Placed). y.command) ys k e d (omega arith)) ∙ parted.0 k e low h,
-      λ k d low h.
-          let e : Placed = record { slot = 0; command = d } in
-          ap q (get_or-map (λ (y : Placed). y.command) ys k e d (omega arith)) ∙ parted.1 k e low (omega arith),
-    )
-
 -- a command stands before the first key of a tick where it is due before that tick
 pub before-first : (t : ℕ) (y : Command) → before y (record { time = t; number = 0; from = 0; player = 0; act = Act.Go }) ≡ ltb y.time t
 unfolding key_lt
 before-first t y = grind (arith, nat_tests)
 
-pub before-parted : (x : Command) (ys : List Placed) → KeysRise (placed_commands ys) → IsPartitionedBy (λ y. before y.command x) ys
-before-parted x ys rises = commands-parted (λ y. before y x) ys (rising-parted x (placed_commands ys) rises)
-
 -- where a command stands before another, so do all in front of it
 pub passed-below :
-    (x : Command) (ys : List Placed) (place : ℕ) (y : Placed) → KeysRise (placed_commands ys)
-    → place < length ys → y ≡ get_or ys place y → before y.command x ≡ true
+    (x : Command) (ys : List Command) (place : ℕ) (y : Command) → KeysRise ys
+    → place < length ys → y ≡ get_or ys place y → before y x ≡ true
     → AllBefore x ys (place + 1)
 passed-below x ys place y rises there at here k d low high =
-    before-parted x ys rises k place d (omega arith) there
-    (ap (λ (z : Placed). before z.command x) (get_or_default ys place d y there ∙ sym at) ∙ here)
+    rising-parted x ys rises k place d (omega arith) there
+    (ap (λ (z : Command). before z x) (get_or_default ys place d y there ∙ sym at) ∙ here)
 
 -- where it doesn't, none behind it does
 pub stopped-from :
-    (x : Command) (ys : List Placed) (place : ℕ) (y : Placed) → KeysRise (placed_commands ys)
-    → place < length ys → y ≡ get_or ys place y → before y.command x ≡ false
+    (x : Command) (ys : List Command) (place : ℕ) (y : Command) → KeysRise ys
+    → place < length ys → y ≡ get_or ys place y → before y x ≡ false
     → NoneBefore x ys place
 stopped-from x ys place y rises there at here k d low high =
-    false_from_ne_true (before (get_or ys k d).command x)
+    false_from_ne_true (before (get_or ys k d) x)
     (λ passed.
-    let front = before-parted x ys rises place k d low high passed in
-    let same = ap (λ (z : Placed). before z.command x) (get_or_default ys place d y there ∙ sym at) in
+    let front = rising-parted x ys rises place k d low high passed in
+    let same = ap (λ (z : Command). before z x) (get_or_default ys place d y there ∙ sym at) in
     cc)

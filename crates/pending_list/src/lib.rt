@@ -3,5 +3,6 @@
 
 mod buckets;
 mod order;
+mod sized;
 
 pub use buckets::Buckets;

@@ -1,11 +1,10 @@
 use Rattle.std.proofs.Common.{◌<◌, ◌≤◌, List, length, ℕ}
 use Rattle.game_trait.specs.declared.command.Command.{Command}
 use Rattle.pending_list.specs.Buckets.{NoneBefore}
-use Rattle.pending_list.specs.declared.order.Placed.{Placed}
 use Rattle.pending_list.proofs.order.stretch_of.Given as goal
 
 -- no place from the last on is passed, and the next step is one
-pub record IsStepping (x : Command) (ys : List Placed) (last step : ℕ) : Type 0 where
+pub record IsStepping (x : Command) (ys : List Command) (last step : ℕ) : Type 0 where
   pub within : last ≤ length ys
   pub stopped : NoneBefore x ys last
   pub some : 0 < step
