@@ -317,7 +317,12 @@ impl Body {
 
     // A line of the body.
     #[tactic(auto, unfolding(tss_io::specs::Machines::take_by, tss_io::specs::Machines::take_whole))]
-    pub(crate) fn take(&mut self, alloc: Global, opening: &Opening, line: &[u8]) -> Result<(), LineFault>
+    pub(crate) fn take(
+        &mut self,
+        alloc: Global,
+        opening: &Opening,
+        line: &[u8],
+    ) -> Result<(), LineFault>
         requires { length opening.now.delays ≤ MOST_COPIES }
         ensures { GivesLine (λ _. self.new) result (take opening.now self.old line.now) }
     {
