@@ -6,6 +6,7 @@
     python3 tools/bench.py PROGRAM --word soak [--runs N]
     python3 tools/bench.py PROGRAM --word race [--text four|eight|largest] [--runs N]
     python3 tools/bench.py PROGRAM --word beside [--runs N]
+    python3 tools/bench.py TSS_MIRROR --word live [--runs N]
     python3 tools/bench.py LOCK_BENCH --word lock [--runs N]
 
 PROGRAM is the built program `tss`. The match has 8,192 ticks and 2,048 to 16,384 commands of one mirror, in a mixed
@@ -35,12 +36,19 @@ With the word `beside` the words of painting, late mirrors, worlds at ticks and 
 the same match, `four` with 8,192 commands. `join` stands beside `play` of one mirror's lines, taken twice. `lossy` has a net of 262,144
 lines over 32,768 commands, and beside it stands `play` of a script with the same arrivals and turns.
 
+TSS_MIRROR is the built program `tss_mirror`. With the word `live` it is fed whole inputs at once: a million requests that change nothing
+(`step`, answered `idle`), a million that are refused, and a `play` of a match of 4 mirrors with four copies, in which three commands of
+other mirrors and one of its own come each tick, up to 100 ticks late, with a turn and a look at copy 0; and a `wide` one of eight
+copies and 32 players with 20 commands a tick. Then it is spoken to over pipes, each request once the one before was answered:
+the `play` once more, and of the `wide` match the time from a turn to the block of the leading copy.
+
 LOCK_BENCH is the built program `lock_bench`. With the word `lock` it makes 3,600,000 calls of a counter, of 1, 2, 4 and 9
 threads together, each with a seat of a turn lock, and then behind a mutex of std; the calls a second are printed.
 """
 
 import argparse
 import os
+import subprocess
 import sys
 import time
 
@@ -256,6 +264,69 @@ def time_beside(program, runs):
               f"  x{least / by / times:.2f}{' of it twice' if times == 2 else ''}")
 
 
+def live_head(mirrors, delays, length, players):
+    lines = ["tss live 1", "tss match 2", f"length {length}", "grid 64 64", f"mirrors {mirrors}", "delays " + " ".join(map(str, delays)), "pace 0"]
+    return lines + [f"player p{i} {2 * i} {i % 2} {'nesw'[i % 4]}" for i in range(players)] + ["end"]
+
+
+def live_requests(mirrors, ticks, players, others):
+    """Requests of a match: each tick so many commands of other mirrors, up to 100 ticks late, one of its own, a turn and a look."""
+    draws, lines = Draws(7), []
+    for tick in range(ticks):
+        for number in range(tick * others, tick * others + others):
+            time_of, sender = max(0, tick - draws.below(101)), 1 + number % (mirrors - 1)
+            act = ("go", "go", "left", "right", "shoot")[draws.below(5)]
+            lines.append(f"cmd {time_of} {sender} {number} {draws.below(players)} {act}")
+        lines += [f"own {draws.below(players)} go", "turn", "world 0"]
+    return lines
+
+
+LIVES = {
+    "play": (live_head(4, (0, 25, 50, 100), 4096, 8), live_requests(4, 4096, 8, 3)),
+    "wide": (live_head(8, (0, 14, 28, 42, 56, 70, 84, 100), 2048, 32), live_requests(8, 1500, 32, 19)),
+}
+
+
+def converse(program, head, requests):
+    """Speaks to a live mirror, each request once the one before was answered; gives the seconds of each."""
+    with subprocess.Popen([program, "0"], stdin=subprocess.PIPE, stdout=subprocess.PIPE, bufsize=0) as mirror:
+        seconds = []
+
+        def ask(text):
+            begun = time.perf_counter()
+            mirror.stdin.write(text)
+            told = b""
+            while not told.endswith(b"\nok\n") and told != b"ok\n":
+                told += os.read(mirror.stdout.fileno(), 65536)
+            seconds.append(time.perf_counter() - begun)
+
+        ask("".join(line + "\n" for line in head).encode())
+        for line in requests:
+            ask(line.encode() + b"\n")
+        mirror.stdin.close()
+        mirror.wait()
+        return seconds[1:]
+
+
+def time_live(program, runs):
+    head = LIVES["play"][0]
+    for name, lines in (
+        ("idle", [*head, *["step 0"] * 1_000_000]), ("refused", [*head, *["step 9"] * 1_000_000]), *((k, [*h, *r]) for k, (h, r) in LIVES.items()),
+    ):
+        text = "".join(line + "\n" for line in lines).encode()
+        made = [run_once(program, ["0"], text) for _ in range(runs)]
+        least = min(seconds for seconds, _ in made)
+        peak = max(memory for _, memory in made)
+        print(f"at once {name:8} {len(lines) - len(head):8} requests  {least * 1000:8.2f} ms  {(len(lines) - len(head)) / least / 1e6:6.2f} million a second  {peak / 1024:6.1f} MiB")
+    head, requests = LIVES["play"]
+    least = min(sum(converse(program, head, requests[:6000])) for _ in range(max(1, runs // 5)))
+    print(f"conversation   6000 requests  {least * 1000:8.2f} ms  {6000 / least:8.0f} a second")
+    head, requests = LIVES["wide"]
+    seconds = converse(program, head, requests)
+    turns = [a + b for a, b, line in zip(seconds[:-1], seconds[1:], requests) if line == "turn"]
+    print(f"wide: a turn with the block of copy 0  {sum(turns) / len(turns) * 1e6:8.1f} us, the longest {max(turns) * 1e6:8.1f} us")
+
+
 def run_once(program, words, text):
     """The wall time in seconds and the peak memory in KiB of one run."""
     read_end, write_end = os.pipe()
@@ -320,7 +391,7 @@ def time_races(program, kind, runs):
 def main():
     parser = argparse.ArgumentParser(description=__doc__, formatter_class=argparse.RawDescriptionHelpFormatter)
     parser.add_argument("program")
-    parser.add_argument("--word", choices=("order", "play", "score", "audit", "soak", "race", "beside", "lock"), default="order")
+    parser.add_argument("--word", choices=("order", "play", "score", "audit", "soak", "race", "beside", "live", "lock"), default="order")
     parser.add_argument("--text", choices=("plain", "script", "late", "copies", "falling", "arena", "large", *HALLS))
     parser.add_argument("--record", help="the file of a record that is audited alone")
     parser.add_argument("--runs", type=int, default=15)
@@ -330,6 +401,9 @@ def main():
     print(f"processor: {processor()}, {os.cpu_count()} cores")
     if given.word == "lock":
         time_locks(program, given.runs)
+        return
+    if given.word == "live":
+        time_live(program, given.runs)
         return
     if given.word == "soak":
         time_soaks(program, given.runs)

@@ -6,7 +6,8 @@
 It begins at the clauses of `run_watched`, `run` and `run_plain` (crates/tss_program/src), looks up each name in the imports of its
 file, and goes on from the definition that it finds, over all crates. It prints a line for each crate, the lowest first: the files of
 its specs/, and the files of its src/ whose types and constants the definitions name. Then it prints what the laws of tss_program
-(src/laws.rt), which take the clause of the calls apart, add to that. With --names it prints what stands in each file.
+(src/laws.rt), which take the clause of the calls apart, add to that, and in the same way what the clauses of `live`
+(crates/tss_mirror/src) and the laws of live_mirror and tss_mirror add. With --names it prints what stands in each file.
 docs/READING.md has the same lists, with what each crate's files say; tools/tests compares the two. With --write it brings the page's
 tables up to date, and keeps what they say of each crate; of a new one that is to be written by hand.
 
@@ -22,6 +23,7 @@ import sys
 
 TOP = os.path.join(os.path.dirname(os.path.abspath(__file__)), "..")
 PAGE = os.path.join(TOP, "docs", "READING.md")
+LIVE_CALLS = [("live.rt", "live", "tss_mirror")]
 CALLS = [("watched.rt", "run_watched"), ("race.rt", "run"), ("plain.rt", "run_plain")]
 WORD = re.compile(r"[^\s(){}\[\],;]+")
 IMPORT = re.compile(r"^\s*(?:ghost )?(?:pub )?use Rattle\.(\w+)\.specs\.([\w.]+?)(?:\.\{([^}]*)\}| as ([\w-]+));?$", re.M)
@@ -227,13 +229,13 @@ def stands_on(item):
     return type_stands_on((crate, path, name))
 
 
-def clauses(path, name):
-    """What the clauses of a function of tss_program cite."""
-    text = rust("tss_program", path)
+def clauses(path, name, crate="tss_program"):
+    """What the clauses of a function of a crate cite."""
+    text = rust(crate, path)
     begin = re.search(rf"^pub fn {name}\b", text, re.M).start()
     head = text[begin : text.index("\n{", begin)]
     said = "\n".join(re.split(r"(?m)^    (?=requires|ensures)", head)[1:])
-    return from_words(words_of(said), imports(text), "tss_program", None)
+    return from_words(words_of(said), imports(text), crate, None)
 
 
 def all_of(items):
@@ -258,12 +260,16 @@ def by_crate(items):
 
 
 def claim():
-    """What the calls say, and what the laws add to it: files that the calls' list doesn't have."""
+    """What the calls say, what the laws add to it, and what live mirrors do: files that the calls' list doesn't have."""
     calls = all_of(item for call in CALLS for item in clauses(*call))
     laws = re.findall(r"^pub fn (\w+)", rust("tss_program", "laws.rt"), re.M)
     told = {item[:3] for item in calls}
     added = all_of(item for law in laws for item in clauses("laws.rt", law)) - calls
-    return by_crate(calls), by_crate([item for item in added if item[:3] not in told])
+    live = all_of(item for of in LIVE_CALLS for item in clauses(*of))
+    for crate in ("live_mirror", "tss_mirror"):
+        live |= all_of(item for law in re.findall(r"^pub fn (\w+)", rust(crate, "laws.rt"), re.M) for item in clauses("laws.rt", law, crate))
+    lists = calls, [item for item in added if item[:3] not in told], [item for item in live if item[:3] not in told]
+    return tuple(by_crate(items) for items in lists)
 
 
 def show(listed, with_names):
@@ -301,13 +307,15 @@ def main():
     if sys.argv[1:] not in ([], ["--names"], ["--write"]):
         print(__doc__.strip())
         return 0 if sys.argv[1:] in (["-h"], ["--help"]) else 2
-    calls, laws = claim()
+    calls, laws, live = claim()
     if sys.argv[1:] == ["--write"]:
-        write([calls, laws])
+        write([calls, laws, live])
         return 0
     show(calls, bool(sys.argv[1:]))
     print("\nThe laws add:")
     show(laws, bool(sys.argv[1:]))
+    print("\nLive mirrors add:")
+    show(live, bool(sys.argv[1:]))
     return 0
 
 

@@ -1,6 +1,7 @@
 """Tests of the tools, by hand: python3 -m unittest discover tools/tests
 
-They run the built program: crates/tss/out/tss, or the one that the variable TSS names.
+They run the built program: crates/tss/out/tss, or the one that the variable TSS names; and crates/tss_mirror/out/tss_mirror, or the
+one that TSS_MIRROR names, where it is built.
 """
 
 import csv
@@ -15,6 +16,7 @@ import unittest
 
 TOP = os.path.join(os.path.dirname(os.path.abspath(__file__)), "..", "..")
 PROGRAM = os.environ.get("TSS", os.path.join(TOP, "crates", "tss", "out", "tss"))
+MIRROR = os.environ.get("TSS_MIRROR", os.path.join(TOP, "crates", "tss_mirror", "out", "tss_mirror"))
 CHROMIUM = shutil.which("chromium") or shutil.which("chromium-browser")
 SAMPLE = os.path.join(TOP, "examples", "lossy_game.csv")
 
@@ -80,6 +82,18 @@ class Failures(unittest.TestCase):
         with open(os.path.join(TOP, "examples", "late.match"), "rb") as match:
             self.assertEqual(self.ended(match, subprocess.DEVNULL), (0, ""))
         self.assertEqual(self.ended(subprocess.DEVNULL, subprocess.DEVNULL), (5, ""))
+
+
+@unittest.skipUnless(os.path.exists(MIRROR), "tss_mirror isn't built")
+class LiveMirrors(unittest.TestCase):
+    def test_drawn_talks_are_answered_as_the_slow_model_says(self):
+        printed, said, status = tool("slow_live.py", MIRROR, "7", "60")
+        self.assertEqual((printed, said, status), ("60 talks of seed 7: no difference\n", "", 0))
+
+    def test_failures_are_told(self):
+        with open("/dev/full", "wb") as full:
+            done = subprocess.run([MIRROR], stdin=subprocess.DEVNULL, stdout=full, stderr=subprocess.PIPE)
+        self.assertEqual((done.returncode, done.stderr), (4, b"tss_mirror: writing standard output failed\n"))
 
 
 class Helps(unittest.TestCase):
@@ -232,11 +246,13 @@ class Claims(unittest.TestCase):
     def test_the_page_lists_what_the_clauses_cite(self):
         printed, said, status = tool("claim.py")
         self.assertEqual((said, status), ("", 0))
-        calls, laws = printed.split("\nThe laws add:\n")
+        calls, behind = printed.split("\nThe laws add:\n")
+        laws, live = behind.split("\nLive mirrors add:\n")
         page = read(os.path.join(TOP, "docs", "READING.md")).split("## What to read to believe the headline")[1]
         tables = page.split("| Crate |")[1:]
         self.assertEqual(self.rows(tables[0]), self.listed(calls))
         self.assertEqual(self.rows(tables[1]), self.listed(laws))
+        self.assertEqual(self.rows(tables[2]), self.listed(live))
 
 
 @unittest.skipUnless(CHROMIUM, "Chromium isn't installed")
