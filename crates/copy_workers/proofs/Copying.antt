@@ -1,5 +1,5 @@
 -- The turns of a copy's worker, draft by draft.
-use Rattle.std.proofs.Common.{◌≡◌, ℕ, zero, suc, ◌+◌, ◌<◌, ◌≤◌, ◌⊎◌, inl, inr, cond, List, [], ◌∷◌, ◌++◌, length, refl, ap, sym, subst, ◌∙◌, append_assoc, append-nil, arith, length-append}
+use Rattle.std.proofs.Common.{◌≡◌, ℕ, zero, suc, ◌+◌, ◌*◌, ◌<◌, ◌≤◌, ◌⊎◌, inl, inr, cond, List, [], ◌∷◌, ◌++◌, length, refl, ap, sym, subst, ◌∙◌, append_assoc, append-nil, arith, length-append}
 use Rattle.std.specs.Prelude.{flat_map, replicate}
 use Rattle.std.proofs.lemmas.List.{length-replicate}
 use Rattle.std.proofs.lemmas.Grind.{flat_map-append}
@@ -136,9 +136,9 @@ runs_on-turns c length count n turn (inl one) below = subst (λ (k : ℕ). RunsO
 runs_on-turns c length count n turn (inr none) below = subst (λ (t : CopyTurn). RunsOn c length count (replicate n t)) (sym none) (runs_on-idle c length count n below)
 
 -- before the first turn
-pub works-start : (job : CopyJob) (asked : List Asked) (trail : List TrailMark) → Works job (record { ran = 0; turns = 0 }) asked asked trail trail
+pub works-start : (job : CopyJob) (calls : ℕ) (asked : List Asked) (trail : List TrailMark) → Works job (record { ran = 0; turns = 0 }) calls calls asked asked trail trail
 unfolding RunsOn times
-works-start job asked trail =
+works-start job calls asked trail =
     record {
       turns = [];
       count = refl;
@@ -148,6 +148,7 @@ works-start job asked trail =
       going = tt;
       within = omega arith;
       most = omega arith;
+      often = omega arith;
     }
 
 -- behind more lists
@@ -177,10 +178,10 @@ turns-most c count ran asked now trail trail_now are = by are.turn are.several a
 
 -- after more turns
 pub works-more :
-    (job : CopyJob) (end : CopyEnd) (count ran : ℕ) (asked now next : List Asked) (trail trail_now trail_next : List TrailMark)
-    → Works job end asked now trail trail_now → AreTurns job.copy count ran now next trail_now trail_next → end.ran < job.length → end.turns + count ≤ job.budget
-    → Works job (record { ran = end.ran + ran; turns = end.turns + count }) asked next trail trail_next
-works-more job end count ran asked now next trail trail_now trail_next works are below within =
+    (job : CopyJob) (end : CopyEnd) (count ran calls calls_now calls_next : ℕ) (asked now next : List Asked) (trail trail_now trail_next : List TrailMark)
+    → Works job end calls calls_now asked now trail trail_now → AreTurns job.copy count ran now next trail_now trail_next → end.ran < job.length → end.turns + count ≤ job.budget
+    → count + 64 * calls_next ≤ 64 * calls_now → Works job (record { ran = end.ran + ran; turns = end.turns + count }) calls calls_next asked next trail trail_next
+works-more job end count ran calls calls_now calls_next asked now next trail trail_now trail_next works are below within few =
     let f = asked_of job.copy in
     let turns = works.turns in
     let more : List CopyTurn = replicate count are.turn in
@@ -199,4 +200,5 @@ works-more job end count ran asked now next trail trail_now trail_next works are
           (runs_on-turns job.copy job.length (0 + runs_in (flat_map f turns)) count are.turn are.several (omega arith));
       within = within;
       most = (let a = turns-most job.copy count ran now next trail_now trail_next are in omega arith);
+      often = (let a = works.often in omega arith);
     }

@@ -1,5 +1,5 @@
 -- What the worker of a copy promises: what it asks turn by turn, and where it ends.
-use Rattle.std.specs.Prelude.{◌≡◌, ℕ, ◌+◌, ◌<◌, ◌≤◌, ◌⊎◌, Bool, true, false, List, [], ◌∷◌, ◌++◌, length, flat_map, replicate}
+use Rattle.std.specs.Prelude.{◌≡◌, ℕ, ◌+◌, ◌*◌, ◌<◌, ◌≤◌, ◌⊎◌, Bool, true, false, List, [], ◌∷◌, ◌++◌, length, flat_map, replicate}
 use Rattle.game_trait.specs.Count.{times}
 use Rattle.game_trait.specs.declared.event.Event.TheVariants.{Step}
 use Rattle.game_trait.specs.declared.event.Reply.{Reply}
@@ -62,9 +62,9 @@ RunsOn c length count [] = Unit {0}
 RunsOn c length count (turn ∷ rest) =
     (count < length) × RunsOn c length (count + runs_in (asked_of c turn)) rest
 
--- what the worker did so far
-pub record Works (job : CopyJob) (end : CopyEnd) (asked asked_now : List Asked)
-    (trail trail_now : List TrailMark) : Type 0 where
+-- what the worker did so far, for which its post's calls were so many before and are so many now
+pub record Works (job : CopyJob) (end : CopyEnd) (calls calls_now : ℕ)
+    (asked asked_now : List Asked) (trail trail_now : List TrailMark) : Type 0 where
   -- what became of each turn
   pub turns : List CopyTurn
   pub count : end.turns ≡ length turns
@@ -77,10 +77,12 @@ pub record Works (job : CopyJob) (end : CopyEnd) (asked asked_now : List Asked)
   pub going : RunsOn job.copy job.length 0 turns
   pub within : end.turns ≤ job.budget
   pub most : end.ran ≤ job.length
+  -- one call stands for 64 turns at most
+  pub often : end.turns + 64 * calls_now ≤ 64 * calls
 
 -- what the worker of a copy does: it ends exactly where the copy has run all ticks or the budget is
 -- spent
-pub record CopyEnds (job : CopyJob) (end : CopyEnd) (asked asked_now : List Asked)
-    (trail trail_now : List TrailMark) : Type 0 where
-  pub works : Works job end asked asked_now trail trail_now
+pub record CopyEnds (job : CopyJob) (end : CopyEnd) (calls calls_now : ℕ)
+    (asked asked_now : List Asked) (trail trail_now : List TrailMark) : Type 0 where
+  pub works : Works job end calls calls_now asked asked_now trail trail_now
   pub ends : (end.ran ≡ job.length) ⊎ (end.turns ≡ job.budget)

@@ -95,9 +95,8 @@ fn pass_all<Q: Gate>(gate: &Q, job: CopyJob, turns: Range<u64>) {
 pub fn run_copy<G: Game, P: DraftPost<G>, Q: Gate>(post: &mut P, gate: &Q, job: CopyJob) -> CopyEnd
     requires takes { P.takes post.old (Step job.copy) }
     requires calls { 2 * job.budget ≤ P.calls post.old }
-    ensures ends { CopyEnds job result (P.asked post.old) (P.asked post.new)
-        (P.trail post.old) (P.trail post.new) }
-    ensures often { result.turns + 64 * P.calls post.new ≤ 64 * P.calls post.old }
+    ensures ends { CopyEnds job result (P.calls post.old) (P.calls post.new)
+        (P.asked post.old) (P.asked post.new) (P.trail post.old) (P.trail post.new) }
     ensures same { (p : P) → P.same p post.old → P.same p post.new }
 {
     let mut end = CopyEnd { ran: 0, turns: 0 };

@@ -1,7 +1,7 @@
 //! What the ends of a race's workers come to, so that none can be read more weakly. Each is the
 //! contract of a function without parameters that does nothing.
 
-ghost use Rattle.std.specs.Prelude.{◌≡◌, ◌<◌, ◌≤◌, ◌+◌, ◌-◌, ◌++◌, ◌∷◌, ℕ, List, [], length, flat_map, min, slice_get, Some};
+ghost use Rattle.std.specs.Prelude.{◌≡◌, ◌<◌, ◌≤◌, ◌+◌, ◌-◌, ◌*◌, ◌++◌, ◌∷◌, ℕ, List, [], length, flat_map, min, slice_get, Some};
 ghost use Rattle.link_ring.specs.declared.receive.LinkReceive.{LinkReceive};
 ghost use Rattle.link_ring.specs.declared.message.Message.{Message};
 ghost use Rattle.link_ring.specs.Ends.{received_of, waiting_of, misses_of};
@@ -21,20 +21,25 @@ ghost use Rattle.copy_workers.specs.Feeding.{joined};
 ghost use Rattle.copy_workers.specs.Fed.{FeederEnds, least_last, misses_between};
 
 /// The worker of a copy ends no earlier than where the copy has run all ticks or the budget is spent,
-/// and no later: each turn began with fewer ticks run than the match has.
+/// and no later: each turn began with fewer ticks run than the match has. One call of its post stands
+/// for 64 turns at most.
 pub fn a_copy_worker_ends_where_it_is_done()
-    ensures early { (job : CopyJob) (end : CopyEnd) (asked asked_now : List Asked)
-        (trail trail_now : List TrailMark)
-        → CopyEnds job end asked asked_now trail trail_now
+    ensures early { (job : CopyJob) (end : CopyEnd) (calls calls_now : ℕ)
+        (asked asked_now : List Asked) (trail trail_now : List TrailMark)
+        → CopyEnds job end calls calls_now asked asked_now trail trail_now
         → end.turns < job.budget → end.ran < job.length → ⊥ }
-    ensures late { (job : CopyJob) (end : CopyEnd) (asked asked_now : List Asked)
-        (trail trail_now : List TrailMark)
-        (h : CopyEnds job end asked asked_now trail trail_now)
+    ensures late { (job : CopyJob) (end : CopyEnd) (calls calls_now : ℕ)
+        (asked asked_now : List Asked) (trail trail_now : List TrailMark)
+        (h : CopyEnds job end calls calls_now asked asked_now trail trail_now)
         (front rest : List CopyTurn) (turn : CopyTurn) → h.works.turns ≡ front ++ turn ∷ rest
         → runs_in (flat_map (asked_of job.copy) front) < job.length }
-    ensures within { (job : CopyJob) (end : CopyEnd) (asked asked_now : List Asked)
-        (trail trail_now : List TrailMark)
-        (h : CopyEnds job end asked asked_now trail trail_now)
+    ensures often { (job : CopyJob) (end : CopyEnd) (calls calls_now : ℕ)
+        (asked asked_now : List Asked) (trail trail_now : List TrailMark)
+        → CopyEnds job end calls calls_now asked asked_now trail trail_now
+        → end.turns + 64 * calls_now ≤ 64 * calls }
+    ensures within { (job : CopyJob) (end : CopyEnd) (calls calls_now : ℕ)
+        (asked asked_now : List Asked) (trail trail_now : List TrailMark)
+        (h : CopyEnds job end calls calls_now asked asked_now trail trail_now)
         → (end.turns ≡ length h.works.turns) × (end.turns ≤ job.budget)
         × (trail_now ≡ trail ++ flat_map (marks_of job.copy) h.works.turns)
         × (asked_now ≡ asked ++ flat_map (asked_of job.copy) h.works.turns)

@@ -6,7 +6,7 @@ use crate::draft_post::DraftPost;
 use crate::post::Post;
 use game_trait::Game;
 
-// The most naps between two turns of a copy's worker.
+// The most naps before a turn of a copy's worker, behind which it may take one more.
 const MOST_WAITS: u32 = 64;
 
 // How many naps of a worker its rests may have in all.
@@ -17,8 +17,9 @@ const AT_ONCE: u64 = 64;
 
 /// How a worker rests that finds nothing to do: by naps, in which it sleeps, so that others have
 /// the processor and the lock. One that napped for so long in a row as its post finds worth while,
-/// or so long in all, hurries: it naps no more, and makes many turns one after the other as long as
-/// nothing comes, so that it is soon done with them. A copy's worker makes them by one call.
+/// or so long in all, hurries: it makes many turns one after the other as long as nothing comes, so
+/// that it is soon done with them. A copy's worker makes them by one call. One that finds something
+/// to do begins a new row of naps; those that are left in all aren't given back.
 #[derive(Clone, Copy)]
 pub struct Rest {
     // Who rests: a copy, or the feeder, whose number is that of copies.

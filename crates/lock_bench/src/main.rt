@@ -1,6 +1,7 @@
 //! Calls of a counter by so many threads, each with a seat of a turn lock, or behind std's mutex.
-//! It measures alone: `turn` or `mutex`, how many threads, and how many calls each of them makes.
-//! What it prints is the same whatever the schedule.
+//! It measures alone: `turn` or `mutex`, how many threads, how many calls each of them makes, and
+//! further pairs of these. What it prints is the same whatever the schedule: a line for each pair, the
+//! count before the last call.
 #![tactic(auto)]
 
 ghost use Rattle.std.specs.Prelude.{◌≡◌, ◌<◌, ◌≤◌, ◌^◌, length};
@@ -138,19 +139,30 @@ fn by_mutex<R: Threads + Wait + Sync>(
     replies.iter().max().copied()
 }
 
+// The number that a word is, or another where it is none.
+fn number_of(words: &[String], place: usize, other: u32) -> u32 {
+    words
+        .get(place)
+        .and_then(|w| w.parse::<u32>().ok())
+        .unwrap_or(other)
+}
+
 fn main(rt: HostRuntime) -> io::Result<()> {
     let words: Vec<String> = env::args(&rt)?.collect(rt.alloc())?;
-    let threads = words
-        .get(2)
-        .and_then(|w| w.parse::<usize>().ok())
-        .unwrap_or(2);
-    let calls = words
-        .get(3)
-        .and_then(|w| w.parse::<u32>().ok())
-        .unwrap_or(1000);
-    let last = match words.get(1) {
-        Some(word) if word.as_str() == "mutex" => by_mutex(&rt, rt.alloc(), threads, calls),
-        _ => by_turns(&rt, rt.alloc(), threads, calls),
+    let is_mutex = match words.get(1) {
+        Some(word) => word.as_str() == "mutex",
+        None => false,
     };
-    println!(rt; "{}", last.unwrap_or(0))
+    let pairs = words.len().saturating_sub(2) / 2;
+    for pair in 0..pairs.max(1) {
+        let threads = number_of(&words, 2 * pair + 2, 2);
+        let calls = number_of(&words, 2 * pair + 3, 1000);
+        let last = if is_mutex {
+            by_mutex(&rt, rt.alloc(), threads as usize, calls)
+        } else {
+            by_turns(&rt, rt.alloc(), threads as usize, calls)
+        };
+        println!(rt; "{}", last.unwrap_or(0))?;
+    }
+    Ok(())
 }

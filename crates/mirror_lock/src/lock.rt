@@ -92,7 +92,7 @@ impl<G: Game> MirrorLock<G> {
     /// name a copy that is there; no seat puts another plan in force. The answer is the mirror's at
     /// that point of one history, of which the seat has then seen a front that ends with this
     /// event. It uses up one call of the seat's share, and an arrival one growing call. While it
-    /// waits, it pauses between two looks, or yields the processor. It takes no memory.
+    /// waits, it pauses between two looks, and naps every so often. It takes no memory.
     pub fn ask<W: Wait>(&self, rt: &W, seat: &mut MirrorSeat<G>, event: &Event) -> Reply
         requires own { seat_name seat.old.seat ≡ lock_name self.now.lock }
         requires fits { FitsSeat (mirror_rules G.rules) (view seat.old.seat) (AskEvent event.now) }
@@ -176,6 +176,7 @@ impl<G: Game> MirrorLock<G> {
     )
         requires own { seat_name seat.old.seat ≡ lock_name self.now.lock }
         requires fits { FitsSeat (mirror_rules G.rules) (view seat.old.seat) (AskDraft copy times) }
+        requires some { 0 < times }
         requires calls { 0 < seat.old.calls }
         ensures own { seat_name seat.new.seat ≡ seat_name seat.old.seat }
         ensures called { IsCall (mirror_rules G.rules) (view seat.old.seat) (AskDraft copy times)

@@ -18,9 +18,9 @@ steps-alone c (stale ∷ rest) = steps-alone c rest
 
 -- where nothing was asked before
 pub copy-steps :
-    (job : CopyJob) (end : CopyEnd) (asked now : List Asked) (trail trail_now : List TrailMark)
-    → CopyEnds job end asked now trail trail_now → asked ≡ [] → AllByRecursion (λ p. IsStepping p.event) now
-copy-steps job end asked now trail trail_now ends none =
+    (job : CopyJob) (end : CopyEnd) (calls left : ℕ) (asked now : List Asked) (trail trail_now : List TrailMark)
+    → CopyEnds job end calls left asked now trail trail_now → asked ≡ [] → AllByRecursion (λ p. IsStepping p.event) now
+copy-steps job end calls left asked now trail trail_now ends none =
     subst (AllByRecursion (λ p. IsStepping p.event))
     (sym (ends.works.asks ∙ ap (λ (l : List Asked). l ++ flat_map (asked_of job.copy) ends.works.turns) none))
     (steps-alone job.copy ends.works.turns)

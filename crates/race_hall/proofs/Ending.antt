@@ -196,12 +196,12 @@ module _ {T S W : Type 0} (game : GameRules W) (seat_of : T → Seat S (View (Mi
       (by_mirror-all (λ k y z crew. IsCrew seat_of game z.copies k (name y) z crew × Other k y z crew) (CanDo game seat_of (map name locks)) name locks [] locks feeders jobs 0
       (λ i y z piece at is. crew-can z.copies i (name y) (map name locks) z piece at is.0) refl refl h)
 
-  done-asks : (copies i : ℕ) (feeder : FeederJob) (work : Work) (end : WorkEnd) (asked : List Asked) (trail : List TrailMark) → IsWorkOf copies feeder i work → WorkEnds work end asked trail
+  done-asks : (copies i : ℕ) (feeder : FeederJob) (work : Work) (end : WorkEnd) (calls left : ℕ) (asked : List Asked) (trail : List TrailMark) → IsWorkOf copies feeder i work → WorkEnds work end calls left asked trail
       → (i ≢ copies → AllByRecursion (λ p. IsStepping p.event) asked) × (i ≡ copies → (f : FeederEnd) × (feeder_in end ≡ Some f) × FeederEnds feeder f [] asked)
-  done-asks copies i feeder (Copy job) (Copied end) asked trail is ends = ((λ differ. copy-steps job end [] asked [] trail ends refl), (λ same. absurd (is.0 same)))
-  done-asks copies i feeder (Copy job) (Fed end) asked trail is ends = absurd ends
-  done-asks copies i feeder (Feeder job) (Copied end) asked trail is ends = absurd ends
-  done-asks copies i feeder (Feeder job) (Fed end) asked trail is ends =
+  done-asks copies i feeder (Copy job) (Copied end) calls left asked trail is ends = ((λ differ. copy-steps job end calls left [] asked [] trail ends refl), (λ same. absurd (is.0 same)))
+  done-asks copies i feeder (Copy job) (Fed end) calls left asked trail is ends = absurd ends
+  done-asks copies i feeder (Feeder job) (Copied end) calls left asked trail is ends = absurd ends
+  done-asks copies i feeder (Feeder job) (Fed end) calls left asked trail is ends =
       ((λ differ. absurd (differ is.0)), (λ same. (end, refl, subst (λ (j : FeederJob). FeederEnds j end [] asked) is.1 ends)))
 
   -- a crew's jobs were done
@@ -211,7 +211,7 @@ module _ {T S W : Type 0} (game : GameRules W) (seat_of : T → Seat S (View (Mi
       subst (λ (n : ℕ). IsCrewDone seat_of n name feeder ends) same
       (zip-through (IsManned seat_of game copies k name feeder) (Ends seat_of) (IsDone seat_of copies name feeder) (count_from 0 (copies + 1)) crew ends
       (λ i job end m e.
-      let asks = done-asks copies i feeder job.work end.end (asked_by (view (seat_of end.seat))) (trail_by (view (seat_of end.seat))) m.work e.work in
+      let asks = done-asks copies i feeder job.work end.end (view (seat_of job.seat)).calls (view (seat_of end.seat)).calls (asked_by (view (seat_of end.seat))) (trail_by (view (seat_of end.seat))) m.work e.work in
       record {
         table = e.seat.table ∙ m.table;
         number = e.seat.number ∙ m.number;

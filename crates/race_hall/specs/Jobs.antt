@@ -1,5 +1,5 @@
 -- The jobs of a race: what each is given, when it may be done, and what it gives back.
-use Rattle.std.specs.Prelude.{◌≡◌, ◌+◌, ◌*◌, ◌<◌, ◌≤◌, ◌^◌, Option, None, Some, List, [], length, slice_get}
+use Rattle.std.specs.Prelude.{◌≡◌, ℕ, ◌+◌, ◌*◌, ◌<◌, ◌≤◌, ◌^◌, Option, None, Some, List, [], length, slice_get}
 use Rattle.std.specs.List.{AllByRecursion}
 use Rattle.atomic_table.specs.Seated.{TableId}
 use Rattle.atomic_table.specs.declared.shared.Seat.{Seat}
@@ -70,20 +70,21 @@ abbrev pub feeder_in : WorkEnd → Option FeederEnd
 feeder_in (Copied end) = None
 feeder_in (Fed end) = Some end
 
--- the work ended so, and asked this with this trail: as a copy's worker ends, or as a feeder ends
-abbrev pub WorkEnds : Work → WorkEnd → List Asked → List TrailMark → Type 0
-WorkEnds (Copy job) (Copied end) asked trail = CopyEnds job end [] asked [] trail
-WorkEnds (Copy job) (Fed end) asked trail = ⊥
-WorkEnds (Feeder job) (Copied end) asked trail = ⊥
-WorkEnds (Feeder job) (Fed end) asked trail = FeederEnds job end [] asked
+-- the work ended so, with so many calls left of those that it had, and asked this with this trail: as
+-- a copy's worker ends, or as a feeder ends
+abbrev pub WorkEnds : Work → WorkEnd → ℕ → ℕ → List Asked → List TrailMark → Type 0
+WorkEnds (Copy job) (Copied end) calls left asked trail = CopyEnds job end calls left [] asked [] trail
+WorkEnds (Copy job) (Fed end) calls left asked trail = ⊥
+WorkEnds (Feeder job) (Copied end) calls left asked trail = ⊥
+WorkEnds (Feeder job) (Fed end) calls left asked trail = FeederEnds job end [] asked
 
 -- a job and its end
 pub record Ends {T S W : Type 0}
     (seat_of : T → Seat S (View (MirrorState W) (LockCall W) (LockReply W))) (job : JobOver T)
     (end : EndOver T) : Type 0 where
-  pub mirror : end.mirror ≡ job.mirror
   pub seat : SameSeat (seat_of job.seat) (seat_of end.seat)
-  pub work : WorkEnds job.work end.end (asked_by (view (seat_of end.seat)))
+  pub work : WorkEnds job.work end.end (view (seat_of job.seat)).calls
+      (view (seat_of end.seat)).calls (asked_by (view (seat_of end.seat)))
       (trail_by (view (seat_of end.seat)))
 
 -- a job may be done where the locks have these names: its seat is one of its mirror's lock

@@ -233,11 +233,7 @@ fn take_crew<T: Drop>(
 {
     let mut given = None;
     for _ in 0..count {
-        let EndOver {
-            mirror: _,
-            seat,
-            end,
-        } = ends.remove(0);
+        let EndOver { seat, end } = ends.remove(0);
         seats.push_reserved(seat);
         given = end.into_feeder();
     }

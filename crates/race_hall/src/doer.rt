@@ -80,8 +80,6 @@ pub struct JobOver<T> {
 /// What a job gives back.
 #[derive(Drop)]
 pub struct EndOver<T> {
-    /// The mirror of the job.
-    pub mirror: MirrorId,
     /// The seat of the job.
     pub seat: T,
     /// What its work gives back.
@@ -122,7 +120,8 @@ fn copy_over<R: Wait, G: Game, P: Gate>(
     requires own { seat_name seat.seat ≡ lock_name lock.now.lock }
     requires can { CanCopy G.rules job seat.seat }
     ensures same { SameSeat seat.seat result.0.seat }
-    ensures ran { CopyEnds job result.1 [] (asked_by (view result.0.seat))
+    ensures ran { CopyEnds job result.1 (view seat.seat).calls (view result.0.seat).calls
+        [] (asked_by (view result.0.seat))
         [] (trail_by (view result.0.seat)) }
 {
     let mut post = PostOver::new(rt, lock, notes, seat, Slips::new());
@@ -146,12 +145,15 @@ pub fn do_job<R: Wait, G: Game, P: Gate>(
     requires can { CanWork G.rules job.work job.seat.seat }
     ensures { Ends (λ s. s.seat) job result }
 {
-    let JobOver { mirror, seat, work } = job;
+    let JobOver {
+        mirror: _,
+        seat,
+        work,
+    } = job;
     match work {
         Work::Copy(job) => {
             let (seat, end) = copy_over(rt, gate, lock, notes, seat, job);
             EndOver {
-                mirror,
                 seat,
                 end: WorkEnd::Copy(end),
             }
@@ -159,7 +161,6 @@ pub fn do_job<R: Wait, G: Game, P: Gate>(
         Work::Feeder(job) => {
             let (seat, end) = feed_over(rt, gate, lock, notes, seat, job);
             EndOver {
-                mirror,
                 seat,
                 end: WorkEnd::Feeder(end),
             }

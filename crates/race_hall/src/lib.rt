@@ -13,7 +13,7 @@ mod finish;
 mod laws;
 mod links;
 mod racing;
-mod threads;
+pub mod threads;
 
 pub use laws::{
     nothing_is_late, race_ends, raced_mirrors_have_every_command, what_is_left_is_taken,

@@ -2,6 +2,7 @@
 //! proved together with the whole crate once more.
 
 mod arenas;
+mod calls;
 mod commands;
 mod copies;
 mod deferred;
@@ -20,4 +21,5 @@ mod stage;
 mod streams;
 mod tables;
 mod watchers;
+mod worked;
 mod workers;

@@ -54,6 +54,15 @@ const PLANS: Limit = Limit {
     refused: "refused line 14 cause 7 many\n",
 };
 
+const PICKUPS: Limit = Limit {
+    name: "pickups",
+    line: &["pickup ", " 1 gold\n"],
+    most: 32,
+    past: &["pickup ", " 1 gold\n"],
+    refused: "refused line 39 cause 7 many\n",
+    ..PLANS
+};
+
 const PLAYERS: Limit = Limit {
     name: "players",
     line: &["player p", " ", " 0 e\n"],
@@ -85,6 +94,16 @@ const COMMAND: Limit = Limit {
     ..COMMANDS
 };
 
+const SCRIPT_LINES: Limit = Limit {
+    name: "script lines",
+    front: WITH_SCRIPT,
+    line: &["tick 0\n"],
+    most: 262_144,
+    past: &["tick 0\n"],
+    refused: "refused line 262153 cause 7 many\n",
+    ..COMMANDS
+};
+
 const NAME: Limit = Limit {
     name: "a name",
     front: HEAD,
@@ -96,14 +115,7 @@ const NAME: Limit = Limit {
 
 const LIMITS: [Limit; 23] = [
     PLANS,
-    Limit {
-        name: "pickups",
-        line: &["pickup ", " 1 gold\n"],
-        most: 32,
-        past: &["pickup ", " 1 gold\n"],
-        refused: "refused line 39 cause 7 many\n",
-        ..PLANS
-    },
+    PICKUPS,
     PLAYERS,
     Limit {
         name: "players of version 2",
@@ -120,15 +132,7 @@ const LIMITS: [Limit; 23] = [
         refused: "refused line 32776 cause 7 many\n",
         ..COMMANDS
     },
-    Limit {
-        name: "script lines",
-        front: WITH_SCRIPT,
-        line: &["tick 0\n"],
-        most: 262_144,
-        past: &["tick 0\n"],
-        refused: "refused line 262153 cause 7 many\n",
-        ..COMMANDS
-    },
+    SCRIPT_LINES,
     Limit {
         name: "lines that show",
         front: WITH_SCRIPT,
@@ -254,6 +258,30 @@ const LIMITS: [Limit; 23] = [
     },
 ];
 
+// As many lines as there may be, and one more whose number isn't canonical: it is one too many.
+const TOO_MANY: [Limit; 4] = [
+    Limit {
+        more: 0,
+        back: "pickup 00 1 gold\nend\n",
+        ..PICKUPS
+    },
+    Limit {
+        more: 0,
+        back: "player q 00 1 e\nend\n",
+        ..PLAYERS
+    },
+    Limit {
+        more: 0,
+        back: "cmd 00 0 0 0 go\nend\n",
+        ..COMMANDS
+    },
+    Limit {
+        more: 0,
+        back: "tick 00\nend\n",
+        ..SCRIPT_LINES
+    },
+];
+
 // Appends a line with this number between its parts.
 fn push_line(rt: &impl Abort, alloc: Global, out: &mut String, line: &[&str], number: u32) {
     let number = format!(in alloc; "{number}").expect(rt, "memory");
@@ -311,6 +339,9 @@ fn assert_refused<R: Threads + Wait + Sync + Abort>(rt: &R, alloc: Global, limit
 fn so_much_and_no_more(rt: HostRuntime) {
     for limit in &LIMITS {
         assert_read(&rt, rt.alloc(), limit);
+        assert_refused(&rt, rt.alloc(), limit);
+    }
+    for limit in &TOO_MANY {
         assert_refused(&rt, rt.alloc(), limit);
     }
 }

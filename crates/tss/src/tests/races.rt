@@ -13,6 +13,7 @@ use std::process::Abort;
 use std::sync::Wait;
 use std::sync::atomic::{AtomicU64, Ordering};
 use std::thread::{self, Threads};
+use std::time::{Clock, Duration};
 use tss_race::record_of;
 
 // Two mirrors of two copies, whose players both want the cell between them.
@@ -316,6 +317,37 @@ fn assert_budget<R: Threads + Wait + Sync + Abort>(rt: &R, alloc: Global, row: &
     assert_worlds(rt, row.name, record.as_str(), TIES_WORLD, 4);
 }
 
+// Two mirrors, each with a command of tick 0 and one of tick 1.
+const OWN_TWO: &str = "tss match 1\n\
+    length 4\n\
+    grid 3 1\n\
+    mirrors 2\n\
+    delays 0 2\n\
+    pace 2\n\
+    player ann 0 0 e\n\
+    player bob 2 0 w\n\
+    cmd 0 0 0 0 left\n\
+    cmd 0 1 0 1 left\n\
+    cmd 1 0 1 0 left\n\
+    cmd 1 1 1 1 left\n\
+    end\n";
+
+// The caller does all jobs, with one turn each: a feeder issues its command of tick 0. Mirror 1's
+// finds mirror 0's in its link; mirror 0 is delivered mirror 1's from its link first, and then what
+// was never issued, mirror 0's before mirror 1's.
+#[test]
+fn what_is_left_in_links_comes_first(rt: HostRuntime) {
+    let (record, logs) = raced(&rt, rt.alloc(), OWN_TWO, &counting(), 1, ALL_JOBS);
+    assert_lines(
+        &rt,
+        "one turn each",
+        logs.as_str(),
+        "0.0 t 1.0 0.1 1.1 t s0 t s0 s1 t s0 s1 t s0 s1 t s1\n\
+        1.0 0.0 t 0.1 1.1 t s0 t s0 s1 t s0 s1 t s0 s1 t s1\n",
+    );
+    assert_legal(&rt, rt.alloc(), "one turn each", record.as_str());
+}
+
 #[test]
 fn races_with_small_budgets(rt: HostRuntime) {
     for row in &BUDGETS {
@@ -359,6 +391,94 @@ fn each_job_of_a_race_makes_its_turns(rt: HostRuntime) {
     for _ in 0..20 {
         assert_race(&rt, rt.alloc());
     }
+}
+
+// A gate at which mirror 1's feeder waits before its first turn until mirror 0's has begun its 448th.
+// That one is held at clock 2, and has to make all its turns.
+#[derive(Drop)]
+struct HeldFeeder {
+    begun: AtomicU64,
+    missed: AtomicU64,
+}
+
+impl Gate for HeldFeeder {
+    fn pass(&self, mirror: u8, worker: u8, turn: u64) {
+        if (mirror, worker) == (0, 2) {
+            self.begun.fetch_add(1, Ordering::SeqCst);
+        }
+        if (mirror, worker, turn) != (1, 2, 0) {
+            return;
+        }
+        for _ in 0..200_000_000_u32 {
+            if self.begun.load(Ordering::SeqCst) >= 448 {
+                return;
+            }
+            thread::yield_now();
+        }
+        self.missed.store(1, Ordering::SeqCst);
+    }
+}
+
+#[test]
+fn a_race_uses_its_budget(rt: HostRuntime) {
+    let gate = HeldFeeder {
+        begun: AtomicU64::new(0),
+        missed: AtomicU64::new(0),
+    };
+    let record = ties_raced(&rt, rt.alloc(), &gate);
+    let turns = (
+        gate.begun.load(Ordering::SeqCst),
+        gate.missed.load(Ordering::SeqCst),
+    );
+    assert_eq!(rt; turns, (448, 0), "the turns of a feeder that is held");
+    assert_legal(&rt, rt.alloc(), "a feeder is held", record.as_str());
+}
+
+// Two mirrors of two copies, with 6,656 turns for each job.
+const LONG: &str = "tss match 1\n\
+    length 100\n\
+    grid 3 1\n\
+    mirrors 2\n\
+    delays 0 3\n\
+    pace 3\n\
+    player ann 0 0 e\n\
+    player bob 2 0 w\n\
+    cmd 0 0 0 0 go\n\
+    cmd 50 1 0 1 left\n\
+    cmd 60 0 1 0 right\n\
+    cmd 99 1 1 1 right\n\
+    end\n";
+
+// A gate that holds mirror 1's feeder for a second at a turn, and counts.
+#[derive(Drop)]
+struct HeldLong<'a, R> {
+    clock: &'a R,
+    counts: Counts,
+}
+
+impl<'a, R: Clock> Gate for HeldLong<'a, R> {
+    fn pass(&self, mirror: u8, worker: u8, turn: u64) {
+        self.counts.pass(mirror, worker, turn);
+        if (mirror, worker, turn) == (1, 2, 3) {
+            thread::sleep(self.clock, Duration::from_secs(1));
+        }
+    }
+}
+
+// While one is held up, the others don't spend their turns: all jobs are done with turns left, so the
+// threads have exchanged all commands and run all ticks.
+#[test]
+fn others_wait_for_one_that_is_held_up(rt: HostRuntime) {
+    let gate = HeldLong {
+        clock: &rt,
+        counts: counting(),
+    };
+    let (record, _) = raced(&rt, rt.alloc(), LONG, &gate, 6_656, 0);
+    for job in 0..6usize {
+        let turns = gate.counts.passes[job].load(Ordering::SeqCst);
+        assert!(rt; turns < 6_656, "job {job} has spent its turns");
+    }
+    assert_legal(&rt, rt.alloc(), "one is held up", record.as_str());
 }
 
 // A gate that yields at turns that follow from a seed.

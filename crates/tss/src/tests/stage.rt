@@ -2,4 +2,5 @@
 
 pub(super) mod counting_game;
 pub(super) mod lines;
+pub(super) mod making;
 pub(super) mod memory_post;

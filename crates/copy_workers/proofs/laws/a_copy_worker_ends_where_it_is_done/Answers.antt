@@ -17,7 +17,8 @@ late c length count (t ∷ front) rest turn runs =
 
 pub returns : goal.returns
 returns c = record {
-  early = λ job end asked asked_now trail trail_now h few going. early end.ran job.length end.turns job.budget h.ends few going;
-  late = λ job end asked asked_now trail trail_now h front rest turn whole. omega (arith, late job.copy job.length 0 front rest turn (rw whole at h.works.going));
-  within = λ job end asked asked_now trail trail_now h. (h.works.count, h.works.within, h.works.marks, h.works.asks, h.works.ran);
+  early = λ job end calls calls_now asked asked_now trail trail_now h few going. early end.ran job.length end.turns job.budget h.ends few going;
+  late = λ job end calls calls_now asked asked_now trail trail_now h front rest turn whole. omega (arith, late job.copy job.length 0 front rest turn (rw whole at h.works.going));
+  often = λ job end calls calls_now asked asked_now trail trail_now h. h.works.often;
+  within = λ job end calls calls_now asked asked_now trail trail_now h. (h.works.count, h.works.within, h.works.marks, h.works.asks, h.works.ran);
 }

@@ -1,9 +1,0 @@
-use Rattle.std.proofs.Common.{◌∙◌}
-use Rattle.sync_model.proofs.Cases.{next-fixed}
-use Rattle.tss.proofs.tests.mirrors.make.Goals as goal
-
-pub returns-clause-ticks : goal.returns-clause-ticks
-returns-clause-ticks g c = rw c.make.ensures.state ((next-fixed c.args.mirror.now c.args.event.now).length ∙ c.requires.ticks)
-
-pub returns-clause-plans : goal.returns-clause-plans
-returns-clause-plans g c = rw (c.make.ensures.state, (next-fixed c.args.mirror.now c.args.event.now).plans) c.requires.plans
