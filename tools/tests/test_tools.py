@@ -4,30 +4,11 @@ They run the built program: crates/tss/out/tss, or the one that the variable TSS
 """
 
 import os
-import random
 import re
-import shutil
 import subprocess
-import tempfile
 import unittest
 
-from common import PROGRAM, TOP, Files, play, read, tool
-
-CHROMIUM = shutil.which("chromium") or shutil.which("chromium-browser")
-
-
-def blocks(lines):
-    """The blocks among printed lines, by their heads without the clock."""
-    found, at = {}, None
-    for line in lines:
-        words = line.split(" ")
-        if words[0] == "world":
-            at = found[tuple(words[1:3])] = []
-        elif at is not None and words[0] in ("live", "dead", "shot", "item"):
-            at.append(line)
-        else:
-            at = None
-    return {head: "\n".join(block) for head, block in found.items()}
+from common import PROGRAM, TOP, Files, read, tool
 
 
 @unittest.skipUnless(os.path.exists(PROGRAM), "the program isn't built")
@@ -152,56 +133,6 @@ class Claims(unittest.TestCase):
         tables = page.split("| Crate |")[1:]
         self.assertEqual(self.rows(tables[0]), self.listed(calls))
         self.assertEqual(self.rows(tables[1]), self.listed(laws))
-
-
-@unittest.skipUnless(CHROMIUM and os.path.exists(PROGRAM), "Chromium isn't installed, or the program isn't built")
-class Pages(unittest.TestCase):
-    def setUp(self):
-        self.folder = tempfile.TemporaryDirectory()
-        self.addCleanup(self.folder.cleanup)
-        self.page = os.path.join(self.folder.name, "page.html")
-
-    def open(self, place):
-        words = ["--headless", "--no-sandbox", "--disable-gpu", "--dump-dom", f"file://{self.page}#{place}"]
-        return subprocess.run([CHROMIUM, *words], capture_output=True, text=True).stdout
-
-    def shown(self, dom):
-        return {(m, c): text for m, c, text in re.findall(r'<pre id="block-(\d+)-(\d+)">([^<]*)</pre>', dom)}
-
-    def make(self, match):
-        out, said, status = tool("show_match.py", match, "--out", self.page, "--program", PROGRAM)
-        self.assertEqual((out, status), ("", 0))
-
-    def test_each_pane_shows_what_play_prints_there(self):
-        path = os.path.join(TOP, "examples", "copies.match")
-        self.make(path)
-        lines = read(path).split("\n")[:-1]
-        begin = lines.index("script")
-        script = [line for line in lines[begin + 1:-1] if line.split(" ")[0] not in ("world", "run")]
-        late = script.index("arrive 1 0 0") + 1
-        for place in (0, late, late + 1):
-            worlds = [f"world {mirror} {copy}" for mirror in range(2) for copy in range(3)]
-            text = "\n".join(lines[:begin + 1] + script[:place] + worlds + ["end", ""])
-            dom = self.open(place)
-            printed = play(text)
-            end = next(at for at, line in enumerate(printed) if line.startswith("mirror "))
-            self.assertEqual(self.shown(dom), blocks(printed[:end]))
-        self.assertIn('class="copy repaired"', dom)
-
-    def test_the_widest_match_opens_in_two_seconds(self):
-        draw = random.Random(3)
-        lines = ["tss match 2", "length 400", "grid 64 64", "mirrors 8", "delays 0 1 2 4 8 16 32 64", "pace 0"]
-        lines += [f"player p{i} {2 * i} {2 * (i % 8)} s" for i in range(32)]
-        lines += [f"cmd {draw.randrange(400)} {i % 8} {i // 8} {i % 32} {draw.choice(('go', 'left', 'shoot'))}" for i in range(2000)]
-        lines += ["script"] + [f"turn {i % 8}" for i in range(2400)] + ["end", ""]
-        path = os.path.join(self.folder.name, "wide.match")
-        with open(path, "w", encoding="ascii") as file:
-            file.write("\n".join(lines))
-        self.make(path)
-        dom = self.open(2000)
-        self.assertEqual(len(self.shown(dom)), 64)
-        opened = int(re.search(r'data-opened="(\d+)"', dom).group(1))
-        self.assertLess(opened, 2000, "milliseconds until all panes were drawn")
 
 
 if __name__ == "__main__":
