@@ -58,6 +58,13 @@ def start(program, words, text):
         raise Wrong(f"{program}: {fault.strerror}; {HOW_TO_BUILD}")
 
 
+def program_at(path):
+    """The built program, if it is there."""
+    if not (os.path.isfile(path) and os.access(path, os.X_OK)):
+        raise Wrong(f"{path} is no program; {HOW_TO_BUILD}")
+    return os.path.abspath(path)
+
+
 def said_by(done):
     said = (done.stdout[:200] or done.stderr[:200]).decode("ascii", "replace").strip()
     return said or f"the program ended with status {done.returncode} and said nothing"
@@ -109,11 +116,13 @@ def progress(text):
 
 
 def end_with(main):
-    """Runs a tool: what was wrong is told in one line with status 1, and an interrupt or a closed pipe ends it quietly."""
+    """Runs a tool, which may give a status: what was wrong is told in one line with status 1, and an interrupt or a closed pipe ends
+    it quietly."""
     name = os.path.basename(sys.argv[0])
     try:
-        main()
+        status = main()
         sys.stdout.flush()
+        sys.exit(status)
     except Wrong as wrong:
         sys.exit(f"{name}: {wrong}")
     except BrokenPipeError:

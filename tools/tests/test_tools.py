@@ -6,6 +6,7 @@ They run the built program: crates/tss/out/tss, or the one that the variable TSS
 import os
 import re
 import subprocess
+import sys
 import unittest
 
 from common import PROGRAM, TOP, Files, read, tool
@@ -32,6 +33,28 @@ class Failures(unittest.TestCase):
         with open(os.path.join(TOP, "examples", "late.match"), "rb") as match:
             self.assertEqual(self.ended(match, subprocess.DEVNULL), (0, ""))
         self.assertEqual(self.ended(subprocess.DEVNULL, subprocess.DEVNULL), (5, ""))
+
+
+class Faults(unittest.TestCase):
+    def test_a_program_that_isnt_there_is_told_in_a_line(self):
+        for words in (("races.py", "/no/program"), ("slow_words.py", "/no/program"), ("broken_texts.py", "/no/program", "1", "1"),
+                      ("bench.py", "/no/program"), ("show_match.py", os.path.join(TOP, "examples", "late.match"), "--program", "/no/program")):
+            out, said, status = tool(*words)
+            self.assertEqual((out, status, said.count("\n")), ("", 1, 1), said)
+            self.assertIn("build it by `cd crates/tss && rt run`", said)
+
+    def test_words_that_ask_for_nothing_have_status_2(self):
+        for words in (("claim.py", "--bogus"), ("draw_record.py",), ("study_delays.py",), ("races.py",), ("bench.py", "x", "--word", "y")):
+            out, said, status = tool(*words)
+            self.assertEqual((out, status), ("", 2), said)
+
+    def test_a_closed_pipe_ends_a_tool_quietly(self):
+        words = [sys.executable, os.path.join(TOP, "tools", "draw_record.py"), os.path.join(TOP, "examples", "two_mirrors.record")]
+        read_end, write_end = os.pipe()
+        os.close(read_end)
+        done = subprocess.run(words, stdout=write_end, stderr=subprocess.PIPE)
+        os.close(write_end)
+        self.assertEqual(done.stderr, b"")
 
 
 class Helps(unittest.TestCase):
