@@ -7,7 +7,7 @@ import random
 import re
 import unittest
 
-from common import PROGRAM, SAMPLE, Files, play, read, tool
+from common import PROGRAM, SAMPLE, TOP, Files, play, read, tool
 
 import slow_model
 from study_delays import Along
@@ -76,7 +76,7 @@ class Counts(unittest.TestCase):
                     slow_one.turn()
                 one.drain()
                 self.assertEqual((one.again, one.repaired, len(one.names)), (slow_one.again, slow_one.repairs, len(slow_one.accepted)), f"seed {seed}")
-                self.assertEqual((one.at.out_of_place(), one.since), (0, {}), f"seed {seed}")
+                self.assertEqual((one.at.out_of_place(), one.since, sum(one.waits)), (0, {}, sum(one.astray)), f"seed {seed}")
                 repaired += one.repaired
         self.assertGreater(repaired, 200, "repairs in drawn matches")
 
@@ -86,6 +86,57 @@ class Counts(unittest.TestCase):
         told = [one.turn(True) for _ in range(3)] + [one.arrive((0, 0), 1)] + [one.turn(True) for _ in range(4)]
         self.assertEqual(told, [[]] * 6 + [["repair 0 1"]] + [[]])
         self.assertEqual((one.again, one.waits), ([4, 0], [2]))
+
+
+def sample_match(delays):
+    """The sample as the slow model has it."""
+    lines = tool("match_of_trace.py", SAMPLE, "--delays", delays, "--grid", "24", "12")[0].split("\n")
+    numbers = lambda word: next([int(n) for n in line.split(" ")[1:]] for line in lines if line.startswith(word + " "))
+    of = lambda *words: [line.split(" ") for line in lines if line.split(" ", 1)[0] in words]
+    commands = [(int(c[1]), int(c[2]), int(c[3]), int(c[4]), c[5]) for c in of("cmd")]
+    script = [(words[0], *map(int, words[1:])) for words in of("turn", "arrive")]
+    return slow_model.Match(numbers("length")[0], tuple(numbers("grid")), numbers("mirrors")[0], [numbers("delays")], 0, set(), [],
+                            [("ann", 0, 0, "e")], commands, script)
+
+
+class Page(unittest.TestCase):
+    """The tables of docs/STUDY.md, beside whole runs of the sample."""
+
+    def figures(self, delays):
+        match = sample_match(delays)
+        commands = {x[1:3]: x for x in match.commands}
+        mirrors = [Counted(match, None) for _ in range(match.mirrors)]
+        astray = []
+        for line in match.script:
+            if line[0] == "arrive":
+                mirrors[line[1]].arrive(commands[line[2:]])
+            else:
+                mirrors[line[1]].turn()
+                astray.append(mirrors[line[1]].out_of_place())
+        for mirror in mirrors:
+            while any(slow_model.beats(run) < match.length for run in mirror.runs):
+                mirror.turn()
+                astray.append(mirror.out_of_place())
+        again = sum(map(sum, (mirror.again for mirror in mirrors)))
+        repaired = sum(mirror.repairs for mirror in mirrors)
+        return {"late": str(sum(mirror.turned for mirror in mirrors)), "accepted": f"{sum(len(mirror.accepted) for mirror in mirrors):,}",
+                "repaired": f"{repaired:,}", "again": f"{again:,}", "each": f"{again / repaired:.1f}",
+                "executed": f"{match.mirrors * len(mirrors[0].runs) * match.length + again:,}",
+                "astray": f"{sum(astray) / len(astray):.2f}", "copies": str(len(mirrors[0].runs))}
+
+    def test_its_figures_are_those_of_whole_runs(self):
+        tables = re.findall(r"\| Delays \|([^\n]*)\|\n[^\n]*\n((?:\| [^\n]*\n)+)", read(os.path.join(TOP, "docs", "STUDY.md")))
+        rows = 0
+        for head, lines in tables:
+            names = [name.strip() for name in head.split("|")]
+            for line in lines.strip().split("\n"):
+                delays, *cells = [cell.strip() for cell in line.strip("|").split("|")]
+                found = self.figures(delays)
+                for name, cell in zip(names, cells):
+                    if name in found:
+                        self.assertEqual(cell, found[name], f"{name} of {delays}")
+                rows += 1
+        self.assertEqual(rows, 11)
 
 
 @unittest.skipUnless(os.path.exists(PROGRAM), "the program isn't built")

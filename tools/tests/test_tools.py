@@ -130,6 +130,28 @@ class Drawings(Files):
         self.assertIn("Draws a record as a picture", tool("draw_record.py", "--help")[0])
 
 
+class Manuals(unittest.TestCase):
+    def test_the_programs_page_has_each_word_and_status(self):
+        page, said, status = tool("make_man.py")
+        self.assertEqual((said, status), ("", 0))
+        for word in ("order", "race", "soak N", "rewind E C T ...", "paint order, paint play", "0", "7"):
+            self.assertIn(f"\n.TP\n.B {word}\n", page)
+        self.assertIn("\n.B tss order|play|race|audit|score|lift|soak N|", page)
+
+    def test_each_tool_has_a_page(self):
+        page, said, status = tool("make_man.py", "study_delays")
+        self.assertEqual((said, status), ("", 0))
+        self.assertIn("ticks that were executed again", page)
+        self.assertEqual(tool("make_man.py", "nothing")[2], 1)
+        self.assertEqual(tool("make_man.py", "match_lines")[2], 1)
+
+    @unittest.skipUnless(os.path.exists("/bin/bash"), "bash isn't installed")
+    def test_words_are_completed(self):
+        script = tool("make_man.py", "--completions")[0] + 'COMP_WORDS=(tss pa); COMP_CWORD=1; _tss; echo "${COMPREPLY[@]}"; COMP_WORDS=(tss paint ""); COMP_CWORD=2; _tss; echo "${COMPREPLY[@]}"\n'
+        done = subprocess.run(["/bin/bash", "-c", script], capture_output=True, text=True)
+        self.assertEqual((done.stdout, done.stderr), ("paint\norder play\n", ""))
+
+
 class Claims(unittest.TestCase):
     def files(self, cell):
         return ", ".join(re.findall(r"`([\w/]+)`", cell))
