@@ -139,16 +139,25 @@ async def ended(session, given, page):
     told = await session.finish()
     played = Played.of(session, told)
     print(session.work_line(), flush=True)
+    if given.mirror is not None:
+        return ended_alone(given, told[given.mirror])
     if given.out:
         played.write(given.out)
-    if given.mirror is not None:
-        print(f"mirror {given.mirror} accepted {sum(line.startswith('arrive ') for line in told[given.mirror])} arrivals; its log is kept with --out", flush=True)
-        return 0
     verdict, is_right = played.verdict(given.program)
     print(verdict, flush=True)
     if page:
         await page.tell_end(verdict)
     return 0 if is_right else 1
+
+
+def ended_alone(given, told):
+    """What one mirror of several machines told at its end is kept for `--gather`."""
+    if given.out:
+        os.makedirs(given.out, exist_ok=True)
+        with open(os.path.join(given.out, "ended"), "w", encoding="ascii") as file:
+            file.write("".join(line + "\n" for line in told))
+    print(next(line for line in told if line.startswith("mirror ")), flush=True)
+    return 0
 
 
 def main():

@@ -105,7 +105,7 @@ class Session:
             began = time.perf_counter()
             self.play_bots(room)
             looks = self.looks.get(room.number, set())
-            blocks = await room.turn(sorted(looks) if ahead > -1 else ())
+            blocks = await room.turn(sorted(looks) if ahead > -1 or room.clock % 10 == 0 else ())
             self.works.append(time.perf_counter() - began)
             notes, room.notes = room.notes, []
             if self.shown:
