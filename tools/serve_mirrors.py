@@ -2,16 +2,20 @@
 """Serves mirrors that people play on, and has what was played audited at the end.
 
     python3 tools/serve_mirrors.py MATCH [--bots N] [--rate 20] [--lag MS] [--jitter MS] [--loss PART] [--seconds S] [--no-page] [--out FOLDER]
-    python3 tools/serve_mirrors.py MATCH --mirror M --listen HOST:PORT --peer K=HOST:PORT .. [--key FILE]
+    python3 tools/serve_mirrors.py MATCH --mirror M --listen HOST:PORT --peer K=HOST:PORT .. --key FILE
+    python3 tools/serve_mirrors.py MATCH [--mirror M --key FILE] --broker HOST:PORT
+    python3 tools/serve_mirrors.py MATCH --gather FOLDER ..
 
 MATCH is a file with a match text, of which the setup is taken: length, grid, mirrors, delays, plans, walls, pickups, players. Each
 mirror is a process `tss_mirror`, which is spoken to line by line; all are ticked by one clock, and linked by TCP. In the first form
 all mirrors run on this machine, and the address of a page is printed on which one plays; in the second one mirror runs here, and is
-linked to those named. `--lag`, `--jitter` (milliseconds) and `--loss` (0 to 0.5) make the links a net; what is lost is sent again.
+linked to those named. With `--broker` their commands go over a broker of messages (MQTT) in place of links. `--lag`, `--jitter` (milliseconds) and `--loss` (0 to 0.5) make the links a net; what is lost is sent again.
 
 At the end of the match, after `--seconds`, or at Ctrl-C every mirror is ended, and one line says whether all end at one world and
 whether `tss audit` finds the record legal. `--out FOLDER` keeps the record, the match with its commands, and the match with a script
-of what happened, for show_match.py and study_delays.py. The page needs python3-aiohttp; all else is of the standard library.
+of what happened, for show_match.py and study_delays.py. Where each mirror ran alone, `--gather` puts together what each kept by `--out`.
+
+The page needs python3-aiohttp, a broker python3-paho-mqtt; all else is of the standard library.
 """
 
 import argparse
@@ -68,6 +72,8 @@ def parser_of():
     parser.add_argument("--mirror", type=number_in(0, 7), help="runs this mirror alone")
     parser.add_argument("--listen", type=place_of, metavar="HOST:PORT", help="where the other mirrors reach it")
     parser.add_argument("--peer", type=peer_of, action="append", default=[], metavar="K=HOST:PORT", help="where mirror K is reached; for each other mirror")
+    parser.add_argument("--broker", type=place_of, metavar="HOST:PORT", help="carries commands in place of links")
+    parser.add_argument("--gather", nargs="+", metavar="FOLDER", help="audits what mirrors that ran alone kept, one folder each")
     parser.add_argument("--key", metavar="FILE", help="the shared key by which mirrors know each other")
     parser.add_argument("--program", default=PROGRAM, help="the built program `tss`")
     parser.add_argument("--mirror-program", default=MIRROR_PROGRAM, help="the built program `tss_mirror`")
@@ -89,7 +95,19 @@ def key_of(given):
     return key
 
 
+def link_by_broker(session, place):
+    try:
+        from serving.broker import BrokerLink
+    except ImportError:
+        raise Wrong("a broker needs paho: `apt-get install python3-paho-mqtt`")
+    for room in session.rooms.values():
+        room.out["broker"] = BrokerLink(room, place, session.key)
+
+
 async def link_all(session, given):
+    if given.broker:
+        link_by_broker(session, given.broker)
+        return
     if given.mirror is None:
         places = {number: await session.listen(number, "127.0.0.1", 0) for number in session.rooms}
         for number in session.rooms:
@@ -115,8 +133,32 @@ def page_of(session, given, stop):
     return Page(session, stop)
 
 
+def gathered(match, given):
+    """What mirrors that ran alone told at their ends, with the commands that each accepted or turned away."""
+    told, commands = {}, {}
+    for folder in given.gather:
+        try:
+            with open(os.path.join(folder, "ended"), encoding="ascii") as file:
+                lines = file.read().split("\n")[:-1]
+        except OSError as fault:
+            raise Wrong(f"{folder}: {fault.strerror}")
+        cut = next(at for at, line in enumerate(lines) if not line.startswith("cmd "))
+        commands.update({tuple(map(int, line.split(" ")[2:4])): line[4:] for line in lines[:cut]})
+        told[next(int(line.split(" ")[1]) for line in lines if line.startswith("mirror "))] = lines[cut:]
+    if sorted(told) != list(range(match.numbers("mirrors")[0])):
+        raise Wrong(f"--gather wants a folder for each mirror; there are those of {sorted(told)}")
+    played = Played(match, told, [commands[name] for name in sorted(commands)], [])
+    if given.out:
+        played.write(given.out)
+    verdict, is_right = played.verdict(given.program)
+    print(verdict)
+    return 0 if is_right else 1
+
+
 async def serve(given):
     match = setup_of(given.match, given.program)
+    if given.gather:
+        return gathered(match, given)
     mirrors = match.numbers("mirrors")[0]
     if given.mirror is not None and given.mirror >= mirrors:
         raise Wrong(f"--mirror {given.mirror}: the match has {mirrors} mirrors")
@@ -140,7 +182,7 @@ async def ended(session, given, page):
     played = Played.of(session, told)
     print(session.work_line(), flush=True)
     if given.mirror is not None:
-        return ended_alone(given, told[given.mirror])
+        return ended_alone(given, session.rooms[given.mirror], told[given.mirror])
     if given.out:
         played.write(given.out)
     verdict, is_right = played.verdict(given.program)
@@ -150,12 +192,12 @@ async def ended(session, given, page):
     return 0 if is_right else 1
 
 
-def ended_alone(given, told):
+def ended_alone(given, room, told):
     """What one mirror of several machines told at its end is kept for `--gather`."""
     if given.out:
         os.makedirs(given.out, exist_ok=True)
         with open(os.path.join(given.out, "ended"), "w", encoding="ascii") as file:
-            file.write("".join(line + "\n" for line in told))
+            file.write("".join(line + "\n" for line in [f"cmd {command}" for command in room.commands.values()] + told))
     print(next(line for line in told if line.startswith("mirror ")), flush=True)
     return 0
 

@@ -66,3 +66,9 @@ class MirrorProcess:
         if self.process and self.process.returncode is None:
             self.process.kill()
             await self.process.wait()
+        if self.process:
+            self.process.stdin.close()
+            try:
+                await self.process.stdin.wait_closed()
+            except (ConnectionError, BrokenPipeError):
+                pass  # what was still to be written is lost with the process

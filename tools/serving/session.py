@@ -85,8 +85,12 @@ class Session:
         """Ticks until all mirrors have gone through the match, the time is over, or somebody stops it."""
         first = min(self.rooms)
         if first == 0:
+            at = time.time() + 0.5
             for room in self.rooms.values():
-                room.start = time.time() + 0.5
+                room.start = at
+                for link in room.out.values():
+                    if link.is_up:
+                        link.tell_start()
         await self.wait_for_start(stop)
         end = None if seconds is None else time.time() + seconds
         await asyncio.gather(*[self.tick(room, end, stop) for room in self.rooms.values()])

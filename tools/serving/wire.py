@@ -93,6 +93,9 @@ class LinkOut:
     def begin(self):
         self.task = asyncio.get_running_loop().create_task(self.run())
 
+    def tell_start(self):
+        pass  # each `pong` tells it
+
     def again(self):
         """Connects anew."""
         self.task.cancel()

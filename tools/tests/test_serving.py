@@ -23,10 +23,16 @@ ARENA = os.path.join(TOP, "examples", "arena.match")
 SERVE = os.path.join(TOP, "tools", "serve_mirrors.py")
 BUILT = os.path.exists(PROGRAM) and os.path.exists(MIRROR_PROGRAM)
 
+MOSQUITTO = shutil.which("mosquitto") or shutil.which("/usr/sbin/mosquitto")
+
 try:
     import aiohttp
 except ImportError:
     aiohttp = None
+try:
+    import paho.mqtt.client as paho
+except ImportError:
+    paho = None
 
 from match_lines import MatchText
 from serving import wire
@@ -170,8 +176,23 @@ class Programs(Files):
         ended = [one.communicate(timeout=60) for one in running]
         self.assertEqual([said for _, said in ended], ["", ""])
         self.assertIn("its wall clock is", ended[1][0])
-        worlds = [read(os.path.join(self.path(f"part{m}"), "ended")).split("\nworld ")[-1].split("\n")[1:] for m in (0, 1)]
-        self.assertEqual(worlds[0], worlds[1])
+        out, said, status = self.serve("--gather", self.path("part0"), self.path("part1"), match=match)
+        self.assertEqual((said, status), ("", 0), out)
+        self.assertRegex(out, r"^2 mirrors end at one world, as `tss order` has it; \d+ commands; the record is legal \d+\n$")
+
+    @unittest.skipUnless(MOSQUITTO and paho, "mosquitto or paho isn't installed")
+    def test_mirrors_over_a_broker(self):
+        config = self.file("mosquitto.conf", "listener 8953 127.0.0.1\nallow_anonymous true\npersistence false\n")
+        with subprocess.Popen([MOSQUITTO, "-c", config], stdout=subprocess.DEVNULL, stderr=subprocess.DEVNULL) as broker:
+            try:
+                time.sleep(0.5)
+                words = ["--no-page", "--bots", "8", "--rate", "100", "--seconds", "4", "--broker", "127.0.0.1:8953"]
+                outs = [self.serve(*words) for _ in range(2)]
+            finally:
+                broker.terminate()
+        for out, said, status in outs:
+            self.assertEqual((said, status), ("", 0), out)
+            self.assertIn("4 mirrors end at one world", out)
 
     def test_faults_are_told_in_a_line(self):
         for words, wrong in ((["--mirror", "1"], "--key FILE"), (["--mirror", "9"], "no number from 0 to 7"), (["--bots", "9"], "1 too few"),
