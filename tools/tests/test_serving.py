@@ -130,11 +130,13 @@ class Nets(Sessions):
             finally:
                 writer.close()
         self.assertIn("it hasn't the key", await said(b"cmd 0 1 1 0 0 go\n"))
-        self.assertIn("doesn't greet", await said(b"GET / HTTP/1.1\r\n\r\n", key=None))
-        self.assertIn("too long", await said(b"x" * 5000 + b"\n", key=None))
+        for lines, why in (([b"GET / HTTP/1.1\r\n\r\n"], "doesn't greet as a mirror"), ([b"x" * 5000 + b"\n"], "a line is too long")):
+            await said(*lines, key=None)
+            self.assertIn(why, session.told.lines[-1])
         for lines, why in (([b"cmd 0 1 2 0 0 go\n"], "mirror 1 sends a command of mirror 2"), ([b"cmd 0 1 1 0 0 fly\n"], "what is no command"),
                            ([b"end\n"], "says what no mirror says"), ([b"ping 1\n"] * 5000, "too many lines in a second")):
-            self.assertIn(why, await said(*lines, key=b"k" * 16))
+            await said(*lines, key=b"k" * 16)
+            self.assertIn(why, session.told.lines[-1])
         self.assertEqual({number: room.heard for number, room in session.rooms.items()}, before)
         await self.played(session)
 
