@@ -52,6 +52,8 @@ import subprocess
 import sys
 import time
 
+from match_lines import end_with, number_in, program_at
+
 LENGTH = 8192
 # The delays of a text's copies, and by how many ticks at most its commands come after their time.
 DELAYS = {"plain": "0", "copies": "0 10 40 100"}
@@ -394,10 +396,10 @@ def main():
     parser.add_argument("--word", choices=("order", "play", "score", "audit", "soak", "race", "beside", "live", "lock"), default="order")
     parser.add_argument("--text", choices=("plain", "script", "late", "copies", "falling", "arena", "large", *HALLS))
     parser.add_argument("--record", help="the file of a record that is audited alone")
-    parser.add_argument("--runs", type=int, default=15)
+    parser.add_argument("--runs", type=number_in(1, 10_000), default=15)
     given = parser.parse_args()
     kind = given.text or {"play": "script", "score": "script", "audit": "record"}.get(given.word, "plain")
-    program = os.path.abspath(given.program)
+    program = program_at(given.program)
     print(f"processor: {processor()}, {os.cpu_count()} cores")
     if given.word == "lock":
         time_locks(program, given.runs)
@@ -439,4 +441,4 @@ def time_text(program, word, name, text, runs, before):
 
 
 if __name__ == "__main__":
-    main()
+    end_with(main)

@@ -15,6 +15,8 @@ import random
 import subprocess
 import sys
 
+from match_lines import end_with, number_in, program_at
+
 CAUSES = ["", "head", "shape", "number", "place", "name", "order", "many", "end", "long"]
 HEAD, SHAPE, NUMBER, PLACE, NAME, ORDER, MANY, END, LONG = range(1, 10)
 
@@ -356,11 +358,11 @@ def told(fault):
 def main():
     parser = argparse.ArgumentParser(description=__doc__, formatter_class=argparse.RawDescriptionHelpFormatter)
     parser.add_argument("program", metavar="PROGRAM")
-    parser.add_argument("seed", metavar="SEED", type=int)
-    parser.add_argument("count", metavar="COUNT", type=int, help="how many texts are drawn")
+    parser.add_argument("seed", metavar="SEED", type=number_in(0, 10 ** 18))
+    parser.add_argument("count", metavar="COUNT", type=number_in(0, 10 ** 9), help="how many texts are drawn")
     parser.add_argument("words", metavar="WORD", nargs=argparse.REMAINDER, help="what PROGRAM is run with (default: lift)")
     given = parser.parse_args()
-    program, seed, count, words = given.program, given.seed, given.count, given.words or ["lift"]
+    program, seed, count, words = program_at(given.program), given.seed, given.count, given.words or ["lift"]
     r = random.Random(seed)
     texts = [damaged(r, good_text(r)) if r.random() < 0.95 else "".join(x + "\n" for x in good_text(r)).encode() for _ in range(count)]
     texts += limit_texts()
@@ -385,4 +387,4 @@ def main():
 
 
 if __name__ == "__main__":
-    main()
+    end_with(main)

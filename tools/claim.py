@@ -21,6 +21,8 @@ import os
 import re
 import sys
 
+from match_lines import end_with
+
 TOP = os.path.join(os.path.dirname(os.path.abspath(__file__)), "..")
 PAGE = os.path.join(TOP, "docs", "READING.md")
 LIVE_CALLS = [("live.rt", "live", "tss_mirror")]
@@ -305,8 +307,9 @@ def write(lists):
 
 def main():
     if sys.argv[1:] not in ([], ["--names"], ["--write"]):
-        print(__doc__.strip())
-        return 0 if sys.argv[1:] in (["-h"], ["--help"]) else 2
+        wanted = sys.argv[1:] in (["-h"], ["--help"])
+        print(__doc__.strip(), file=sys.stdout if wanted else sys.stderr)
+        return 0 if wanted else 2
     calls, laws, live = claim()
     if sys.argv[1:] == ["--write"]:
         write([calls, laws, live])
@@ -320,4 +323,4 @@ def main():
 
 
 if __name__ == "__main__":
-    sys.exit(main())
+    end_with(main)

@@ -1,101 +1,120 @@
 #!/usr/bin/env python3
 """Draws a record as a picture: for each mirror a lane for each of its copies, and that copy's clock over the mirror's log.
 
-    python3 tools/draw_record.py RECORD > PICTURE.svg
+    python3 tools/draw_record.py RECORD [--mirror M] [--from EVENT] [--to EVENT] > PICTURE.svg
 
-RECORD is a file with a legal record (docs/RECORDS.md); of a text that is none it says in one line what is wrong. From left to right stands the log, one column an event; in a
-lane the clock rises by one tick at each step of its copy. Below a mirror's lanes stands what arrived, at its event:
+RECORD is a file with a legal record (docs/RECORDS.md); of a text that is none it says in one line what is wrong. From left to
+right stands the log, one column an event; in a lane the clock rises by one tick at each step of its copy. Below a mirror's lanes
+stands what arrived, at its event:
 
 - a filled mark: the command was taken;
 - a hollow mark: it was older than the last copy's clock, and was turned away;
 - a bar in a lane: the copy was repaired there, and the bar reaches back over the ticks that it ran again, from the clock of
   the copy that it was set to up to its own.
 
-No world is executed and no run is built. Clocks are steps counted. A command that was taken is late at the copies whose clock
-is past its time; copies further on than the last of these are repaired at once, and the copies ahead of a step of a tick for
-which such a command came too late are repaired by that step.
+`--mirror M` draws one mirror, `--from` and `--to` the events from the one up to the other, without it, counted from 0 in each log.
+Of more than 4,000 events marks are short strokes, and have no names: draw a part to read them.
+
+No world is executed and no run is built. Clocks are steps counted (`mirror_clocks.py`).
 
 Only Python's standard library is used.
 """
 
+import argparse
 import sys
+
+from match_lines import Wrong, end_with, number_in
+from mirror_clocks import MirrorClocks
 
 WIDTH = 1100
 LANE = 70
 LEFT = 90
+MOST_NAMED = 4000
 COLOURS = {"clock": "#1f5fa8", "repair": "#c0392b", "taken": "#2e7d32", "late": "#b26a00", "grid": "#d8d8d8", "ink": "#333"}
 
 
-class Mirror:
-    """What the log of one mirror says of its copies' clocks, of arrivals and of repairs."""
+class Part:
+    """The events that are drawn: from the first up to the last, without it."""
 
-    def __init__(self, number, copies, times):
-        self.number = number
-        self.times = times
-        self.clocks = [0] * copies
-        # at each copy, the times of the commands that came too late there, but not at the copy behind
-        self.late_here = [set() for _ in range(copies)]
-        self.place = 0
-        self.points = [[(0, 0)] for _ in range(copies)]
-        self.arrivals = []
-        self.repairs = []
-        self.restaggers = []
+    def __init__(self, first, last):
+        self.first, self.last = first, last
+
+    def has(self, place):
+        return self.first <= place and (self.last is None or place < self.last)
+
+
+class Mirror:
+    """What the log of one mirror says of its copies' clocks, of arrivals and of repairs, in the part that is drawn."""
+
+    def __init__(self, number, match, part):
+        self.number, self.times, self.part = number, match.times, part
+        self.at = MirrorClocks([0] * match.copies, match.length)
+        self.place, self.is_drawn, self.names = 0, False, set()
+        self.points = [[] for _ in range(match.copies)]
+        self.arrivals, self.repairs, self.restaggers = [], [], []
 
     def event(self, words):
+        if self.place == self.part.first:
+            self.mark_all()
+        self.is_drawn = self.part.has(self.place)
         self.place += 1
         if words[0] == "step":
             self.step(int(words[1]))
         elif words[0] == "arrive":
             self.arrive(int(words[1]), int(words[2]))
         elif words[0] == "restagger":
-            self.restaggers.append((self.place, int(words[1])))
+            if self.is_drawn:
+                self.restaggers.append((self.place, int(words[1])))
         elif words != ["tick"]:
             raise ValueError(f"{words[0]} is no event")
+        if self.place == self.part.last:
+            self.mark_all()
 
-    def repair(self, copies, since):
-        for copy in copies:
-            self.repairs.append((copy, self.place, since, self.clocks[copy]))
-            self.late_here[copy].clear()
+    def mark_all(self):
+        for copy, clock in enumerate(self.at.copies):
+            self.points[copy].append((self.place, clock))
+
+    def repair(self, repair):
+        if repair and self.is_drawn:
+            self.repairs += [(copy, self.place, repair.since, until) for copy, until in zip(repair.copies, repair.until)]
 
     def step(self, copy):
-        tick = self.clocks[copy]
-        self.points[copy].append((self.place, tick))
-        self.clocks[copy] = tick + 1
-        self.points[copy].append((self.place, tick + 1))
-        if copy > 0 and tick in self.late_here[copy - 1]:
-            self.repair(range(copy), tick + 1)
+        before = self.at.copies[copy]
+        self.repair(self.at.ran(copy))
+        if self.is_drawn:
+            self.points[copy] += [(self.place, before), (self.place, before + 1)]
 
     def arrive(self, sender, number):
         time = self.times[sender, number]
-        late = [copy for copy, clock in enumerate(self.clocks) if time < clock]
-        turned = len(late) == len(self.clocks)
-        self.arrivals.append((self.place, sender, number, time, turned))
-        if turned or not late:
-            return
-        since = self.clocks[late[-1]]
-        self.repair([copy for copy in late if self.clocks[copy] > since], since)
-        self.late_here[late[-1]].add(time)
+        if (sender, number) in self.names:
+            raise ValueError("it arrived before")
+        turned = time < self.at.bound()
+        if self.is_drawn:
+            self.arrivals.append((self.place, sender, number, time, turned))
+        if not turned:
+            self.names.add((sender, number))
+            self.repair(self.at.take((sender, number), time))
 
     def end(self):
-        for copy, clock in enumerate(self.clocks):
-            self.points[copy].append((self.place, clock))
-
-
-class Wrong(Exception):
-    """What is wrong with a text that is no record."""
+        if self.part.first > self.place:
+            raise Wrong(f"--from {self.part.first}: the log of mirror {self.number} has {self.place} events")
+        self.first, self.last = self.part.first, min(self.place, self.part.last or self.place)
+        if self.part.has(self.place):
+            self.mark_all()
 
 
 class Reader:
     """A record, line by line."""
 
-    def __init__(self):
+    def __init__(self, part, mirror):
         self.length, self.copies, self.times, self.mirrors = 0, 0, {}, []
-        self.in_match, self.left = False, 0
+        self.part, self.mirror = part, mirror
+        self.in_match, self.left, self.logs = False, 0, 0
 
     def line(self, line):
         words = line.split(" ")
         if self.left > 0:
-            self.mirrors[-1].event(words)
+            self.log.event(words)
             self.left -= 1
         elif line in ("tss match 1", "tss match 2"):
             self.in_match = True
@@ -108,27 +127,27 @@ class Reader:
         elif self.in_match and words[0] == "cmd":
             self.times[int(words[2]), int(words[3])] = int(words[1])
         elif not self.in_match and words[0] == "log":
-            self.mirrors.append(Mirror(int(words[1]), self.copies, self.times))
-            self.left = int(words[2])
+            self.log = Mirror(int(words[1]), self, self.part)
+            self.left, self.logs = int(words[2]), self.logs + 1
+            if self.mirror in (None, self.log.number):
+                self.mirrors.append(self.log)
 
 
-def read(text):
+def read(text, part, mirror):
     """The length of the match and its mirrors, as the record's logs say."""
     lines = text.splitlines()
     if not lines or lines[0] != "tss record 1":
         raise Wrong("line 1 isn't 'tss record 1'")
     if lines[-1] != "done":
         raise Wrong("the last line isn't 'done'")
-    reader = Reader()
+    reader = Reader(part, mirror)
     for number, line in enumerate(lines, 1):
         try:
             reader.line(line)
         except (KeyError, IndexError, ValueError):
             raise Wrong(f"line {number}, '{line[:60]}', can't stand there in a legal record") from None
-    if not reader.mirrors or reader.left > 0:
-        raise Wrong("it has no log" if not reader.mirrors else f"the last log is {reader.left} events short")
-    for mirror in reader.mirrors:
-        mirror.end()
+    if not reader.logs or reader.left > 0:
+        raise Wrong("it has no log" if not reader.logs else f"the last log is {reader.left} events short")
     return reader.length, reader.mirrors
 
 
@@ -154,32 +173,32 @@ def free_row(ends, x, width):
     return len(ends) - 1
 
 
-def lanes(mirror, length, top):
-    """The drawing of one mirror from this height on, and the height below it."""
-    parts = [label(8, top + 14, f"mirror {mirror.number}", 14)]
-    scale = (WIDTH - LEFT - 20) / max(mirror.place, 1)
-    across = lambda place: LEFT + place * scale
-    bottoms = []
+def clock_lines(mirror, length, across, top):
+    """A lane for each copy with its clock and its repairs, and the height of the last one's floor."""
+    parts, floor = [], top
     for copy, points in enumerate(mirror.points):
         floor = top + 24 + (copy + 1) * LANE - 8
-        bottoms.append(floor)
         height = lambda clock, floor=floor: floor - clock * (LANE - 16) / max(length, 1)
         parts.append(line(LEFT, floor, WIDTH - 20, floor, COLOURS["grid"]))
         parts.append(label(LEFT - 8, floor - LANE / 2 + 12, f"copy {copy}", 12, "end"))
         parts.append(label(LEFT - 8, floor, "0", 9, "end"))
         parts.append(label(LEFT - 8, height(length) + 4, str(length), 9, "end"))
-        for which, place, since, until in mirror.repairs:
-            if which == copy:
-                title = f"copy {copy} ran ticks {since} to {until - 1} again" if since < until else f"copy {copy} was set back"
-                parts.append(
-                    f'<line x1="{across(place):.1f}" y1="{height(since) + 2:.1f}" x2="{across(place):.1f}" y2="{height(until) - 2:.1f}"'
-                    f' stroke="{COLOURS["repair"]}" stroke-width="5" stroke-opacity="0.7"><title>{title}</title></line>'
-                )
-        path = " ".join(f"{across(place):.1f},{height(clock):.1f}" for place, clock in points)
+        parts += [bar(across(place), height, copy, since, until) for which, place, since, until in mirror.repairs if which == copy]
+        drawn = [f"{across(place):.1f},{height(clock):.1f}" for place, clock in points]
+        path = " ".join(point for at, point in enumerate(drawn) if at == 0 or point != drawn[at - 1])
         parts.append(f'<polyline points="{path}" fill="none" stroke="{COLOURS["clock"]}" stroke-width="1.5"/>')
-    below = bottoms[-1] + 22
-    parts.append(label(LEFT - 8, below + 4, "arrivals", 12, "end"))
-    ends = []
+    return parts, floor
+
+
+def bar(x, height, copy, since, until):
+    title = f"copy {copy} ran ticks {since} to {until - 1} again" if since < until else f"copy {copy} was set back"
+    return (f'<line x1="{x:.1f}" y1="{height(since) + 2:.1f}" x2="{x:.1f}" y2="{height(until) - 2:.1f}"'
+            f' stroke="{COLOURS["repair"]}" stroke-width="5" stroke-opacity="0.7"><title>{title}</title></line>')
+
+
+def named_arrivals(mirror, across, below):
+    """A mark with a name for each arrival, and how many rows of names there are."""
+    parts, ends = [], []
     for place, sender, number, time, turned in mirror.arrivals:
         title = f"command {sender}.{number}, due in tick {time}" + (", turned away" if turned else "")
         colour = COLOURS["late" if turned else "taken"]
@@ -187,10 +206,36 @@ def lanes(mirror, length, top):
         text = f"{sender}.{number}@{time}"
         row = free_row(ends, across(place), 6 * len(text))
         parts.append(label(across(place), below + 17 + 11 * row, text, 9, "middle"))
+    return parts, len(ends)
+
+
+def stroked_arrivals(mirror, across, below):
+    """A stroke for each place at which something arrived: up where it was taken, down where it was turned away."""
+    parts = []
+    for is_turned, colour, by in ((False, COLOURS["taken"], -7), (True, COLOURS["late"], 7)):
+        places = sorted({round(across(place), 1) for place, *_, turned in mirror.arrivals if turned == is_turned})
+        if places:
+            path = "".join(f"M{x:.1f} {below}v{by}" for x in places)
+            parts.append(f'<path d="{path}" stroke="{colour}" stroke-width="1"/>')
+    return parts, 1
+
+
+def lanes(mirror, length, top):
+    """The drawing of one mirror from this height on, and the height below it."""
+    events = mirror.last - mirror.first
+    some = "" if events == mirror.place else f", events {mirror.first} to {mirror.last - 1} of {mirror.place}"
+    scale = (WIDTH - LEFT - 20) / max(events, 1)
+    across = lambda place: LEFT + (place - mirror.first) * scale
+    parts, floor = clock_lines(mirror, length, across, top)
+    parts.insert(0, label(8, top + 14, f"mirror {mirror.number}{some}", 14))
+    below = floor + 22
+    parts.append(label(LEFT - 8, below + 4, "arrivals", 12, "end"))
+    more, rows = (named_arrivals if events <= MOST_NAMED else stroked_arrivals)(mirror, across, below)
+    parts += more
     for place, plan in mirror.restaggers:
-        parts.append(line(across(place), top + 20, across(place), bottoms[-1], COLOURS["ink"], 0.7))
+        parts.append(line(across(place), top + 20, across(place), floor, COLOURS["ink"], 0.7))
         parts.append(label(across(place) + 2, top + 28, f"plan {plan}", 9))
-    return parts, below + 23 + 11 * max(len(ends), 1)
+    return parts, below + 23 + 11 * max(rows, 1)
 
 
 def draw(length, mirrors):
@@ -208,18 +253,29 @@ def draw(length, mirrors):
 
 
 def main():
-    if sys.argv[1:] in (["-h"], ["--help"]):
-        print(__doc__.strip())
-        return
-    if len(sys.argv) != 2:
-        sys.exit("usage: python3 tools/draw_record.py RECORD > PICTURE.svg")
+    parser = argparse.ArgumentParser(description=__doc__, formatter_class=argparse.RawDescriptionHelpFormatter)
+    parser.add_argument("record", metavar="RECORD")
+    parser.add_argument("--mirror", type=number_in(0, 7), metavar="M", help="draws this mirror alone")
+    parser.add_argument("--from", type=number_in(0, 131072), default=0, dest="first", metavar="EVENT", help="the first event that is drawn (default: 0)")
+    parser.add_argument("--to", type=number_in(1, 131072), dest="last", metavar="EVENT", help="the event behind the last that is drawn")
+    given = parser.parse_args()
+    if given.last is not None and given.last <= given.first:
+        raise Wrong("--to is above --from")
     try:
-        with open(sys.argv[1], encoding="ascii") as file:
-            length, mirrors = read(file.read())
-    except (OSError, UnicodeDecodeError, Wrong) as wrong:
-        sys.exit(f"{sys.argv[1]} is no record: {wrong}")
+        with open(given.record, encoding="ascii") as file:
+            length, mirrors = read(file.read(), Part(given.first, given.last), given.mirror)
+    except OSError as fault:
+        raise Wrong(f"{given.record}: {fault.strerror}")
+    except UnicodeDecodeError:
+        raise Wrong(f"{given.record} is no record: it isn't ASCII")
+    except Wrong as wrong:
+        raise Wrong(f"{given.record} is no record: {wrong}")
+    if not mirrors:
+        raise Wrong(f"--mirror {given.mirror}: the record has no such mirror")
+    for mirror in mirrors:
+        mirror.end()
     sys.stdout.write(draw(length, mirrors))
 
 
 if __name__ == "__main__":
-    main()
+    end_with(main)

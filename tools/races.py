@@ -9,10 +9,11 @@ tick of each copy. The last line says how many were, and the exit status is 1 wh
 """
 
 import argparse
-import os
 import random
 import subprocess
 import sys
+
+from match_lines import end_with, number_in, program_at
 
 
 def match_text(draw):
@@ -36,10 +37,10 @@ def match_text(draw):
 def main():
     parser = argparse.ArgumentParser(description=__doc__, formatter_class=argparse.RawDescriptionHelpFormatter)
     parser.add_argument("program")
-    parser.add_argument("--races", type=int, default=10_000)
-    parser.add_argument("--seed", type=int, default=1)
+    parser.add_argument("--races", type=number_in(1, 10 ** 9), default=10_000)
+    parser.add_argument("--seed", type=number_in(0, 10 ** 18), default=1)
     given = parser.parse_args()
-    program, draw = os.path.abspath(given.program), random.Random(given.seed)
+    program, draw = program_at(given.program), random.Random(given.seed)
     wrong = 0
     for race in range(given.races):
         text, events = match_text(draw)
@@ -51,8 +52,8 @@ def main():
             print(f"race {race}: status {raced.returncode}, audit {audited.returncode} {audited.stdout!r} in place of {due!r}")
             sys.stdout.buffer.write(text)
     print(f"{given.races - wrong} of {given.races} races were legal")
-    sys.exit(wrong != 0)
+    return int(wrong != 0)
 
 
 if __name__ == "__main__":
-    main()
+    end_with(main)

@@ -12,8 +12,8 @@ and the exit status is then 1. Default: 200 matches of seed 1.
 import argparse
 import random
 import subprocess
-import sys
 
+from match_lines import end_with, number_in, program_at
 from slow_model import Arena, Match, Paint, join, lossy, order, play, rewind
 
 
@@ -98,10 +98,10 @@ def runs_of(draw, match):
 def main():
     parser = argparse.ArgumentParser(description=__doc__, formatter_class=argparse.RawDescriptionHelpFormatter)
     parser.add_argument("program", metavar="PROGRAM")
-    parser.add_argument("seed", metavar="SEED", type=int, nargs="?", default=1)
-    parser.add_argument("count", metavar="COUNT", type=int, nargs="?", default=200, help="how many matches are drawn")
+    parser.add_argument("seed", metavar="SEED", type=number_in(0, 10 ** 18), nargs="?", default=1)
+    parser.add_argument("count", metavar="COUNT", type=number_in(1, 10 ** 9), nargs="?", default=200, help="how many matches are drawn")
     given = parser.parse_args()
-    program, seed, count = given.program, given.seed, given.count
+    program, seed, count = program_at(given.program), given.seed, given.count
     draw, runs = random.Random(seed), 0
     for number in range(count):
         for words, given, status, lines in runs_of(draw, match_of(draw)):
@@ -120,4 +120,4 @@ def main():
 
 
 if __name__ == "__main__":
-    sys.exit(main())
+    end_with(main)

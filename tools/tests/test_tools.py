@@ -4,64 +4,18 @@ They run the built program: crates/tss/out/tss, or the one that the variable TSS
 one that TSS_MIRROR names, where it is built.
 """
 
-import csv
 import os
-import random
 import re
-import shutil
 import subprocess
 import sys
-import tempfile
 import unittest
 
-TOP = os.path.join(os.path.dirname(os.path.abspath(__file__)), "..", "..")
-PROGRAM = os.environ.get("TSS", os.path.join(TOP, "crates", "tss", "out", "tss"))
+from common import PROGRAM, TOP, Files, read, tool
+
 MIRROR = os.environ.get("TSS_MIRROR", os.path.join(TOP, "crates", "tss_mirror", "out", "tss_mirror"))
-CHROMIUM = shutil.which("chromium") or shutil.which("chromium-browser")
-SAMPLE = os.path.join(TOP, "examples", "lossy_game.csv")
 
 
-def tool(name, *words):
-    """What a tool prints, what it says on standard error, and its status."""
-    done = subprocess.run([sys.executable, os.path.join(TOP, "tools", name), *words], capture_output=True, text=True)
-    return done.stdout, done.stderr, done.returncode
-
-
-def play(text):
-    return subprocess.run([PROGRAM, "play"], input=text.encode(), capture_output=True).stdout.decode().split("\n")[:-1]
-
-
-def read(path):
-    with open(path, encoding="utf-8") as file:
-        return file.read()
-
-
-def blocks(lines):
-    """The blocks among printed lines, by their heads without the clock."""
-    found, at = {}, None
-    for line in lines:
-        words = line.split(" ")
-        if words[0] == "world":
-            at = found[tuple(words[1:3])] = []
-        elif at is not None and words[0] in ("live", "dead", "shot", "item"):
-            at.append(line)
-        else:
-            at = None
-    return {head: "\n".join(block) for head, block in found.items()}
-
-
-class Files(unittest.TestCase):
-    def setUp(self):
-        self.folder = tempfile.TemporaryDirectory()
-        self.addCleanup(self.folder.cleanup)
-
-    def file(self, name, text):
-        path = os.path.join(self.folder.name, name)
-        with open(path, "w", encoding="ascii") as file:
-            file.write(text)
-        return path
-
-
+@unittest.skipUnless(os.path.exists(PROGRAM), "the program isn't built")
 class Failures(unittest.TestCase):
     """What `main` does with a failure: no test of a crate sees the real streams and standard error."""
 
@@ -96,6 +50,28 @@ class LiveMirrors(unittest.TestCase):
         self.assertEqual((done.returncode, done.stderr), (4, b"tss_mirror: writing standard output failed\n"))
 
 
+class Faults(unittest.TestCase):
+    def test_a_program_that_isnt_there_is_told_in_a_line(self):
+        for words in (("races.py", "/no/program"), ("slow_words.py", "/no/program"), ("broken_texts.py", "/no/program", "1", "1"),
+                      ("bench.py", "/no/program"), ("show_match.py", os.path.join(TOP, "examples", "late.match"), "--program", "/no/program")):
+            out, said, status = tool(*words)
+            self.assertEqual((out, status, said.count("\n")), ("", 1, 1), said)
+            self.assertIn("build it by `cd crates/tss && rt run`", said)
+
+    def test_words_that_ask_for_nothing_have_status_2(self):
+        for words in (("claim.py", "--bogus"), ("draw_record.py",), ("study_delays.py",), ("races.py",), ("bench.py", "x", "--word", "y")):
+            out, said, status = tool(*words)
+            self.assertEqual((out, status), ("", 2), said)
+
+    def test_a_closed_pipe_ends_a_tool_quietly(self):
+        words = [sys.executable, os.path.join(TOP, "tools", "draw_record.py"), os.path.join(TOP, "examples", "two_mirrors.record")]
+        read_end, write_end = os.pipe()
+        os.close(read_end)
+        done = subprocess.run(words, stdout=write_end, stderr=subprocess.PIPE)
+        os.close(write_end)
+        self.assertEqual(done.stderr, b"")
+
+
 class Helps(unittest.TestCase):
     def test_each_tool_says_its_use(self):
         folder = os.path.join(TOP, "tools")
@@ -106,80 +82,6 @@ class Helps(unittest.TestCase):
                 printed, said, status = tool(name, "--help")
                 self.assertEqual((said, status), ("", 0))
                 self.assertIn(f"    python3 tools/{name}", printed)
-
-
-class Traces(Files):
-    def test_the_program_accepts_what_a_trace_makes(self):
-        text, said, status = tool("match_of_trace.py", SAMPLE)
-        self.assertEqual((said, status), ("", 0))
-        self.assertEqual(play(text)[-1], "done")
-        rows = list(csv.reader(read(SAMPLE).split("\n")[:-1]))[1:]
-        self.assertEqual(sum(line.startswith("cmd ") for line in text.split("\n")), len(rows))
-        self.assertEqual(sum(line.startswith("arrive ") for line in text.split("\n")), sum(cell != "" for row in rows for cell in row[4:]))
-
-    def test_a_command_arrives_before_its_mirrors_turn_of_the_tick(self):
-        path = self.file("a.csv", "tick,mirror,player,act,at 0,at 1\n1,0,ann,go,1,3\n0,1,bob,left,,0\n")
-        text, _, status = tool("match_of_trace.py", path, "--delays", "0 2")
-        self.assertEqual(status, 0)
-        script = text[text.index("script\n"):].split("\n")[1:-2]
-        self.assertEqual(script, ["turn 0", "arrive 1 1 0", "turn 1", "arrive 0 0 0", "turn 0", "turn 1", "turn 0", "turn 1",
-                                  "turn 0", "arrive 1 0 0", "turn 1"])
-
-    def test_a_faulty_line_is_named(self):
-        head = "tick,mirror,player,act,at 0\n"
-        for row, wrong in (("x,0,ann,go,0", "'x' is no tick"), ("0,1,ann,go,0", "'1' is no mirror"), ("0,0,Ann,go,0", "'Ann' is no player"),
-                           ("0,0,ann,jump,0", "'jump' is none of the acts"), ("0,0,ann,go", "4 columns in place of 5"),
-                           ("0,0,ann,go,-1", "'-1' is no arrival at mirror 0")):
-            out, said, status = tool("match_of_trace.py", self.file("b.csv", head + "0,0,ann,go,0\n" + row + "\n"))
-            self.assertEqual((out, status), ("", 1))
-            self.assertIn("line 3: " + wrong, said)
-
-    def test_a_file_that_is_no_trace(self):
-        self.assertIn("line 1: the columns are", tool("match_of_trace.py", self.file("c.csv", "a,b\n"))[1])
-        self.assertEqual(tool("match_of_trace.py", os.path.join(self.folder.name, "nothing"))[2], 1)
-
-
-class Studies(unittest.TestCase):
-    def setUp(self):
-        self.folder = tempfile.TemporaryDirectory()
-        self.addCleanup(self.folder.cleanup)
-        self.match = os.path.join(self.folder.name, "a.match")
-        self.text = tool("match_of_trace.py", SAMPLE, "--delays", "0 10 30")[0]
-        with open(self.match, "w", encoding="ascii") as file:
-            file.write(self.text)
-
-    def study(self, *words):
-        out, said, status = tool("study_delays.py", self.match, "--program", PROGRAM, *words)
-        self.assertEqual((said, status), ("", 0))
-        return out
-
-    def test_the_numbers_are_those_of_play(self):
-        table = os.path.join(self.folder.name, "a.csv")
-        self.study("--delays", "0 10 30", "--delays", "0 60", "--csv", table)
-        rows = list(csv.DictReader(read(table).split("\n")))
-        for row in rows:
-            lines = play(self.text.replace("delays 0 10 30\n", f"delays {row['delays']}\n"))
-            mirrors = [line.split(" ") for line in lines if line.startswith("mirror ")]
-            self.assertEqual(int(row["late commands"]), sum(line.startswith("late ") for line in lines))
-            self.assertEqual(int(row["late commands"]), sum(int(words[5]) for words in mirrors))
-            self.assertEqual(int(row["accepted"]), sum(int(words[3]) for words in mirrors))
-            self.assertEqual(int(row["copies repaired"]), sum(int(words[7]) for words in mirrors))
-        self.assertEqual(len(rows), 2)
-
-    def test_a_delay_that_is_told_lets_the_command_in(self):
-        told = re.search(r"command (\d+)\.(\d+) was \d+ ticks late at mirror (\d+); a last delay of (\d+) lets it in", self.study("--delays", "0 10 30"))
-        f, n, mirror, last = told.groups()
-        for delay, late in ((int(last), False), (int(last) - 1, True)):
-            lines = play(self.text.replace("delays 0 10 30\n", f"delays 0 10 {delay}\n"))
-            self.assertEqual(any(line.startswith(f"late {mirror} {f} {n} ") for line in lines), late)
-
-    def test_a_plot_is_written(self):
-        plot = os.path.join(self.folder.name, "a.svg")
-        self.study("--last", "20", "60", "20", "--svg", plot)
-        self.assertEqual(read(plot).count("<polyline"), 2)
-
-    def test_delays_that_dont_rise_are_refused(self):
-        self.assertIn("strictly rising", tool("study_delays.py", self.match, "--program", PROGRAM, "--delays", "0 0")[1])
 
 
 RECORD = """tss record 1
@@ -219,10 +121,50 @@ class Drawings(Files):
             picture, said, status = self.drawn(text)
             self.assertEqual((picture, status, said.count("\n")), ("", 1, 1))
             self.assertTrue(said.endswith(f"is no record: {wrong}\n"), said)
-        self.assertIn("is no record", tool("draw_record.py", "no/such/file")[1])
+        self.assertIn("No such file", tool("draw_record.py", "no/such/file")[1])
+
+    def test_a_part_is_drawn(self):
+        path = self.file("a.record", RECORD)
+        picture, said, status = tool("draw_record.py", path, "--mirror", "0", "--from", "2", "--to", "4")
+        self.assertEqual((said, status), ("", 0))
+        self.assertIn("mirror 0, events 2 to 3 of 4", picture)
+        for words, wrong in ((("--mirror", "1"), "no such mirror"), (("--from", "9"), "has 4 events"), (("--from", "2", "--to", "2"), "--to is above --from")):
+            self.assertIn(wrong, tool("draw_record.py", path, *words)[1])
+
+    def test_a_long_log_has_a_size_that_opens(self):
+        events = [line for _ in range(6000) for line in ("tick", "step 0")]
+        arrivals = [f"arrive 0 {n}" for n in range(4000)]
+        setup = RECORD.split("log 0 4\n")[0].replace("length 1\n", "length 8192\n").replace("delays 0 1\n", "delays 0\n")
+        setup = setup.replace("end\n", "".join(f"cmd 8000 0 {n} 0 go\n" for n in range(4000)) + "end\n")
+        picture, said, status = self.drawn(setup + f"log 0 {len(events) + len(arrivals)}\n" + "\n".join(arrivals + events) + "\ndone\n")
+        self.assertEqual((said, status), ("", 0))
+        self.assertLess(len(picture), 400_000)
+        self.assertLess(int(re.search(r'height="(\d+)"', picture).group(1)), 400)
 
     def test_help(self):
-        self.assertTrue(tool("draw_record.py", "--help")[0].startswith("Draws a record"))
+        self.assertIn("Draws a record as a picture", tool("draw_record.py", "--help")[0])
+
+
+class Manuals(unittest.TestCase):
+    def test_the_programs_page_has_each_word_and_status(self):
+        page, said, status = tool("make_man.py")
+        self.assertEqual((said, status), ("", 0))
+        for word in ("order", "race", "soak N", "rewind E C T ...", "paint order, paint play", "0", "7"):
+            self.assertIn(f"\n.TP\n.B {word}\n", page)
+        self.assertIn("\n.B tss order|play|race|audit|score|lift|soak N|", page)
+
+    def test_each_tool_has_a_page(self):
+        page, said, status = tool("make_man.py", "study_delays")
+        self.assertEqual((said, status), ("", 0))
+        self.assertIn("ticks that were executed again", page)
+        self.assertEqual(tool("make_man.py", "nothing")[2], 1)
+        self.assertEqual(tool("make_man.py", "match_lines")[2], 1)
+
+    @unittest.skipUnless(os.path.exists("/bin/bash"), "bash isn't installed")
+    def test_words_are_completed(self):
+        script = tool("make_man.py", "--completions")[0] + 'COMP_WORDS=(tss pa); COMP_CWORD=1; _tss; echo "${COMPREPLY[@]}"; COMP_WORDS=(tss paint ""); COMP_CWORD=2; _tss; echo "${COMPREPLY[@]}"\n'
+        done = subprocess.run(["/bin/bash", "-c", script], capture_output=True, text=True)
+        self.assertEqual((done.stdout, done.stderr), ("paint\norder play\n", ""))
 
 
 class Claims(unittest.TestCase):
@@ -253,56 +195,6 @@ class Claims(unittest.TestCase):
         self.assertEqual(self.rows(tables[0]), self.listed(calls))
         self.assertEqual(self.rows(tables[1]), self.listed(laws))
         self.assertEqual(self.rows(tables[2]), self.listed(live))
-
-
-@unittest.skipUnless(CHROMIUM, "Chromium isn't installed")
-class Pages(unittest.TestCase):
-    def setUp(self):
-        self.folder = tempfile.TemporaryDirectory()
-        self.addCleanup(self.folder.cleanup)
-        self.page = os.path.join(self.folder.name, "page.html")
-
-    def open(self, place):
-        words = ["--headless", "--no-sandbox", "--disable-gpu", "--dump-dom", f"file://{self.page}#{place}"]
-        return subprocess.run([CHROMIUM, *words], capture_output=True, text=True).stdout
-
-    def shown(self, dom):
-        return {(m, c): text for m, c, text in re.findall(r'<pre id="block-(\d+)-(\d+)">([^<]*)</pre>', dom)}
-
-    def make(self, match):
-        out, said, status = tool("show_match.py", match, "--out", self.page, "--program", PROGRAM)
-        self.assertEqual((out, status), ("", 0))
-
-    def test_each_pane_shows_what_play_prints_there(self):
-        path = os.path.join(TOP, "examples", "copies.match")
-        self.make(path)
-        lines = read(path).split("\n")[:-1]
-        begin = lines.index("script")
-        script = [line for line in lines[begin + 1:-1] if line.split(" ")[0] not in ("world", "run")]
-        late = script.index("arrive 1 0 0") + 1
-        for place in (0, late, late + 1):
-            worlds = [f"world {mirror} {copy}" for mirror in range(2) for copy in range(3)]
-            text = "\n".join(lines[:begin + 1] + script[:place] + worlds + ["end", ""])
-            dom = self.open(place)
-            printed = play(text)
-            end = next(at for at, line in enumerate(printed) if line.startswith("mirror "))
-            self.assertEqual(self.shown(dom), blocks(printed[:end]))
-        self.assertIn('class="copy repaired"', dom)
-
-    def test_the_widest_match_opens_in_two_seconds(self):
-        draw = random.Random(3)
-        lines = ["tss match 2", "length 400", "grid 64 64", "mirrors 8", "delays 0 1 2 4 8 16 32 64", "pace 0"]
-        lines += [f"player p{i} {2 * i} {2 * (i % 8)} s" for i in range(32)]
-        lines += [f"cmd {draw.randrange(400)} {i % 8} {i // 8} {i % 32} {draw.choice(('go', 'left', 'shoot'))}" for i in range(2000)]
-        lines += ["script"] + [f"turn {i % 8}" for i in range(2400)] + ["end", ""]
-        path = os.path.join(self.folder.name, "wide.match")
-        with open(path, "w", encoding="ascii") as file:
-            file.write("\n".join(lines))
-        self.make(path)
-        dom = self.open(2000)
-        self.assertEqual(len(self.shown(dom)), 64)
-        opened = int(re.search(r'data-opened="(\d+)"', dom).group(1))
-        self.assertLess(opened, 2000, "milliseconds until all panes were drawn")
 
 
 if __name__ == "__main__":

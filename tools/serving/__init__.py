@@ -1,0 +1,1 @@
+"""Mirrors that people play on: processes, links between them, their clock, and a page."""

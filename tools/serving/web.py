@@ -1,0 +1,218 @@
+"""The page on which people play, over WebSockets.
+
+A message is a JSON object. From the page: `{"do": "look", "mirror": M}`, `{"do": "claim", "player": P}`, `{"do": "act", "act": ACT, "token":
+TOKEN}`, `{"do": "leave", "token": TOKEN}`, `{"do": "net", "lag": MS, "jitter": MS, "loss": PART}`, `{"do": "plan", "plan": K}`. What is no such
+object, of another shape or for another's player is answered by `{"error": ..}` and changes nothing.
+"""
+
+import asyncio
+import json
+import os
+import secrets
+import time
+
+from aiohttp import WSMsgType, web
+
+PAGE = os.path.join(os.path.dirname(os.path.abspath(__file__)), "page.html")
+ACTS = ("go", "left", "right", "shoot", "dash")
+MOST_MESSAGES_A_SECOND, LONGEST_MESSAGE = 60, 400
+
+
+class Bad(Exception):
+    """What is wrong with a message."""
+
+
+class Viewer:
+    """One page that is open."""
+
+    def __init__(self, socket):
+        self.socket, self.mirror, self.player, self.token = socket, None, None, None
+        self.since, self.messages, self.queue = 0.0, 0, asyncio.Queue(maxsize=40)
+
+    def put(self, message):
+        if self.queue.full():
+            self.queue.get_nowait()  # a page that is too slow misses a tick, not the newest
+        self.queue.put_nowait(message)
+
+    def counted(self):
+        now = time.monotonic()
+        if now - self.since > 1:
+            self.since, self.messages = now, 0
+        self.messages += 1
+        return self.messages <= MOST_MESSAGES_A_SECOND
+
+
+def number(message, key, least, most):
+    value = message.get(key)
+    if isinstance(value, bool) or not isinstance(value, (int, float)) or not least <= value <= most:
+        raise Bad(f"'{key}' is no number from {least} to {most}")
+    return value
+
+
+def whole(message, key, most):
+    value = number(message, key, 0, most)
+    if value != int(value):
+        raise Bad(f"'{key}' is no whole number")
+    return int(value)
+
+
+class Page:
+    def __init__(self, session, stop):
+        self.session, self.stop, self.viewers, self.runner = session, stop, set(), None
+        session.shown, session.told.heard = self.show, self.tell
+        self.does = {"look": self.look, "claim": self.claim, "act": self.act, "leave": self.leave, "net": self.net, "plan": self.plan}
+
+    async def begin(self, port):
+        app = web.Application()
+        app.router.add_get("/", self.page)
+        app.router.add_get("/live", self.live)
+        self.runner = web.AppRunner(app, access_log=None)
+        await self.runner.setup()
+        site = web.TCPSite(self.runner, "127.0.0.1", port)
+        await site.start()
+        return f"http://127.0.0.1:{site._server.sockets[0].getsockname()[1]}/"
+
+    async def page(self, request):
+        return web.FileResponse(PAGE, headers={"Cache-Control": "no-store", "Content-Security-Policy": "default-src 'self' 'unsafe-inline'; connect-src 'self'"})
+
+    async def live(self, request):
+        origin = request.headers.get("Origin")
+        if origin is not None and origin.split("//", 1)[-1] != request.host:
+            raise web.HTTPForbidden(text="a page of another place")
+        socket = web.WebSocketResponse(heartbeat=10, max_msg_size=LONGEST_MESSAGE)
+        await socket.prepare(request)
+        viewer = Viewer(socket)
+        self.viewers.add(viewer)
+        viewer.put(self.opening())
+        sender = asyncio.get_running_loop().create_task(self.send_on(viewer))
+        try:
+            await self.hear(viewer)
+        finally:
+            sender.cancel()
+            self.viewers.discard(viewer)
+            self.drop(viewer)
+            self.count_looks()
+        return socket
+
+    async def send_on(self, viewer):
+        while True:
+            await viewer.socket.send_str(json.dumps(await viewer.queue.get(), separators=(",", ":")))
+
+    async def hear(self, viewer):
+        async for given in viewer.socket:
+            if given.type != WSMsgType.TEXT:
+                break
+            if not viewer.counted():
+                await viewer.socket.close(code=1008, message=b"too many messages")
+                break
+            try:
+                await self.take(viewer, given.data)
+            except Bad as bad:
+                viewer.put({"error": str(bad)})
+
+    async def take(self, viewer, data):
+        try:
+            message = json.loads(data)
+        except ValueError:
+            raise Bad("it is no JSON")
+        if not isinstance(message, dict) or message.get("do") not in self.does:
+            raise Bad("it is no object with a known 'do'")
+        done = self.does[message["do"]](viewer, message)
+        if asyncio.iscoroutine(done):
+            await done
+
+    # ---- what a page may do
+
+    def look(self, viewer, message):
+        viewer.mirror = whole(message, "mirror", 7)
+        if viewer.mirror not in self.session.rooms:
+            viewer.mirror = None
+            raise Bad("that mirror isn't here")
+        self.drop(viewer)
+        self.count_looks()
+
+    def claim(self, viewer, message):
+        player = whole(message, "player", len(self.session.players) - 1)
+        if viewer.mirror is None:
+            raise Bad("choose a mirror first")
+        self.drop(viewer)
+        if not self.session.claim(viewer.mirror, player):
+            raise Bad(f"{self.session.players[player]} is played already")
+        viewer.player, viewer.token = player, secrets.token_urlsafe(12)
+        viewer.put({"claimed": player, "token": viewer.token})
+        self.tell_players()
+
+    def own(self, viewer, message):
+        if viewer.token is None or message.get("token") != viewer.token:
+            raise Bad("it isn't this page's player")
+
+    def act(self, viewer, message):
+        self.own(viewer, message)
+        if message.get("act") not in ACTS:
+            raise Bad("it is no act")
+        if not self.session.rooms[viewer.mirror].act(viewer.player, message["act"]):
+            raise Bad("too many acts in a tick")
+
+    def leave(self, viewer, message):
+        self.own(viewer, message)
+        self.drop(viewer)
+
+    def net(self, viewer, message):
+        net = self.session.net
+        net.lag, net.jitter, net.loss = number(message, "lag", 0, 60000), number(message, "jitter", 0, 60000), number(message, "loss", 0, 0.5)
+        self.tell_all({"net": [net.lag, net.jitter, net.loss]})
+
+    async def plan(self, viewer, message):
+        if viewer.mirror is None:
+            raise Bad("choose a mirror first")
+        refusal = await self.session.rooms[viewer.mirror].restagger(whole(message, "plan", 7))
+        if refusal:
+            raise Bad(f"the mirror says '{refusal}'")
+
+    def drop(self, viewer):
+        if viewer.player is not None:
+            self.session.release(viewer.player)
+            viewer.player = viewer.token = None
+            self.tell_players()
+
+    # ---- what pages are told
+
+    def opening(self):
+        session, match = self.session, self.session.match
+        return {"opening": {
+            "grid": match.numbers("grid"), "walls": [[int(n) for n in words] for words in match.lines_of("wall")], "players": session.players,
+            "mirrors": sorted(session.rooms), "length": match.numbers("length")[0], "rate": session.rate,
+            "plans": [match.numbers("delays")] + [[int(n) for n in words] for words in match.lines_of("plan")],
+            "claims": session.claims, "net": [session.net.lag, session.net.jitter, session.net.loss]}}
+
+    def tell_all(self, message):
+        for viewer in self.viewers:
+            viewer.put(message)
+
+    def tell_players(self):
+        self.tell_all({"claims": self.session.claims})
+
+    def tell(self, mirror, text):
+        self.tell_all({"note": f"mirror {mirror}: {text}"})
+
+    def count_looks(self):
+        copies = range(len(self.session.match.numbers("delays")))
+        looked = {viewer.mirror for viewer in self.viewers if viewer.mirror is not None}
+        self.session.looks = {mirror: set(copies) for mirror in looked}
+
+    def show(self, room, blocks, notes):
+        viewers = [viewer for viewer in self.viewers if viewer.mirror == room.number]
+        if not viewers:
+            return
+        links = {other: [link.is_up, None if link.lag_ms is None else round(link.lag_ms), len(link.waiting)] for other, link in room.out.items()}
+        message = {"tick": room.clock, "mirror": room.number, "plan": room.plan, "notes": notes, "links": links,
+                   "copies": [[int(blocks[copy][0].split(" ")[3]), blocks[copy][1:]] for copy in sorted(blocks) if blocks[copy]]}
+        for viewer in viewers:
+            viewer.put(message)
+
+    async def tell_end(self, verdict):
+        self.tell_all({"end": verdict})
+        await asyncio.sleep(0.5)
+        for viewer in list(self.viewers):
+            await viewer.socket.close()
+        await self.runner.cleanup()
