@@ -2,6 +2,7 @@
 
 ghost use Rattle.std.specs.Prelude.{◌≡◌, ◌<◌, ◌++◌, ℕ, Some, length, take, slice_get, OnOk, OnErr, IfOk};
 ghost use Rattle.std.specs.List.{AllByRecursion};
+ghost use Rattle.sync_model.specs.Turns.{IsDrained};
 ghost use Rattle.match_file.specs.Data.{IsMatch};
 ghost use Rattle.match_hall.specs.Report.{Showing};
 ghost use Rattle.match_hall.specs.Stops.{IsFrontPut};
@@ -147,11 +148,12 @@ impl<G: Game + Shown> Net<G> {
 
     /// Sends and carries what is left in the links, drains the mirrors, and appends what that
     /// prints, the mirrors at their end and the last line. The net is as `over` made it of this
-    /// match. On `NoMemory` `out` gained a front of that.
+    /// match. The mirrors' live worlds are then made. On `NoMemory` `out` gained a front of that.
     pub fn finish(&mut self, x: &LossyText, out: &mut Vec<u8>) -> Result<(), NoMemory>
         requires fresh { (opening : G) × (self.old ≡ made_net opening x.now) }
         ensures state { OnOk result (self.new ≡ ended_net x.now.game.commands self.old) }
         ensures count { OnOk result (HasEach x.now.game.mirrors self.new) }
+        ensures drained { OnOk result (AllByRecursion (λ s. IsDrained s) self.new.mirrors) }
         ensures ended { OnOk result ((opening : G) → self.old ≡ made_net opening x.now
             → IsEndedNet G.rules x.now opening self.new) }
         ensures text { let show : Showing G =

@@ -1,13 +1,13 @@
 //! Draining: turns of a mirror until each of its copies has run the whole match.
 
 ghost use Rattle.std.specs.Prelude.{◌≡◌, ◌++◌, OnOk, OnErr};
-ghost use Rattle.sync_model.specs.Turns.{drain_within};
+ghost use Rattle.sync_model.specs.Turns.{drain_within, drain_bound, IsDrained};
 ghost use Rattle.match_hall.specs.Report.{drain_text};
 ghost use Rattle.match_hall.specs.Stops.{IsStoppedDrain};
 
 use crate::events::push_turn;
 use game_trait::{Game, MirrorId};
-use mirror_core::DeferredMirror;
+use mirror_core::{DeferredMirror, Mirrored};
 use tss_io::NoMemory;
 
 /// Makes turns until the mirror is drained, at most so many, and appends what they print. On
@@ -19,11 +19,13 @@ pub fn drain_mirror<G: Game>(
     out: &mut Vec<u8>,
 ) -> Result<(), NoMemory>
     ensures state { OnOk result (mirror.new ≡ drain_within turns mirror.old) }
+    ensures drained { OnOk result (turns ≡ drain_bound mirror.old → IsDrained mirror.new) }
     ensures text { OnOk result
         (out.new.items ≡ out.old.items ++ drain_text number turns mirror.old) }
     ensures stopped { OnErr result
         (IsStoppedDrain number turns mirror.old mirror.new out.old.items out.new.items) }
 {
+    mirror.always();
     for _ in 0..turns {
         if mirror.drained() {
             return Ok(());

@@ -5,7 +5,7 @@ ghost use Rattle.std.specs.List.{AllByRecursion};
 ghost use Rattle.sync_model.specs.State.{MirrorState};
 ghost use Rattle.sync_model.specs.Change.{Fits};
 ghost use Rattle.sync_model.specs.History.{HasRoomAlong};
-ghost use Rattle.sync_model.specs.Turns.{drain};
+ghost use Rattle.sync_model.specs.Turns.{drain, IsDrained};
 ghost use Rattle.match_file.specs.Data.{IsScriptLine};
 ghost use Rattle.game_trait.specs.declared.limits.TheConstants.{MOST_ROOM};
 ghost use Rattle.sync_model.specs.State.{opening_state};
@@ -132,6 +132,7 @@ fn drain_mirrors<G: Game>(
     requires { length mirrors.old.items ≤ 8 }
     ensures count { length mirrors.new.items ≡ length mirrors.old.items }
     ensures state { OnOk result (mirrors.new.items ≡ map (λ s. drain s) mirrors.old.items) }
+    ensures drained { OnOk result (AllByRecursion (λ s. IsDrained s) mirrors.new.items) }
     ensures text { OnOk result (out.new.items ≡ out.old.items ++ drains_text 0 mirrors.old.items) }
     ensures stopped { OnErr result
         (IsStoppedDraining mirrors.old.items mirrors.new.items out.old.items out.new.items) }
@@ -154,6 +155,7 @@ fn tell_mirrors<G: Game>(
     ensures count { length mirrors.new.items ≡ length mirrors.old.items }
     ensures state { OnOk result (mirrors.new.items
         ≡ map (λ s. drain s) (after_script m.now.commands mirrors.old.items m.now.script)) }
+    ensures drained { OnOk result (AllByRecursion (λ s. IsDrained s) mirrors.new.items) }
     ensures told { OnOk result (AreTold (notes_of_all 0 mirrors.new.items)
         (map (λ w. behaviour (w.vtable, w.value)) board.old.watchers.items)
         (map (λ w. behaviour
@@ -165,15 +167,16 @@ fn tell_mirrors<G: Game>(
     Ok(())
 }
 
-// Appends the lines of mirrors, mirror 0 first, each with its copies' blocks. On `NoMemory` `out`
-// gained a front of that.
+// Appends the lines of mirrors that are drained, mirror 0 first, each with its copies' blocks. On
+// `NoMemory` `out` gained a front of that.
 #[tactic(auto, unfolding(crate::specs::Report::mirrors_text))]
 fn push_mirrors<G: Game + Shown>(
     mirrors: &[DeferredMirror<G>],
     roster: &Roster,
     out: &mut Vec<u8>,
 ) -> Result<(), NoMemory>
-    requires { length mirrors.now ≤ 8 }
+    requires few { length mirrors.now ≤ 8 }
+    requires drained { AllByRecursion (λ s. IsDrained s) mirrors.now }
     ensures ok { let show : Showing G =
         record { rules = G.rules; lines = G.lines; names = roster.now } in
         OnOk result (out.new.items ≡ out.old.items ++ mirrors_text show 0 mirrors.now) }
@@ -189,14 +192,16 @@ fn push_mirrors<G: Game + Shown>(
     Ok(())
 }
 
-// Appends the lines of mirrors, mirror 0 first.
+// Appends the lines of mirrors, mirror 0 first. On `NoMemory` `out` gained a front of that.
 #[tactic(auto, unfolding(crate::specs::Report::lines_of_mirrors))]
 fn push_lines_of_mirrors<G: Game>(
     mirrors: &[DeferredMirror<G>],
     out: &mut Vec<u8>,
 ) -> Result<(), NoMemory>
     requires { length mirrors.now ≤ 8 }
-    ensures { OnOk result (out.new.items ≡ out.old.items ++ lines_of_mirrors 0 mirrors.now) }
+    ensures ok { OnOk result (out.new.items ≡ out.old.items ++ lines_of_mirrors 0 mirrors.now) }
+    ensures err { OnErr result
+        (IsFrontPut out.old.items out.new.items (lines_of_mirrors 0 mirrors.now)) }
 {
     let mut number: MirrorId = 0;
     for mirror in mirrors {
@@ -300,11 +305,13 @@ impl<G: Game + Shown> Hall<G> {
     }
 
     /// Drains the mirrors, mirror 0 first: turns of each until each of its copies has run the whole
-    /// match. It appends what these print, which is their repairs. On `NoMemory` it stopped at a
-    /// turn of one of the mirrors, which was made and whose text wasn't appended.
+    /// match, and has its live world. It appends what these print, which is their repairs. On
+    /// `NoMemory` it stopped at a turn of one of the mirrors, which was made and whose text wasn't
+    /// appended.
     pub fn drain(&mut self, out: &mut Vec<u8>) -> Result<(), NoMemory>
         ensures count { length self.new ≡ length self.old }
         ensures state { OnOk result (self.new ≡ map (λ s. drain s) self.old) }
+        ensures drained { OnOk result (AllByRecursion (λ s. IsDrained s) self.new) }
         ensures text { OnOk result (out.new.items ≡ out.old.items ++ drains_text 0 self.old) }
         ensures stopped { OnErr result
             (IsStoppedDraining self.old self.new out.old.items out.new.items) }
@@ -322,6 +329,7 @@ impl<G: Game + Shown> Hall<G> {
         ensures count { length self.new ≡ length self.old }
         ensures state { OnOk result (self.new
             ≡ map (λ s. drain s) (after_script m.now.commands self.old m.now.script)) }
+        ensures drained { OnOk result (AllByRecursion (λ s. IsDrained s) self.new) }
         ensures told { OnOk result (AreTold (notes_of_all 0 self.new)
             (map (λ w. behaviour (w.vtable, w.value)) board.old.watchers.items)
             (map (λ w. behaviour
@@ -330,9 +338,11 @@ impl<G: Game + Shown> Hall<G> {
         tell_mirrors(&mut self.mirrors, m, board, out)
     }
 
-    /// Appends the line of each mirror, mirror 0 first, and behind it the blocks of its copies,
-    /// copy 0 first. On `NoMemory` `out` gained a front of that.
+    /// Appends the line of each mirror, mirror 0 first, and behind it the blocks of its copies'
+    /// live worlds, copy 0 first. Each mirror is drained. On `NoMemory` `out` gained a front of
+    /// that.
     pub fn show(&self, roster: &Roster, out: &mut Vec<u8>) -> Result<(), NoMemory>
+        requires { AllByRecursion (λ s. IsDrained s) self.now }
         ensures ok { let show : Showing G =
             record { rules = G.rules; lines = G.lines; names = roster.now } in
             OnOk result (out.new.items ≡ out.old.items ++ mirrors_text show 0 self.now) }
@@ -343,10 +353,11 @@ impl<G: Game + Shown> Hall<G> {
         push_mirrors(self.mirrors.as_slice(), roster, out)
     }
 
-    /// Appends the line of each mirror, mirror 0 first. On `NoMemory` some of it may have been
-    /// appended.
+    /// Appends the line of each mirror, mirror 0 first. On `NoMemory` `out` gained a front of that.
     pub fn show_lines(&self, out: &mut Vec<u8>) -> Result<(), NoMemory>
-        ensures { OnOk result (out.new.items ≡ out.old.items ++ lines_of_mirrors 0 self.now) }
+        ensures ok { OnOk result (out.new.items ≡ out.old.items ++ lines_of_mirrors 0 self.now) }
+        ensures err { OnErr result
+            (IsFrontPut out.old.items out.new.items (lines_of_mirrors 0 self.now)) }
     {
         push_lines_of_mirrors(self.mirrors.as_slice(), out)
     }

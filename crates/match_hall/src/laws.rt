@@ -1,27 +1,27 @@
 //! What the words of a hall's promises come to. Each is the contract of a function without
 //! parameters that does nothing.
 
-ghost use Rattle.std.specs.Prelude.{◌≡◌, ◌↔◌, ◌<◌, ◌+◌, ◌++◌, ◌∷◌, ℕ, false, List, [], Some, length, take, filter, slice_get, option_map};
+ghost use Rattle.std.specs.Prelude.{◌≡◌, ◌↔◌, ◌<◌, ◌≤◌, ◌+◌, ◌++◌, ◌∷◌, ℕ, false, List, [], Some, length, map, take, filter, slice_get, option_map};
 ghost use Rattle.game_trait.specs.declared.command.Command.{Command};
 ghost use Rattle.game_trait.specs.declared.event.Event.{Event};
 ghost use Rattle.game_trait.specs.declared.event.Event.TheVariants.{Arrive};
 ghost use Rattle.game_trait.specs.declared.event.Reply.TheVariants.{Arrive as ToArrive};
-ghost use Rattle.game_trait.specs.declared.event.Arrived.TheVariants.{Late};
+ghost use Rattle.game_trait.specs.declared.event.Arrived.TheVariants.{Taken, Late};
 ghost use Rattle.sync_model.specs.State.{MirrorState, last_clock};
 ghost use Rattle.sync_model.specs.Change.{said, after, is_repeat};
 ghost use Rattle.sync_model.specs.Legal.{IsLegal};
 ghost use Rattle.sync_model.specs.Staggered.{IsStaggered};
-ghost use Rattle.sync_model.specs.Turns.{IsDrained};
+ghost use Rattle.sync_model.specs.Turns.{IsDrained, drain, drain_within, drain_bound};
 ghost use Rattle.game_trait.specs.Run.{world_of};
 ghost use Rattle.game_trait.specs.Ordered.{time_ordered};
 ghost use Rattle.run_recorder.specs.declared.log.MirrorLog.{MirrorLog};
 ghost use Rattle.match_file.specs.Data.{MatchData, IsMatch};
 ghost use Rattle.match_file.specs.declared.script_line.ScriptLine.{ScriptLine};
 ghost use Rattle.match_hall.specs.Script.{names, after_lines, after_script, opening_mirror, played, logs_from};
-ghost use Rattle.match_hall.specs.Report.{Showing, script_text};
+ghost use Rattle.match_hall.specs.Report.{Showing, script_text, drain_text, drains_text};
 ghost use Rattle.match_hall.specs.Headline.{IsPlayed, AllPlayed};
 ghost use Rattle.match_hall.specs.Few.{IsFew};
-ghost use Rattle.match_hall.specs.Stops.{IsStoppedScript, IsStoppedDrain, IsStoppedDraining};
+ghost use Rattle.match_hall.specs.Stops.{IsStoppedScript, IsStoppedDrain, IsStoppedDraining, IsFrontPut};
 ghost use Rattle.std.specs.List.{AllByRecursion};
 
 use game_trait::Game;
@@ -42,6 +42,17 @@ pub fn first_lines_print_the_front<G: Game>()
         → (rest : List ℕ)
         × (script_text show commands mirrors script
         ≡ script_text show commands mirrors (take n script) ++ rest) }
+{}
+
+/// What the first turns of draining print is the front of what more of them print, and where draining
+/// mirrors stopped what was appended is a front of what all of it prints.
+pub fn first_turns_print_the_front<G: Game>()
+    ensures turns { (number n k : ℕ) (s : MirrorState G) → (rest : List ℕ)
+        × (drain_text number (n + k) s ≡ drain_text number n s ++ rest) }
+    ensures stopped { (old new : List (MirrorState G)) (before now : List ℕ)
+        → IsStoppedDraining old new before now
+        → (gained : List ℕ) × (rest : List ℕ) × (now ≡ before ++ gained)
+        × (drains_text 0 old ≡ gained ++ rest) }
 {}
 
 /// The mirrors of a match, played along its script and drained, keep what playing promises of each:
@@ -76,9 +87,13 @@ pub fn a_played_mirror_is_at_its_log<G: Game>()
         ≡ time_ordered G.rules start.opening end.accepted m.length) end.runs }
 {}
 
-/// Where mirrors were played, of which the first has a number, there is a log of each, which names
-/// it, and each was played from where a mirror of its number opens.
+/// Of a match as many mirrors are played as it has. Where mirrors were played, of which the first has
+/// a number, there is a log of each, which names it, and each was played from where a mirror of its
+/// number opens.
 pub fn each_mirror_was_played<G: Game>()
+    ensures mirrors { (m : MatchData) (opening : G) → IsMatch m
+        → (length (played opening m) ≡ m.mirrors)
+        × (length (logs_from 0 (played opening m)) ≡ m.mirrors) }
     ensures count { (m : MatchData) (opening : G) (number : ℕ) (ends : List (MirrorState G))
         (logs : List MirrorLog)
         → AllPlayed G.rules opening m number ends logs → length logs ≡ length ends }
@@ -89,8 +104,10 @@ pub fn each_mirror_was_played<G: Game>()
         × IsPlayed G.rules m (opening_mirror opening m (number + place)) end log.events }
 {}
 
-/// A script stops at one of its lines: that one and those in front of it were made, and the text of
-/// those in front was appended. Where there is no line, no turn or no mirror nothing stops.
+/// A script stops at one of its lines, and draining at a turn of a mirror: that one and those in front
+/// of it were made, and the text of those in front was appended. Mirrors in front of the one at which
+/// draining stopped are drained, and those behind it are as they were. Where showing stops, a front of
+/// the text was appended.
 pub fn a_script_stops_at_a_line<G: Game>()
     ensures script { (show : Showing G) (m : MatchData) (old new : List (MirrorState G))
         (before now : List ℕ) → IsStoppedScript show m old new before now
@@ -98,22 +115,36 @@ pub fn a_script_stops_at_a_line<G: Game>()
         × (m.script ≡ front ++ line ∷ rest)
         × (new ≡ after_script m.commands old (front ++ line ∷ []))
         × (now ≡ before ++ script_text show m.commands old front) }
-    ensures drain { (number : ℕ) (old new : MirrorState G) (before now : List ℕ)
-        → IsStoppedDrain number 0 old new before now → ⊥ }
-    ensures draining { (new : List (MirrorState G)) (before now : List ℕ)
-        → IsStoppedDraining [] new before now → ⊥ }
+    ensures drain { (number turns : ℕ) (old new : MirrorState G) (before now : List ℕ)
+        → IsStoppedDrain number turns old new before now
+        → (at : ℕ) × (at < turns) × (new ≡ drain_within (at + 1) old)
+        × (now ≡ before ++ drain_text number at old) }
+    ensures draining { (old new : List (MirrorState G)) (before now : List ℕ)
+        → IsStoppedDraining old new before now
+        → (front : List (MirrorState G)) × (s : MirrorState G) × (behind : List (MirrorState G))
+        × (turns : ℕ) × (old ≡ front ++ s ∷ behind) × (turns < drain_bound s)
+        × (new ≡ map (λ t. drain t) front ++ drain_within (turns + 1) s ∷ behind)
+        × (now ≡ before ++ (drains_text 0 front ++ drain_text (length front) turns s)) }
+    ensures put { (before now text : List ℕ) → IsFrontPut before now text
+        → (gained : List ℕ) × (rest : List ℕ) × (now ≡ before ++ gained)
+        × (text ≡ gained ++ rest) }
 {}
 
 /// Each arrival in the log of a mirror that was played was answered Late exactly where the command
 /// was older than the last copy's clock, and else it was taken.
 pub fn late_exactly_in_a_log<G: Game>()
-    ensures { (m : MatchData) (start end : MirrorState G) (log front rest : List Event)
+    ensures late { (m : MatchData) (start end : MirrorState G) (log front rest : List Event)
         (x : Command)
         → IsPlayed G.rules m start end log → log ≡ front ++ Arrive x ∷ rest
         → (said (after start front) (Arrive x)
         ≡ ToArrive (Late (last_clock (after start front).runs)))
         ↔ ((is_repeat (after start front) x ≡ false)
         × (x.time < last_clock (after start front).runs)) }
+    ensures taken { (m : MatchData) (start end : MirrorState G) (log front rest : List Event)
+        (x : Command)
+        → IsPlayed G.rules m start end log → log ≡ front ++ Arrive x ∷ rest
+        → last_clock (after start front).runs ≤ x.time
+        → (repaired : ℕ) × (said (after start front) (Arrive x) ≡ ToArrive (Taken repaired)) }
 {}
 
 /// The mirrors of a match, played along its script and drained, began with its world, have some

@@ -2,6 +2,7 @@
 
 ghost use Rattle.std.specs.Prelude.{◌≡◌, ◌++◌, ◌<◌, length, take, OnOk, OnErr};
 ghost use Rattle.sync_model.specs.History.{repaired_in};
+ghost use Rattle.sync_model.specs.Turns.{IsDrained};
 ghost use Rattle.report_text.specs.Mirrors.{run_line};
 ghost use Rattle.match_file.specs.declared.script_line.ScriptLine.TheVariants.{Turn};
 ghost use Rattle.match_hall.specs.Stops.{IsFrontPut};
@@ -140,8 +141,29 @@ pub fn push_line_of_mirror<G: Game, M: Mirrored<G>>(
     mirror_line(out, number, accepted, turned, mirror.repairs())
 }
 
-/// Appends the line of the mirror of this number, and its copies' blocks. On `NoMemory` `out` gained
-/// a front of that.
+// Appends the block of a copy's live world. The copy is there, and the mirror drained. On `NoMemory`
+// `out` is unchanged.
+fn push_live_copy<G: Game + Shown>(
+    out: &mut Vec<u8>,
+    number: MirrorId,
+    mirror: &DeferredMirror<G>,
+    copy: u8,
+    roster: &Roster,
+) -> Result<(), NoMemory>
+    requires there { copy < length mirror.now.runs }
+    requires drained { IsDrained mirror.now }
+    ensures ok { let show : Showing G =
+        record { rules = G.rules; lines = G.lines; names = roster.now } in
+        OnOk result (out.new.items ≡ out.old.items
+        ++ copy_block show number mirror.now.opening copy (run_of mirror.now copy)) }
+    ensures err { OnErr result (out.new.items ≡ out.old.items) }
+{
+    let clock = mirror.copy_clock(copy);
+    copy_block(out, number, copy, clock, mirror.world(copy), roster)
+}
+
+/// Appends the line of the mirror of this number, which is drained, and its copies' blocks. On
+/// `NoMemory` `out` gained a front of that.
 #[tactic(auto, unfolding(crate::specs::Report::copy_blocks))]
 pub fn push_mirror<G: Game + Shown>(
     out: &mut Vec<u8>,
@@ -149,6 +171,7 @@ pub fn push_mirror<G: Game + Shown>(
     mirror: &DeferredMirror<G>,
     roster: &Roster,
 ) -> Result<(), NoMemory>
+    requires { IsDrained mirror.now }
     ensures ok { let show : Showing G =
         record { rules = G.rules; lines = G.lines; names = roster.now } in
         OnOk result (out.new.items ≡ out.old.items
@@ -162,7 +185,7 @@ pub fn push_mirror<G: Game + Shown>(
 {
     push_line_of_mirror::<G, _>(out, number, mirror)?;
     for copy in 0..mirror.copies() {
-        push_copy::<G, _>(out, number, mirror, copy, roster)?;
+        push_live_copy(out, number, mirror, copy, roster)?;
     }
     Ok(())
 }

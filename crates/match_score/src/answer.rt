@@ -1,6 +1,8 @@
 //! A match that is played to watchers, and what is told of it.
 
 ghost use Rattle.std.specs.Prelude.{◌≡◌, ◌++◌, ◌∷◌, [], length, map, IfOk};
+ghost use Rattle.std.specs.List.{AllByRecursion};
+ghost use Rattle.sync_model.specs.Turns.{IsDrained};
 ghost use Rattle.arena_rules.specs.World.{opening_world};
 ghost use Rattle.report_text.specs.Ends.{done_line};
 ghost use Rattle.report_text.specs.Score.{standings_text};
@@ -39,6 +41,7 @@ fn play(
 ) -> Result<Hall<Arena>, NoMemory>
     ensures mirrors { IfOk result (λ hall. hall ≡ ends_of m.now) }
     ensures count { IfOk result (λ hall. length hall ≡ m.now.mirrors) }
+    ensures drained { IfOk result (λ hall. AllByRecursion (λ s. IsDrained s) hall) }
     ensures told { IfOk result (λ hall. AreTold (notes_of_all 0 (ends_of m.now))
         (map (λ w. behaviour (w.vtable, w.value)) board.old.watchers.items)
         (map (λ w. behaviour
@@ -54,6 +57,7 @@ fn play(
 fn scoreboard(alloc: Global, m: &Match, hall: &Hall<Arena>) -> Result<Vec<u8>, NoMemory>
     requires mirrors { hall.now ≡ ends_of m.now }
     requires count { length hall.now ≡ m.now.mirrors }
+    requires drained { AllByRecursion (λ s. IsDrained s) hall.now }
     ensures { IfOk result (λ text. text.items ≡ standings_text m.now.names (standings 0 hall.now)) }
 {
     mirrors_take_no_more_than_a_script_brings::<Arena>();

@@ -2,6 +2,7 @@
 
 ghost use Rattle.std.specs.Prelude.{◌≡◌, ◌<◌, ◌≤◌, length, map, IfOk};
 ghost use Rattle.std.specs.List.{AllByRecursion};
+ghost use Rattle.sync_model.specs.Turns.{IsDrained};
 ghost use Rattle.report_text.specs.Score.{standing_of};
 ghost use Rattle.arena_rules.specs.World.{World};
 ghost use Rattle.match_hall.specs.Few.{IsFew};
@@ -29,26 +30,27 @@ fn scores(world: &Arena, players: u8) -> ArrayVec<i32, 32>
     scores
 }
 
-// The row of the mirror of this number, whose match opened with a world of so many players.
+// The row of the mirror of this number, which is drained, and whose match opened with a world of so
+// many players.
 fn row(number: MirrorId, mirror: &DeferredMirror<Arena>, players: u8) -> ScoreRow
     requires few { (opening : World) × IsFew opening mirror.now
         × (length opening.players ≡ players) }
     requires players { players ≤ 32 }
+    requires drained { IsDrained mirror.now }
     ensures { standing_of result ≡ standing number mirror.now }
 {
     let last = mirror.copies() - 1;
-    let world = mirror.world_twin(last);
     ScoreRow {
         mirror: number,
         accepted: mirror.accepted().len() as u32,
         turned: mirror.turned().len() as u32,
         repairs: mirror.repairs(),
-        scores: scores(&world, players),
+        scores: scores(mirror.world(last), players),
     }
 }
 
-/// The rows of so many mirrors of a match that opened with a world of so many players, mirror 0
-/// first.
+/// The rows of so many mirrors, all drained, of a match that opened with a world of so many players,
+/// mirror 0 first.
 pub fn rows(
     alloc: Global,
     hall: &Hall<Arena>,
@@ -59,6 +61,7 @@ pub fn rows(
     requires few { (opening : World) × AllByRecursion (IsFew opening) hall.now
         × (length opening.players ≡ players) }
     requires players { players ≤ 32 }
+    requires drained { AllByRecursion (λ s. IsDrained s) hall.now }
     ensures { IfOk result (λ rows. map standing_of rows.items ≡ standings 0 hall.now) }
 {
     let mut rows = Vec::new(alloc);

@@ -3,7 +3,7 @@ use Rattle.std.proofs.lemmas.List.{append-nil}
 use Rattle.sync_model.specs.Turns.{drain_within}
 use Rattle.sync_model.proofs.Turning.{drained-state, no-turns-state, drain-state}
 use Rattle.match_hall.specs.Report.{drain_text}
-use Rattle.match_hall.proofs.Steps.{drained-text, no-turns-text, drain-text, drain-made, drain-put, drain-stopped, no-turn, no-text}
+use Rattle.match_hall.proofs.Steps.{drained-text, no-turns-text, drain-text, drain-made, drain-put, drain-stopped, no-turn, no-text, drained-by}
 use Rattle.match_hall.proofs.Along.{on_err_of}
 use Rattle.match_hall.proofs.drain.drain_mirror.Goals as goal
 
@@ -58,3 +58,9 @@ returns-clause-text g c =
     let out = c.loop.out.items in
     sym (ap (λ (l : List ℕ). out ++ l) (no-turns-text c.args.number (c.args.turns - c.loop.counter) c.loop.mirror (omega arith)) ∙ append-nil out)
     ∙ c.loop.invariant.text
+
+pub returns-then-drained-clause-drained : goal.returns-then-drained-clause-drained
+returns-then-drained-clause-drained g c = λ bound. drained-by c.args.mirror.now _ c.args.turns c.always.ensures bound (returns-then-drained-clause-state g c)
+
+pub returns-clause-drained : goal.returns-clause-drained
+returns-clause-drained g c = λ bound. drained-by c.args.mirror.now _ c.args.turns c.always.ensures bound (returns-clause-state g c)

@@ -1,14 +1,15 @@
-use Rattle.std.proofs.Common.{◌≡◌, ◌<◌, ℕ, ◌++◌, length, sym, ap, ◌∙◌, arith}
-use Rattle.std.proofs.lemmas.List.{get_or_default}
+use Rattle.std.proofs.Common.{◌≡◌, ◌<◌, ◌≤◌, ℕ, ◌++◌, List, length, map, sym, ap, ◌∙◌, subst, arith}
+use Rattle.std.specs.List.{AllByRecursion}
+use Rattle.std.proofs.lemmas.List.{get_or_default, take_all}
 use Rattle.sync_model.specs.State.{MirrorState}
-use Rattle.sync_model.specs.Turns.{drain_within, drain_bound}
+use Rattle.sync_model.specs.Turns.{drain, drain_within, drain_bound, IsDrained}
 use Rattle.match_hall.specs.Report.{drain_text}
 use Rattle.match_hall.proofs.Along.{on_err_of}
-use Rattle.match_hall.proofs.Steps.{drained-none, drained-more, drained-all, drained-count, draining-stopped}
+use Rattle.match_hall.proofs.Steps.{drained-none, drained-more, drained-all, drained-count, ended-more, draining-stopped}
 use Rattle.match_hall.proofs.hall.drain_mirrors.Goals as goal
 
 pub loop-at-init : goal.loop-at-init
-loop-at-init g c = record { end = (let ok = c.args.mirrors.now.ok.0 in let len = c.len-at-end.ensures in omega arith); drained = drained-none c.args.mirrors.now.items c.args.out.now.items }
+loop-at-init g c = record { end = (let ok = c.args.mirrors.now.ok.0 in let len = c.len-at-end.ensures in omega arith); drained = drained-none c.args.mirrors.now.items c.args.out.now.items; ended = tt }
 
 pub loop-at-preserved : goal.loop-at-preserved
 loop-at-preserved g c =
@@ -25,6 +26,9 @@ loop-at-preserved g c =
       drained =
           drained-more at _ _ _ _ _ s _ below kept.drained c.index_mut.ensures.value (drained.state ∙ ap (λ (n : ℕ). drain_within n s) turns)
           (drained.text ∙ ap (λ (n : ℕ). c.loop-at.out.items ++ drain_text at n s) turns);
+      ended =
+          ended-more at _ _ _ _ s _ below kept.drained c.index_mut.ensures.value (drained.state ∙ ap (λ (n : ℕ). drain_within n s) turns)
+          (drained.drained turns) kept.ended;
     }
 
 pub returns-in_err-drain_mirror-clause-stopped : goal.returns-in_err-drain_mirror-clause-stopped
@@ -48,3 +52,10 @@ pub returns-clause-text : goal.returns-clause-text
 returns-clause-text g c =
     let kept = c.loop-at.invariant in
     (drained-all c.loop-at.at _ _ _ _ (omega (arith, c.loop-at-test.false, kept.end)) kept.drained).1
+
+pub returns-clause-drained : goal.returns-clause-drained
+returns-clause-drained g c =
+    let kept = c.loop-at.invariant in
+    let past : length c.args.mirrors.now.items ≤ c.loop-at.at = omega (arith, c.loop-at-test.false, kept.end) in
+    subst (λ (ss : List (MirrorState _)). AllByRecursion (λ s. IsDrained s) ss) (sym (returns-clause-state g c))
+    (subst (λ (ss : List (MirrorState _)). AllByRecursion (λ s. IsDrained s) (map (λ s. drain s) ss)) (take_all c.loop-at.at c.args.mirrors.now.items past) kept.ended)

@@ -1,4 +1,9 @@
-use Rattle.std.proofs.Common.{◌<◌, ◌≤◌, ℕ, get_or, ap, ◌∙◌, arith}
+use Rattle.std.proofs.Common.{◌<◌, ◌≤◌, ℕ, List, get_or, sym, ap, subst, ◌∙◌, arith}
+use Rattle.std.specs.List.{AllByRecursion}
+use Rattle.sync_model.specs.State.{MirrorState}
+use Rattle.sync_model.specs.Turns.{IsDrained}
+use Rattle.match_file.specs.Data.{IsMatch}
+use Rattle.match_hall.proofs.Headline.{told-drained}
 use Rattle.match_hall.proofs.Told.{played-none, played-next, played-count, played-more_at, played-all}
 use Rattle.match_hall.proofs.hall.tell_mirrors.Goals as goal
 
@@ -37,3 +42,8 @@ pub returns-clause-told : goal.returns-clause-told
 returns-clause-told g c =
     let past : c.args.m.now.mirrors ≤ c.loop-number.number = rw (← c.m.view_is) c.loop-number-test.false in
     (played-all c.args.m.now c.loop-number.number _ _ _ _ _ _ past c.loop-number.invariant).1
+
+pub returns-clause-drained : goal.returns-clause-drained
+returns-clause-drained g c =
+    subst (λ (ss : List (MirrorState _)). AllByRecursion (λ s. IsDrained s) ss) (sym (returns-clause-state g c))
+    (told-drained g.G.Game.rules c.args.m.now c.requires.opening.0 c.args.mirrors.now.items (subst IsMatch c.m.view_is c.m.invariant) c.requires.opening.1)

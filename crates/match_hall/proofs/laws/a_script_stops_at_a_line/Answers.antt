@@ -4,6 +4,7 @@ use Rattle.std.specs.Prelude.{get_or}
 use Rattle.match_file.specs.declared.script_line.ScriptLine.{ScriptLine}
 use Rattle.match_file.specs.declared.script_line.ScriptLine.TheVariants.{Tick}
 use Rattle.match_hall.specs.Script.{after_script}
+use Rattle.match_hall.proofs.StoppedDrain.{draining-stop}
 use Rattle.match_hall.proofs.laws.a_script_stops_at_a_line.Goals as goal
 
 one-more : (script : List ScriptLine) (at : ℕ) → at < length script → take (at + 1) script ≡ take at script ++ get_or script at (Tick 0) ∷ []
@@ -19,6 +20,7 @@ returns g c = record {
     h.state ∙ ap (after_script m.commands old) (one-more m.script h.at h.there),
     h.text,
   );
-  drain = λ number old new before now h. (let few = h.there in absurd (omega arith));
-  draining = λ new before now h. (let few = h.there in absurd (omega arith));
+  drain = λ number turns old new before now h. (h.at, h.there, h.state, h.text);
+  draining = λ old new before now h. draining-stop old new before now h;
+  put = λ before now text h. (h.gained, h.rest, h.put, h.whole);
 }

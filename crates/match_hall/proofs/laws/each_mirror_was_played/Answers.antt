@@ -1,10 +1,11 @@
-use Rattle.std.proofs.Common.{◌≡◌, ℕ, zero, suc, ◌+◌, List, [], ◌∷◌, length, Some, refl, sym, subst, arith}
+use Rattle.std.proofs.Common.{◌≡◌, ℕ, zero, suc, ◌+◌, List, [], ◌∷◌, length, Some, refl, sym, ◌∙◌, subst, arith}
 use Rattle.std.specs.Prelude.{slice_get}
 use Rattle.game_trait.specs.Game.{Rules}
 use Rattle.match_file.specs.Data.{MatchData}
 use Rattle.run_recorder.specs.declared.log.MirrorLog.{MirrorLog}
 use Rattle.sync_model.specs.State.{MirrorState}
-use Rattle.match_hall.specs.Script.{opening_mirror}
+use Rattle.match_hall.specs.Script.{opening_mirror, played, logs_from}
+use Rattle.match_hall.proofs.Headline.{played-many, played-AllPlayed}
 use Rattle.match_hall.specs.Headline.{IsPlayed, AllPlayed}
 use Rattle.match_hall.proofs.laws.each_mirror_was_played.Goals as goal
 
@@ -37,6 +38,9 @@ each rules opening m number (suc place) (e ∷ ends) (l ∷ logs) end log all at
 
 pub returns : goal.returns
 returns g c = record {
+  mirrors = λ m opening sound.
+      (let many = played-many m opening sound in
+      (many, count g.G.Game.rules opening m 0 (played opening m) (logs_from 0 (played opening m)) (played-AllPlayed g.G.Game.rules m opening sound) ∙ many));
   count = λ m opening number ends logs all. count g.G.Game.rules opening m number ends logs all;
   each = λ m opening number place ends logs end log all at there. each g.G.Game.rules opening m number place ends logs end log all at there;
 }

@@ -11,7 +11,7 @@ use Rattle.match_score.proofs.rows.row.Goals as goal
 
 pub scores-requires-clause-count : goal.scores-requires-clause-count
 scores-requires-clause-count c =
-    ap (λ (w : World). length w.players) c.world_twin-world.ensures
+    ap (λ (w : World). length w.players) c.world.ensures
     ∙ run-players _ c.args.mirror.now.opening
     ∙ ap (λ (w : World). length w.players) c.requires.few.1.opened
     ∙ c.requires.few.2
@@ -21,7 +21,7 @@ returns c =
     let s = c.args.mirror.now in
     let some = c.requires.few.1.some_copy in
     let last = last-is [] s.runs (c.copies-last.result - 1) (omega (arith, some, c.copies-last.ensures)) in
-    let scores = c.scores.ensures ∙ ap scores_of (c.world_twin-world.ensures ∙ ap (λ (run : List Item). world_of arena_rules s.opening run) last) in
+    let scores = c.scores.ensures ∙ ap scores_of (c.world.ensures ∙ ap (λ (run : List Item). world_of arena_rules s.opening run) last) in
     let accepted = ap (λ (xs : List Command). length xs) c.accepted.ensures in
     let turned = ap (λ (xs : List Turned). length xs) c.turned.ensures in
     λ i. record { mirror = c.args.number; accepted = accepted i; turned = turned i; repairs = c.repairs.ensures i; scores = scores i }

@@ -1,4 +1,5 @@
 use Rattle.std.proofs.Common.{◌<◌, ◌≤◌, length, arith}
+use Rattle.sync_model.specs.Turns.{IsDrained}
 use Rattle.match_hall.specs.Few.{IsFew}
 use Rattle.match_score.proofs.RowByRow.{all-got, standings-next, standings-all}
 use Rattle.match_score.proofs.rows.rows.Goals as goal
@@ -6,6 +7,9 @@ use Rattle.match_score.proofs.rows.rows.Goals as goal
 pub row-requires-clause-few : goal.row-requires-clause-few
 row-requires-clause-few c =
     (c.requires.few.0, all-got (IsFew c.requires.few.0) c.args.hall.now c.loop-number.number _ c.requires.few.1 c.mirror.ensures, c.requires.few.2)
+
+pub row-requires-clause-drained : goal.row-requires-clause-drained
+row-requires-clause-drained c = all-got (λ s. IsDrained s) c.args.hall.now c.loop-number.number _ c.requires.drained c.mirror.ensures
 
 pub loop-number-preserved : goal.loop-number-preserved
 loop-number-preserved c =

@@ -282,3 +282,6 @@ returns-clause-count g c =
     on_ok_of c.done_line.result
     (subst (HasEach c.args.x.now.game.mirrors) (sym (end ∙ ap (λ (k : NetState _). ended_net c.args.x.now.game.commands k) c.requires.fresh.1))
     (end-each c.args.x.now opening (subst IsLossy c.x.view_is c.x.invariant)))
+
+pub returns-clause-drained : goal.returns-clause-drained
+returns-clause-drained g c = on_ok_of c.done_line.result c.in_ok-drain.ensures.drained

@@ -1,4 +1,4 @@
-use Rattle.std.proofs.Common.{◌≡◌, ◌<◌, ◌+◌, ◌≤◌, [], length, get_or, arith}
+use Rattle.std.proofs.Common.{◌<◌, ◌≤◌, length, get_or, arith}
 use Rattle.match_file.specs.declared.script_line.ScriptLine.TheVariants.{Tick}
 use Rattle.match_hall.specs.Script.{arrives_at, restaggers_at}
 use Rattle.match_hall.proofs.Counted.{counted_more, one_at_most, counted_all}
