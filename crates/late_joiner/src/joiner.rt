@@ -5,37 +5,38 @@ ghost use Rattle.std.specs.List.{AllByRecursion, list_any};
 ghost use Rattle.game_trait.specs.Keys.{same_name};
 ghost use Rattle.std.specs.Prelude.{Err};
 ghost use Rattle.game_trait.specs.Ordered.{time_ordered};
-ghost use Rattle.sync_model.specs.Change.{said};
+ghost use Rattle.sync_model.specs.Change.{said, answers};
 ghost use Rattle.sync_model.specs.Drafts.{run_of};
 ghost use Rattle.sync_model.specs.History.{repairs as repairs_of};
 ghost use Rattle.sync_model.specs.Schedule.{copies_of_first, ticks_of_first};
-ghost use Rattle.sync_model.specs.Turns.{is_drained, drain_bound};
+ghost use Rattle.sync_model.specs.Turns.{turn_events, is_drained, drain, drain_bound};
 ghost use Rattle.late_joiner.specs.declared.joined.JoinFault.TheVariants.{TooLate};
 ghost use Rattle.late_joiner.specs.Snapshot.{IsSnapshot};
-ghost use Rattle.late_joiner.specs.Joiner.{opened, full_length, accepted_at, all_accepted, joined, told_from, joiner_next, world_of_run, IsShort};
+ghost use Rattle.late_joiner.specs.Joiner.{opened, full_length, accepted_at, all_accepted, joined, told_from, joiner_next, joiner_after, FitsJoiner, world_of_run, IsShort};
 
 use crate::handed::Snapshot;
 use crate::joined::{JoinFault, Joined};
 use crate::opening::open;
 use crate::shifted::Shifted;
+use arrayvec::ArrayVec;
 use game_trait::limits::{MOST_PLANS, MOST_ROOM};
 use game_trait::{Arrived, Command, CommandList, Event, Game, Reply, Stepped, Tick, Ticked};
-use mirror_core::Mirror;
+use mirror_core::{DeferredMirror, Mirrored};
 use stagger_clock::Stagger;
 use std::alloc::Global;
 use std::marker::Model;
 use tss_io::NoMemory;
 
 /// A mirror that joins a match late, opened from another mirror's snapshot (this project's own).
-/// It has a mirror of its own over the remaining ticks. Contracts see that mirror's state, whose
-/// times and clocks are counted from the snapshot's clock, the start, beside what had passed by
-/// then. Only `new` takes memory.
+/// It has a mirror of its own over the remaining ticks, whose repaired copies execute when they are
+/// looked at. Contracts see that mirror's state, whose times and clocks are counted from the
+/// snapshot's clock, the start, beside what had passed by then. Only `new` takes memory.
 #[derive(Drop)]
 pub struct Joiner<G: Game> {
     pub(crate) opening: G,
     pub(crate) start: Tick,
     pub(crate) passed: CommandList,
-    pub(crate) inner: Mirror<Shifted<G>>,
+    pub(crate) inner: DeferredMirror<Shifted<G>>,
 }
 
 impl<G: Game> Model for Joiner<G> {
@@ -58,26 +59,6 @@ impl<G: Game> Model for Joiner<G> {
           inner = j.inner;
         } in
         IsJoined G.rules state × IsInRoom state };
-}
-
-// The two commands have the same mirror and number.
-#[tactic(auto, unfolding(game_trait::specs::Keys::same_name))]
-fn are_named_alike(x: &Command, y: &Command) -> bool
-    ensures { result ≡ same_name x.now y.now }
-{
-    x.from == y.from && x.number == y.number
-}
-
-// The command is named as one of these.
-fn is_named_among(commands: &[Command], x: &Command) -> bool
-    ensures { result ≡ list_any (same_name x.now) commands.now }
-{
-    for y in commands {
-        if are_named_alike(x, y) {
-            return true;
-        }
-    }
-    false
 }
 
 // An answer of the inner mirror, with its bound counted from the match's start.
@@ -144,7 +125,7 @@ impl<G: Game> Joiner<G> {
     /// it, and the answer is Taken, with how many copies were repaired. Taken and Late each use up
     /// room for one arrival. Clocks are counted from the match's start.
     pub fn arrive(&mut self, x: &Command) -> Joined
-        requires within_match { x.now.time < full_length self.old }
+        requires within_match { FitsJoiner self.old (Event.Arrive x.now) }
         requires room { 0 < self.old.inner.spare }
         ensures state { self.new ≡ joiner_next self.old (Event.Arrive x.now) }
         ensures answer { result ≡ joined self.old x.now }
@@ -168,7 +149,7 @@ impl<G: Game> Joiner<G> {
         ensures answer { result ≡ joined self.now x.now }
         ensures state { self.now ≡ joiner_next self.now (Event.Arrive x.now) }
     {
-        if is_named_among(self.inner.accepted(), x) {
+        if self.inner.has(x.from, x.number) {
             return Joined::Repeat;
         }
         Joined::Before {
@@ -187,7 +168,7 @@ impl<G: Game> Joiner<G> {
 
     /// The copy, which is there, runs one tick where it may, as a mirror's does.
     pub fn step(&mut self, copy: u8) -> Stepped
-        requires { copy < length self.old.inner.runs }
+        requires { FitsJoiner self.old (Event.Step copy) }
         ensures state { self.new ≡ joiner_next self.old (Event.Step copy) }
         ensures answer { said self.old.inner (Event.Step copy) ≡ Reply.Step result }
     {
@@ -197,12 +178,29 @@ impl<G: Game> Joiner<G> {
     /// Another plan, which is there, is in force from here on. It uses up room for one change of
     /// the plan.
     pub fn restagger(&mut self, plan: u8)
-        requires there { plan < length self.old.inner.plans }
+        requires there { FitsJoiner self.old (Event.Restagger plan) }
         requires room { 0 < self.old.inner.plan_spare }
         ensures state { self.new ≡ joiner_next self.old (Event.Restagger plan) }
         ensures answer { said self.old.inner (Event.Restagger plan) ≡ Reply.Restaggered }
     {
         self.inner.restagger(plan);
+    }
+
+    /// Makes a turn: a tick, and then a step of each copy from copy 0 on. Hands back what the inner
+    /// mirror answered to each, in order.
+    pub fn turn(&mut self) -> ArrayVec<Reply, 9>
+        ensures state { self.new ≡ joiner_after self.old (turn_events (length self.old.inner.runs)) }
+        ensures replies { result.items
+            ≡ answers self.old.inner (turn_events (length self.old.inner.runs)) }
+    {
+        self.inner.turn()
+    }
+
+    /// Makes turns until every copy has run the whole match.
+    pub fn drain(&mut self)
+        ensures { self.new ≡ record self.old { inner = drain self.old.inner } }
+    {
+        self.inner.drain();
     }
 
     /// How many more arrivals there is room for.
@@ -255,16 +253,17 @@ impl<G: Game> Joiner<G> {
         self.inner.copies()
     }
 
-    /// The copy's live world. The copy is there. Where every copy has run the whole match, it is
-    /// the time-ordered execution of what had passed and what was accepted, over the whole match.
-    pub fn world(&self, copy: u8) -> &G
+    /// A twin of the copy's live world. The copy is there. Where every copy has run the whole match,
+    /// it is the time-ordered execution of what had passed and what was accepted, over the whole
+    /// match.
+    pub fn world_twin(&self, copy: u8) -> G
         requires { copy < length self.now.inner.runs }
-        ensures live { result.now ≡ world_of_run G.rules self.now (run_of self.now.inner copy) }
+        ensures live { result ≡ world_of_run G.rules self.now (run_of self.now.inner copy) }
         ensures at_end { is_drained self.now.inner ≡ true
-            → result.now
+            → result
             ≡ time_ordered G.rules self.now.opening (all_accepted self.now) (full_length self.now) }
     {
         self.inner.always();
-        self.inner.world(copy).world()
+        self.inner.world_twin(copy).into_world()
     }
 }

@@ -1,7 +1,7 @@
 //! What a net promises. Each law is the contract of a function without parameters that does
 //! nothing.
 
-ghost use Rattle.std.specs.Prelude.{◌≡◌, ◌<◌, ◌≤◌, ◌+◌, ◌++◌, ℕ, List, [], Some, true, false, length, slice_get, take, drop, filter};
+ghost use Rattle.std.specs.Prelude.{◌≡◌, ◌⊎◌, ◌<◌, ◌≤◌, ◌+◌, ◌++◌, ℕ, List, [], Some, true, false, length, slice_get, take, drop, filter};
 ghost use Rattle.std.specs.List.{AllByRecursion};
 ghost use Rattle.game_trait.specs.declared.command.Command.{Command};
 ghost use Rattle.game_trait.specs.Count.{times};
@@ -12,11 +12,15 @@ ghost use Rattle.sync_model.specs.State.{MirrorState};
 ghost use Rattle.match_file.specs.Data.{MatchData};
 ghost use Rattle.match_hall.specs.Headline.{IsPlayed};
 ghost use Rattle.lossy_text.specs.Data.{LossyData, IsLossy};
-ghost use Rattle.lossy_link.specs.Link.{LinkState, has_flown, brought, after_carry};
-ghost use Rattle.lossy_link.specs.Links.{NetLinks, link_at, is_from};
+ghost use Rattle.lossy_text.specs.declared.net_line.NetLine.{NetLine};
+ghost use Rattle.lossy_text.specs.declared.net_line.NetLine.TheVariants.{Carry};
+ghost use Rattle.lossy_link.specs.declared.packet.Heard.TheVariants.{Moved, Old};
+ghost use Rattle.lossy_link.specs.Ends.{OutState, heard, after_heard};
+ghost use Rattle.lossy_link.specs.Link.{LinkState, has_flown, brought, after_carry, after_send, after_hear};
+ghost use Rattle.lossy_link.specs.Links.{NetLinks, link_at, is_from, next_links};
 ghost use Rattle.lossy_link.specs.Net.{NetState, net_mirror, opening_net, after_net, made_net, HasEach, AreLinked};
 ghost use Rattle.lossy_link.specs.Finish.{ended_net, is_turned, IsEndedNet};
-ghost use Rattle.lossy_link.specs.Way.{IsNet};
+ghost use Rattle.lossy_link.specs.Way.{IsNet, IsThere};
 
 use game_trait::Game;
 
@@ -62,6 +66,36 @@ pub fn a_packet_brings_its_command_in_turn()
         → (brought k l ≡ []) × (after_carry k l ≡ l) }
     ensures unflown { (k : ℕ) (l : LinkState) → has_flown l.packets k ≡ false
         → (brought k l ≡ []) × (after_carry k l ≡ l) }
+{}
+
+/// Between two mirrors nothing is received but by a packet that is carried from the one to the other:
+/// every other line leaves what that link received as it was, also where the one issues a command.
+pub fn only_a_carry_is_received<G: Game>()
+    ensures { (m : MatchData) (opening : G) (n : NetState G) (line : NetLine) (from to : ℕ)
+        → IsNet m opening n → IsThere m.mirrors line → from < m.mirrors → to < m.mirrors
+        → (from ≡ to → ⊥) → ((packet : ℕ) → line ≡ Carry from to packet → ⊥)
+        → (link_at (next_links m.commands n.links line).rows from to).received
+        ≡ (link_at n.links.rows from to).received }
+{}
+
+/// How many are known to have been received never falls, whatever is heard, at a link and at the end
+/// that sends. A count that was known before changes nothing, and what is known to have been
+/// received isn't sent again.
+pub fn what_is_known_stays_known()
+    ensures link { (k : ℕ) (l : LinkState) → l.acked ≤ (after_hear k l).acked }
+    ensures end { (k : ℕ) (e : OutState) → e.acked ≤ (after_heard e k).acked }
+    ensures old { (k : ℕ) (e : OutState) → k ≤ e.acked → k ≤ length e.sent
+        → (heard e k ≡ Old) × (after_heard e k ≡ e) }
+    ensures sent { (k : ℕ) (l : LinkState) → k < l.acked → after_send k l ≡ l }
+{}
+
+/// No count that flies is wild to the end that sends: it was known before, or moves what is known.
+pub fn no_count_is_wild()
+    ensures { (m : MatchData) (n : NetLinks) (from to count : ℕ) → AreLinked m n
+        → from < m.mirrors → to < m.mirrors → let l = link_at n.rows from to in
+        has_flown l.counts count ≡ true
+        → let e : OutState = record { room = l.room; sent = l.sent; acked = l.acked } in
+        (heard e count ≡ Old) ⊎ (heard e count ≡ Moved) }
 {}
 
 /// At its end a net has lost nothing: all that was sent was received, each command that was issued

@@ -17,7 +17,7 @@ use arena_rules::Arena;
 use game_trait::{MirrorId, Tick};
 use late_joiner::{JoinFault, Joiner};
 use match_file::{Match, ScriptLine};
-use mirror_core::Mirror;
+use mirror_core::DeferredMirror;
 use std::alloc::Global;
 use tss_io::{NoMemory, Seq};
 
@@ -54,7 +54,7 @@ fn go_on(
     m: &Match,
     number: MirrorId,
     later: &[ScriptLine],
-    mirror: &mut Mirror<Arena>,
+    mirror: &mut DeferredMirror<Arena>,
     joiner: &mut Joiner<Arena>,
 ) -> Result<(), NoMemory>
     requires number { number < m.now.mirrors }
@@ -78,7 +78,7 @@ fn both(
     m: &Match,
     number: MirrorId,
     lines: u32,
-    mirror: &mut Mirror<Arena>,
+    mirror: &mut DeferredMirror<Arena>,
     joiner: &mut Joiner<Arena>,
 ) -> Result<Seq<u8>, NoMemory>
     requires number { number < m.now.mirrors }
@@ -102,7 +102,7 @@ fn told(
     m: &Match,
     number: MirrorId,
     lines: u32,
-    mirror: &mut Mirror<Arena>,
+    mirror: &mut DeferredMirror<Arena>,
 ) -> Result<JoinAnswer, NoMemory>
     requires number { number < m.now.mirrors }
     requires sound { IsMatch m.now }

@@ -11,19 +11,19 @@ use game_trait::{Game, MirrorId};
 use late_joiner::Joiner;
 use match_file::Match;
 use match_hall::{push_copy, push_line_of_mirror};
-use mirror_core::Mirror;
+use mirror_core::{DeferredMirror, Mirrored};
 use report_text::{done_line, same_line};
 use tss_io::NoMemory;
 
 /// Whether the worlds of the last copies are one. Both have as many copies.
-pub fn are_alike(mirror: &Mirror<Arena>, joiner: &Joiner<Arena>) -> bool
+pub fn are_alike(mirror: &DeferredMirror<Arena>, joiner: &Joiner<Arena>) -> bool
     requires { length joiner.now.inner.runs ≡ length mirror.now.runs }
     ensures { IsTrue result
         ↔ (mirror_world arena_rules mirror.now ≡ joiner_world arena_rules joiner.now) }
 {
     mirror.always();
     let last = mirror.copies() - 1;
-    mirror.world(last).same(joiner.world(last))
+    mirror.world_twin(last).same(&joiner.world_twin(last))
 }
 
 /// Appends what is told of both at the end, where their worlds are one or not. Both have as many
@@ -33,7 +33,7 @@ pub fn push_ends<G: Game + Shown>(
     out: &mut Vec<u8>,
     m: &Match,
     number: MirrorId,
-    mirror: &Mirror<G>,
+    mirror: &DeferredMirror<G>,
     joiner: &Joiner<G>,
     same: bool,
 ) -> Result<(), NoMemory>
@@ -48,7 +48,7 @@ pub fn push_ends<G: Game + Shown>(
     push_line_of_mirror::<G, _>(out, number, mirror)?;
     push_copy::<G, _>(out, number, mirror, last, &m.roster)?;
     joiner_counts(out, joiner.accepted(), joiner.turned(), joiner.repairs())?;
-    joiner_block(out, m.length, joiner.world(last), &m.roster)?;
+    joiner_block(out, m.length, &joiner.world_twin(last), &m.roster)?;
     same_line(out, same)?;
     done_line(out)
 }

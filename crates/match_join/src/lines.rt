@@ -1,10 +1,8 @@
 //! Script lines at a joiner, and its turns.
 
 ghost use Rattle.std.specs.Prelude.{◌≡◌, ◌++◌, ◌∷◌, [], filter, length, OnOk, OnErr};
-ghost use Rattle.sync_model.specs.Turns.{turn_events, drain_within};
 ghost use Rattle.match_file.specs.Data.{IsMatch, IsScriptLine};
 ghost use Rattle.match_hall.specs.Script.{names};
-ghost use Rattle.late_joiner.specs.Joiner.{joiner_after};
 ghost use Rattle.match_join.specs.Join.{joiner_line, joiner_lines, joiner_line_text, joiner_text, finished_joiner};
 ghost use Rattle.match_join.specs.Lines.{IsJoinerOf, HasRoomFor, IsReady};
 
@@ -14,29 +12,6 @@ use late_joiner::Joiner;
 use match_file::{Match, ScriptLine};
 use match_hall::{command_of, mirror_of};
 use tss_io::NoMemory;
-
-// Makes a turn of a joiner: a tick, and a step of each copy.
-fn turn<G: Game>(joiner: &mut Joiner<G>)
-    ensures { joiner.new ≡ joiner_after joiner.old (turn_events (length joiner.old.inner.runs)) }
-{
-    let copies = joiner.copies();
-    joiner.tick();
-    for copy in 0..copies {
-        joiner.step(copy);
-    }
-}
-
-/// Makes turns of a joiner until it is drained, at most so many.
-pub fn drain_joiner<G: Game>(joiner: &mut Joiner<G>, turns: u32)
-    ensures { joiner.new ≡ record joiner.old { inner = drain_within turns joiner.old.inner } }
-{
-    for _ in 0..turns {
-        if joiner.drained() {
-            return;
-        }
-        turn(joiner);
-    }
-}
 
 // Makes a script line at a joiner, and appends what it prints. On `NoMemory` the line was made, and
 // `out` is unchanged.
@@ -62,7 +37,7 @@ fn join_line<G: Game>(
             Ok(())
         }
         ScriptLine::Turn { .. } => {
-            turn(joiner);
+            let _replies = joiner.turn();
             Ok(())
         }
         ScriptLine::Arrive { from, number, .. } => {
@@ -141,7 +116,6 @@ pub fn finish_joiner<G: Game>(
         ++ joiner_text m.now.commands (filter (names number) lines.now) joiner.old) }
 {
     join_lines(joiner, m, number, lines, out)?;
-    let turns = joiner.turns_to_drain();
-    drain_joiner(joiner, turns);
+    joiner.drain();
     Ok(())
 }

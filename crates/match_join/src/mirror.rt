@@ -14,10 +14,10 @@ use arrayvec::ArrayVec;
 use game_trait::{Game, MirrorId, Reply, Tick};
 use match_file::{Match, ScriptLine};
 use match_hall::{events_of, mirror_of};
-use mirror_core::Mirror;
+use mirror_core::{DeferredMirror, Mirrored};
 
 // Makes a script line at a mirror; nothing is printed of it.
-fn make_line<G: Game>(mirror: &mut Mirror<G>, m: &Match, line: &ScriptLine)
+fn make_line<G: Game>(mirror: &mut DeferredMirror<G>, m: &Match, line: &ScriptLine)
     requires line { IsScriptLine m.now line.now }
     requires fits { AllByRecursion (Fits mirror.old)
         (events_of m.now.commands (length mirror.old.runs) line.now) }
@@ -33,7 +33,7 @@ fn make_line<G: Game>(mirror: &mut Mirror<G>, m: &Match, line: &ScriptLine)
 /// Makes those of the script lines that name the mirror of this number at that mirror, which has
 /// made all its lines in front of them. Nothing is printed.
 pub fn make_lines<G: Game>(
-    mirror: &mut Mirror<G>,
+    mirror: &mut DeferredMirror<G>,
     m: &Match,
     number: MirrorId,
     lines: &[ScriptLine],
@@ -52,7 +52,7 @@ pub fn make_lines<G: Game>(
 /// Makes those of the script lines that name the mirror of this number at that mirror, which has
 /// made all its lines in front of them, and drains it. Nothing is printed.
 pub fn finish_mirror<G: Game>(
-    mirror: &mut Mirror<G>,
+    mirror: &mut DeferredMirror<G>,
     m: &Match,
     number: MirrorId,
     later: &[ScriptLine],
@@ -68,7 +68,7 @@ pub fn finish_mirror<G: Game>(
 }
 
 /// The last copy's clock, in ticks.
-pub fn last_clock<G: Game>(mirror: &Mirror<G>) -> Tick
+pub fn last_clock<G: Game>(mirror: &DeferredMirror<G>) -> Tick
     ensures { result ≡ last_clock mirror.now.runs }
 {
     mirror.always();

@@ -16,7 +16,7 @@ use game_trait::{Game, MirrorId};
 use late_joiner::{JoinFault, Joiner, snapshot};
 use match_file::{Match, ScriptLine, plans_of};
 use match_hall::{arrivals_at, changes_at};
-use mirror_core::Mirror;
+use mirror_core::DeferredMirror;
 use std::alloc::Global;
 use tss_io::NoMemory;
 
@@ -40,7 +40,7 @@ pub fn begin<G: Game>(
     m: &Match,
     number: MirrorId,
     lines: u32,
-) -> Result<Mirror<G>, NoMemory>
+) -> Result<DeferredMirror<G>, NoMemory>
     ensures mirror { IfOk result (λ s. s ≡ mirror_before opening.now m.now number lines) }
     ensures sound { IfOk result (λ s. IsMatch m.now) }
     ensures of_match { IfOk result (λ s. IsOfMatch m.now s) }
@@ -49,7 +49,7 @@ pub fn begin<G: Game>(
     let script = m.script.as_slice();
     let room = arrivals_at(number, script);
     let changes = changes_at(number, script);
-    let mut mirror = Mirror::new(alloc, opening, plans.as_slice(), room, changes)?;
+    let mut mirror = DeferredMirror::new(alloc, opening, plans.as_slice(), room, changes)?;
     let (first, _) = cut(script, lines);
     make_lines(&mut mirror, m, number, first);
     Ok(mirror)
@@ -60,7 +60,7 @@ pub fn begin<G: Game>(
 pub fn open_joiner<G: Game>(
     alloc: Global,
     m: &Match,
-    mirror: &Mirror<G>,
+    mirror: &DeferredMirror<G>,
     number: MirrorId,
     later: &[ScriptLine],
 ) -> Result<Joiner<G>, JoinFault>
@@ -73,7 +73,7 @@ pub fn open_joiner<G: Game>(
     ensures fault { IfErr result (λ e. IsFaultAt m.now.length (last_clock mirror.now.runs) e) }
 {
     let plans = plans_of(alloc, m)?;
-    let snap = snapshot(alloc, mirror)?;
+    let snap = snapshot::<G, _>(alloc, mirror)?;
     let room = snap.rest.len() as u32 + arrivals_at(number, later);
     let changes = 1 + changes_at(number, later);
     Joiner::new(alloc, snap, plans.as_slice(), room, changes)

@@ -360,6 +360,11 @@ const LONG: [(&str, &str, usize, &str); 6] = [
     ("audit", "", 33_554_433, "refused line 0 cause 9 long\n"),
 ];
 
+const LONG_LOSSY: [(&str, &str, usize, &str); 2] = [
+    ("lossy", "", 16_777_216, "refused line 1 cause 9 long\n"),
+    ("lossy", "", 16_777_217, "refused line 0 cause 9 long\n"),
+];
+
 // A front, and so many letters that it is this long.
 fn lengthened(rt: &impl Abort, alloc: Global, front: &str, length: usize) -> String {
     let mut text = joined(rt, alloc, &[front]);
@@ -393,6 +398,13 @@ fn assert_long<R: Threads + Wait + Sync + Abort>(
 #[test]
 fn long_lines_and_long_texts(rt: HostRuntime) {
     for (word, front, length, refused) in &LONG {
+        assert_long(&rt, rt.alloc(), word, front, *length, refused);
+    }
+}
+
+#[test]
+fn long_lossy_texts(rt: HostRuntime) {
+    for (word, front, length, refused) in &LONG_LOSSY {
         assert_long(&rt, rt.alloc(), word, front, *length, refused);
     }
 }

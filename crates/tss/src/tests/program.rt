@@ -3,10 +3,10 @@
 use crate::tests::stage::lines::{assert_lines, joined, push_events};
 use crate::tests::tables::audits::{AUDITED, AUDITS};
 use crate::tests::tables::faults::TWO_FAULTS;
-use crate::tests::tables::games::PAINTS;
+use crate::tests::tables::games::{PAINTED, PAINTS};
 use crate::tests::tables::joins::JOINS;
 use crate::tests::tables::lifts::LIFTS;
-use crate::tests::tables::nets::NETS;
+use crate::tests::tables::nets::{NETS, REPEATED};
 use crate::tests::tables::orders::{ORDERED, ORDERS};
 use crate::tests::tables::plays::{LONG_DRAIN, PLAYED, PLAYS};
 use crate::tests::tables::refusals::{FAULTY_RECORDS, REFUSALS, REFUSED, TORN};
@@ -281,6 +281,8 @@ fn a_source_fails_anywhere(rt: HostRuntime) {
     assert_reads(&rt, rt.alloc(), &ORDERED);
     assert_reads(&rt, rt.alloc(), &PLAYED);
     assert_reads(&rt, rt.alloc(), &AUDITED);
+    assert_reads(&rt, rt.alloc(), &REPEATED);
+    assert_reads(&rt, rt.alloc(), &PAINTED);
 }
 
 #[test]
@@ -290,6 +292,8 @@ fn a_sink_fails_anywhere(rt: HostRuntime) {
     assert_puts(&rt, rt.alloc(), &USED_WRONG, 1);
     assert_puts(&rt, rt.alloc(), &REFUSED, 1);
     assert_puts(&rt, rt.alloc(), &AUDITED, 1);
+    assert_puts(&rt, rt.alloc(), &REPEATED, 8);
+    assert_puts(&rt, rt.alloc(), &PAINTED, 1);
 }
 
 #[test]

@@ -3,7 +3,7 @@
 use crate::tests::program::Row;
 
 // A player paints the cell that it comes from and the one that it goes to.
-const PAINTED: Row = Row {
+pub const PAINTED: Row = Row {
     name: "paint a line",
     words: &["paint", "order"],
     front: "tss match 1\nlength 2\ngrid 3 1\nmirrors 1\ndelays 0\npace 0\n",
@@ -14,8 +14,19 @@ const PAINTED: Row = Row {
     kept: "",
 };
 
+// Two mirrors of three copies, and commands of both.
+const SEVERAL_FRONT: &str = "tss match 1\nlength 6\ngrid 6 1\nmirrors 2\ndelays 0 1 3\npace 0\n\
+    player ann 0 0 e\nplayer bob 5 0 w\ncmd 0 0 0 0 go\ncmd 1 1 0 1 shoot\n\
+    cmd 2 0 1 0 go\n";
+
+// All of them arrive at both mirrors, some after copies executed their ticks.
+const SEVERAL_SCRIPT: &str =
+    "script\narrive 0 0 0\nturn 0\nturn 0\nturn 1\nturn 1\narrive 1 1 0\nturn 1\n\
+    arrive 0 1 0\nturn 0\narrive 0 0 1\narrive 1 0 0\narrive 1 0 1\nturn 1\n\
+    turn 0\nend\n";
+
 // Matches, and what painting comes to.
-pub const PAINTS: [Row; 8] = [
+pub const PAINTS: [Row; 10] = [
     PAINTED,
     Row {
         name: "a pickup's cell becomes nobody's",
@@ -31,6 +42,31 @@ pub const PAINTS: [Row; 8] = [
             done\n",
         logs: 1,
         kept: "0.0 t s0 t s0\n",
+        ..PAINTED
+    },
+    Row {
+        name: "several copies, of which some are repaired",
+        words: &["paint", "play"],
+        front: SEVERAL_FRONT,
+        rest: SEVERAL_SCRIPT,
+        written: "repair 1 1\nrepair 0 1\nrepair 1 1\nrepair 1 1\nrepair 1 2\nrepair 0 1\n\
+            mirror 0 accepted 3 turned 0 repairs 2\nworld 0 0 6\npainter ann 2 0 e 3\n\
+            painter bob 5 0 w 3\nrow aaabbb\nworld 0 1 6\npainter ann 2 0 e 3\n\
+            painter bob 5 0 w 3\nrow aaabbb\nworld 0 2 6\npainter ann 2 0 e 3\n\
+            painter bob 5 0 w 3\nrow aaabbb\nmirror 1 accepted 3 turned 0 repairs 5\n\
+            world 1 0 6\npainter ann 2 0 e 3\npainter bob 5 0 w 3\nrow aaabbb\n\
+            world 1 1 6\npainter ann 2 0 e 3\npainter bob 5 0 w 3\nrow aaabbb\n\
+            world 1 2 6\npainter ann 2 0 e 3\npainter bob 5 0 w 3\nrow aaabbb\ndone\n",
+        logs: 2,
+        kept: "0.0 t s0 t s0 s1 1.0 t s0 s1 0.1 t s0 s1 s2 t s0 s1 s2 t s0 s1 s2 t s1 s2 t s2 t s2\n\
+            t s0 t s0 s1 1.0 t s0 s1 0.0 0.1 t s0 s1 s2 t s0 s1 s2 t s0 s1 s2 t s1 s2 t s2 t s2\n",
+        ..PAINTED
+    },
+    Row {
+        name: "these end as the match in order does",
+        front: SEVERAL_FRONT,
+        rest: SEVERAL_SCRIPT,
+        written: "order 6\npainter ann 2 0 e 3\npainter bob 5 0 w 3\nrow aaabbb\ndone\n",
         ..PAINTED
     },
     Row {
