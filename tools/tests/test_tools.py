@@ -185,6 +185,14 @@ class Claims(unittest.TestCase):
             rows.append((crate, parts[0] if ".rt" not in parts[0] else "", src))
         return rows
 
+    def test_each_crate_has_a_readme(self):
+        for name in sorted(os.listdir(os.path.join(TOP, "crates"))):
+            page = read(os.path.join(TOP, "crates", name, "README.md"))
+            self.assertTrue(page.startswith(f"# {name}\n"), name)
+            for file in os.listdir(os.path.join(TOP, "crates", name, "src")):
+                if file.endswith(".rt"):
+                    self.assertIn(f"`src/{file}`", page, name)
+
     def test_the_page_lists_what_the_clauses_cite(self):
         printed, said, status = tool("claim.py")
         self.assertEqual((said, status), ("", 0))
