@@ -1,0 +1,42 @@
+//! The program `tss_mirror`: one mirror of a match, which is spoken to line by line over the standard
+//! streams. What it does is `live`.
+#![tactic(auto)]
+
+mod behind;
+mod done;
+pub mod laws;
+mod live;
+mod memory;
+mod streams;
+mod talking;
+mod words;
+
+use crate::behind::words_behind;
+use crate::done::{Done, Status};
+use crate::live::live;
+use crate::streams::StreamPeer;
+use std::alloc::Global;
+use std::process::ExitCode;
+use std::rt::Env;
+use std::{env, io};
+use tss_io::NoMemory;
+
+// The program's own name and the words behind it, as the system tells them.
+fn arguments(rt: &(impl Env + Alloc<A = Global>)) -> io::Result<Vec<String>> {
+    Ok(env::args(rt)?.collect(rt.alloc())?)
+}
+
+fn main(rt: HostRuntime) -> ExitCode {
+    let alloc = rt.alloc();
+    let arguments = arguments(&rt);
+    let mut peer = StreamPeer::new(rt.stdin(), rt.stdout());
+    let done = match words_behind(&arguments) {
+        Ok(words) => live(alloc, words, &mut peer),
+        Err(NoMemory) => Done::of(Status::NoMemory),
+    };
+    if let Some(failure) = done.failure() {
+        // Where standard error fails too, the exit code still tells.
+        let _ = eprintln!(rt; "tss_mirror: {failure}");
+    }
+    done.exit_code()
+}
