@@ -196,8 +196,8 @@ class LinkIn:
         except Stranger as why:
             self.room.say(f"a connection was closed: {why}")
             send(writer, f"closed {why}")
-        except (OSError, asyncio.TimeoutError):
-            pass  # it went away, and comes back with what wasn't acknowledged
+        except (OSError, asyncio.TimeoutError, asyncio.CancelledError):
+            pass  # it went away, and comes back with what wasn't acknowledged; or the session is over
         finally:
             writer.close()
 

@@ -197,7 +197,7 @@ class Programs(Files):
             self.assertIn("4 mirrors end at one world", out)
 
     def test_faults_are_told_in_a_line(self):
-        for words, wrong in ((["--mirror", "1"], "--key FILE"), (["--mirror", "9"], "no number from 0 to 7"), (["--bots", "9"], "1 too few"),
+        for words, wrong in ((["--mirror", "1"], "--key FILE"), (["--mirror", "9"], "no number from 0 to 7"), (["--bots", "17"], "1 too few"),
                              (["--mirror-program", "/no/program"], "build it by"), (["--loss", "2"], "no part from 0 to 0.5")):
             out, said, status = self.serve("--no-page", *words)
             self.assertNotIn("Traceback", said)
