@@ -465,6 +465,14 @@ impl<'a, R: Clock> Gate for HeldLong<'a, R> {
     }
 }
 
+// Asserts that each of the six jobs of a race was done before its budget was spent.
+fn assert_turns_left(rt: &impl Abort, counts: &Counts, budget: u64) {
+    for job in 0..6usize {
+        let turns = counts.passes[job].load(Ordering::SeqCst);
+        assert!(rt; turns < budget, "job {job} has spent its turns");
+    }
+}
+
 // While one is held up, the others don't spend their turns: all jobs are done with turns left, so the
 // threads have exchanged all commands and run all ticks.
 #[test]
@@ -474,10 +482,7 @@ fn others_wait_for_one_that_is_held_up(rt: HostRuntime) {
         counts: counting(),
     };
     let (record, _) = raced(&rt, rt.alloc(), LONG, &gate, 6_656, 0);
-    for job in 0..6usize {
-        let turns = gate.counts.passes[job].load(Ordering::SeqCst);
-        assert!(rt; turns < 6_656, "job {job} has spent its turns");
-    }
+    assert_turns_left(&rt, &gate.counts, 6_656);
     assert_legal(&rt, rt.alloc(), "one is held up", record.as_str());
 }
 
