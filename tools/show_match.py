@@ -13,8 +13,8 @@ was late, and the keys `n` and `p` go to the next and the previous one. A repair
 the last copy. `page.html#17` opens at the 17th line; 0 is the opening, and behind the last line the mirrors are drained.
 
 The worlds are those that `play` prints for `world` lines, which the tool puts behind each line, at most 1,024 in one run of the
-program. The script's own `world` and `run` lines change nothing and are left out. A page has at most 20,000 worlds: of a longer
-script it shows as many lines as that from `--from` on, and says so.
+program for each mirror. The script's own `world` and `run` lines change nothing and are left out. A page has at most 20,000 worlds: of
+a longer script it shows as many lines as that from `--from` on, and says so.
 """
 
 import argparse
@@ -115,8 +115,20 @@ class Film:
         if line:
             self.clocks[int(line.split(" ")[1])].along(line, self.plans)
 
-    def script(self, end):
-        return [line for _, line in self.lines[:end] if line]
+    def front(self, end, mirror):
+        """A mirror's lines before this one, without those that change none of its worlds whatever they print: arrivals that stood
+        before, and ticks of a clock that stands at its end."""
+        kept, arrived, clock = [], set(), Clock(self.match.numbers("length")[0])
+        for _, line in self.lines[:end]:
+            if not line or int(line.split(" ")[1]) != mirror or line in arrived:
+                continue
+            before = clock.clock
+            clock.along(line, self.plans)
+            if line.startswith("arrive "):
+                arrived.add(line)
+            if clock.clock > before or not line.startswith("tick "):
+                kept.append(line)
+        return kept
 
     def world_lines(self, mirror):
         return [f"world {mirror} {copy}" for copy in range(self.copies)]
@@ -135,42 +147,49 @@ class Film:
 
     def views(self, at):
         """How all mirrors stand before a line."""
-        output = Output(self.play(self.script(at) + [line for mirror in range(self.mirrors) for line in self.world_lines(mirror)]))
+        self.before = []
+        for mirror in range(self.mirrors):
+            front = self.front(at, mirror)
+            if len(front) + self.copies > MOST_SCRIPT_LINES:
+                raise Wrong(f"--from {at}: with the worlds behind them the script would have over {MOST_SCRIPT_LINES} lines")
+            self.before.append(self.played(front, mirror, [])[1])
+            self.step("opening" if at == 0 else f"after {at} lines", mirror, [], self.before[mirror])
+
+    def played(self, front, mirror, lines):
+        """What a mirror prints behind its lines in front, each of these lines with its worlds behind it; and its worlds before them."""
+        shown = [word for line in lines for word in (line, *self.world_lines(mirror))]
+        output = Output(self.play(front + self.world_lines(mirror) + shown))
         output.until_world()
-        self.before = [self.blocks(output) for _ in range(self.mirrors)]
-        for mirror, blocks in enumerate(self.before):
-            self.step("opening" if at == 0 else f"after {at} lines", mirror, [], blocks)
+        return output, self.blocks(output)
 
     def window(self, begin):
-        """The steps of as many lines as one run of the program shows, and the line behind them."""
-        script = self.script(begin)
-        room = (MOST_SCRIPT_LINES - len(script) - self.copies) // (1 + self.copies)
+        """The steps of as many lines as a run of the program for each mirror shows, and the line behind them."""
+        fronts = [self.front(begin, mirror) for mirror in range(self.mirrors)]
+        room = (MOST_SCRIPT_LINES - max(map(len, fronts)) - self.copies) // (1 + self.copies)
         end = min(self.last, begin + max(0, min(MOST_A_RUN // self.copies - 1, room)))
-        script += self.world_lines(0)
+        of_mirror = {}
         for _, line in self.lines[begin:end]:
-            script += [line] + self.world_lines(int(line.split(" ")[1])) if line else []
-        if end > begin:
-            output = Output(self.play(script))
-            output.until_world()
-            self.blocks(output)
-            for shown, line in self.lines[begin:end]:
-                self.show(shown, line, output)
+            if line:
+                of_mirror.setdefault(int(line.split(" ")[1]), []).append(line)
+        outputs = {mirror: self.played(fronts[mirror], mirror, lines)[0] for mirror, lines in of_mirror.items()}
+        for shown, line in self.lines[begin:end]:
+            self.show(shown, line, outputs)
         return end
 
-    def show(self, shown, line, output):
+    def show(self, shown, line, outputs):
         if not line:
             mirror = int(shown.split(" ")[1])
             self.step(shown, mirror, [], self.before[mirror])
             return
         mirror = int(line.split(" ")[1])
-        said = output.until_world()
+        said = outputs[mirror].until_world()
         self.follow(line)
-        self.before[mirror] = self.blocks(output)
+        self.before[mirror] = self.blocks(outputs[mirror])
         self.step(shown, mirror, said, self.before[mirror])
 
     def drained(self):
         """How all mirrors stand at the end."""
-        lines = self.play(self.script(len(self.lines)))
+        lines = self.play([line for _, line in self.lines if line])
         at = next(place for place, line in enumerate(lines) if line.startswith("mirror "))
         output = Output(lines[at:])
         for mirror, clock in enumerate(self.clocks):

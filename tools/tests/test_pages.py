@@ -56,11 +56,19 @@ class Films(Files):
 
     def test_the_end_of_a_long_script_is_shown(self):
         setup = read(os.path.join(TOP, "examples", "late.match")).split("script\n")[0]
-        long = self.file("long.match", setup + "script\n" + "tick 0\n" * 262_144 + "end\n")
+        for lines, shown in (("tick 0\n" * 262_144, 144), ("arrive 0 0 0\n" * 262_144, 144)):
+            said, status, page = self.made(self.file("long.match", setup + "script\n" + lines + "end\n"), "--from", "262000")
+            self.assertEqual(status, 0)
+            self.assertNotIn("can't be shown", said)
+            self.assertEqual(sum(page.count(f'"line":"{line}"') for line in set(lines.split("\n")[:-1])), shown)
+
+    def test_a_script_that_leaves_no_room_for_worlds_says_so(self):
+        setup = read(os.path.join(TOP, "examples", "late.match")).split("script\n")[0]
+        long = self.file("long.match", setup + "script\n" + "step 0 0\n" * 262_144 + "end\n")
         said, status, page = self.made(long, "--from", "262000")
         self.assertEqual(status, 0)
         self.assertIn("can't be shown", said)
-        self.assertGreater(page.count('"line":"tick 0"'), 100)
+        self.assertGreater(page.count('"line":"step 0 0"'), 30)
 
     def test_faults_are_told_in_one_line(self):
         text = read(os.path.join(TOP, "examples", "late.match"))
