@@ -198,7 +198,9 @@ class Claims(unittest.TestCase):
         return rows
 
     def test_each_crate_has_a_readme(self):
+        architecture = read(os.path.join(TOP, "docs", "ARCHITECTURE.md"))
         for name in sorted(os.listdir(os.path.join(TOP, "crates"))):
+            self.assertIn(f"[`{name}`](../crates/{name})", architecture)
             page = read(os.path.join(TOP, "crates", name, "README.md"))
             self.assertTrue(page.startswith(f"# {name}\n"), name)
             for file in os.listdir(os.path.join(TOP, "crates", name, "src")):
