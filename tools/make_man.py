@@ -9,7 +9,7 @@
 
 Without a name the page is that of the program `tss`: its words, its numbers and its statuses are the tables of docs/FORMATS.md; that
 of `tss_mirror` is made of its section there. Another name is that of a tool in tools/, whose page is what it says to --help. --tools
-prints docs/TOOLS.md: of each tool the first sentence and the command lines of that. Nothing is installed.
+prints docs/TOOLS.md: of each tool the first sentence and the first command line of that. Nothing is installed.
 """
 
 import argparse
@@ -91,16 +91,16 @@ def help_of(name):
 
 
 def page_of_tools():
-    """Each tool's first sentence and its command lines."""
-    out = ["# Tools\n", "Each runs the built programs where it needs them, and says the rest to `--help`; `tools/make_man.py NAME` makes a manual page of that.",
+    """Each tool's first sentence and its first command line."""
+    out = ["# Tools\n", "Each runs the built programs where it needs them. All its forms it says to `--help`, of which `tools/make_man.py NAME` makes a manual page.",
            "Only Python's standard library is used, but by `serve_mirrors.py` for its page. This page is made by `tools/make_man.py --tools`."]
     for name in tools():
         said = help_of(name).split("options:")[0]
         if said:
             about = said.split("\n\n", 1)[1] if said.startswith("usage:") else said
             first = re.match(r"(?s).*?\.(?=\s)", about)[0]
-            lines = [re.sub(r"  +then:.*", "", line) for line in re.findall(rf"(?m)^    python3 tools/{name}\.py.*$", about)]
-            out += [f"\n## {name}.py\n", " ".join(first.split()) + "\n", *lines]
+            line = re.search(rf"(?m)^    python3 tools/{name}\.py.*?(?=  +then:|$)", about)[0]
+            out += [f"\n## {name}.py\n", " ".join(first.split()) + "\n", line]
     return "\n".join(out) + "\n"
 
 
