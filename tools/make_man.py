@@ -17,6 +17,7 @@ import os
 import re
 import subprocess
 import sys
+import textwrap
 
 from match_lines import Wrong, end_with
 
@@ -92,15 +93,16 @@ def help_of(name):
 
 def page_of_tools():
     """Each tool's first sentence and its first command line."""
-    out = ["# Tools\n", "Each runs the built programs where it needs them. All its forms it says to `--help`, of which `tools/make_man.py NAME` makes a manual page.",
-           "Only Python's standard library is used, but by `serve_mirrors.py` for its page. This page is made by `tools/make_man.py --tools`."]
+    about = ("Each runs the built programs where it needs them. All its forms it says to `--help`, of which `tools/make_man.py NAME` makes a manual "
+             "page. Only Python's standard library is used, but by `serve_mirrors.py` for its page. `tools/make_man.py --tools` makes this page.")
+    out = ["# Tools\n", textwrap.fill(about, 120)]
     for name in tools():
         said = help_of(name).split("options:")[0]
         if said:
             about = said.split("\n\n", 1)[1] if said.startswith("usage:") else said
             first = re.match(r"(?s).*?\.(?=\s)", about)[0]
             line = re.search(rf"(?m)^    python3 tools/{name}\.py.*?(?=  +then:|$)", about)[0]
-            out += [f"\n## {name}.py\n", " ".join(first.split()) + "\n", line]
+            out += [f"\n## {name}.py\n", textwrap.fill(" ".join(first.split()), 120) + "\n", line]
     return "\n".join(out) + "\n"
 
 
