@@ -3,7 +3,7 @@
 
     python3 tools/draw_record.py RECORD [--mirror M] [--from EVENT] [--to EVENT] > PICTURE.svg
 
-RECORD is a file with a legal record (docs/RECORDS.md); of a text that is none it says in one line what is wrong. From left to
+RECORD is a file with a legal record (docs/FORMATS.md); of a text that is none it says in one line what is wrong. From left to
 right stands the log, one column an event; in a lane the clock rises by one tick at each step of its copy. Below a mirror's lanes
 stands what arrived, at its event:
 

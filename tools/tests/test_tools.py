@@ -153,6 +153,18 @@ class Manuals(unittest.TestCase):
             self.assertIn(f"\n.TP\n.B {word}\n", page)
         self.assertIn("\n.B tss order|play|race|audit|score|lift|soak N|", page)
 
+    def test_the_live_mirrors_page_has_each_request(self):
+        page, said, status = tool("make_man.py", "tss_mirror")
+        self.assertEqual((said, status), ("", 0))
+        for request in ("own P ACT", "cmd T F N P ACT", "commands", "end"):
+            self.assertIn(f"\n.TP\n.B {request}\n", page)
+        self.assertIn("usage: tss_mirror M and status 2", page)
+
+    def test_the_page_of_tools_is_what_they_say(self):
+        page, said, status = tool("make_man.py", "--tools")
+        self.assertEqual((said, status), ("", 0))
+        self.assertEqual(read(os.path.join(TOP, "docs", "TOOLS.md")), page, "python3 tools/make_man.py --tools > docs/TOOLS.md")
+
     def test_each_tool_has_a_page(self):
         page, said, status = tool("make_man.py", "study_delays")
         self.assertEqual((said, status), ("", 0))
@@ -186,7 +198,9 @@ class Claims(unittest.TestCase):
         return rows
 
     def test_each_crate_has_a_readme(self):
+        architecture = read(os.path.join(TOP, "docs", "ARCHITECTURE.md"))
         for name in sorted(os.listdir(os.path.join(TOP, "crates"))):
+            self.assertIn(f"[`{name}`](../crates/{name})", architecture)
             page = read(os.path.join(TOP, "crates", name, "README.md"))
             self.assertTrue(page.startswith(f"# {name}\n"), name)
             for file in os.listdir(os.path.join(TOP, "crates", name, "src")):
