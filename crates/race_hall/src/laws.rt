@@ -9,7 +9,7 @@ ghost use Rattle.game_trait.specs.Count.{times};
 ghost use Rattle.game_trait.specs.Run.{world_of};
 ghost use Rattle.game_trait.specs.Ordered.{time_ordered};
 ghost use Rattle.link_ring.specs.declared.message.Message.{Message};
-ghost use Rattle.match_file.specs.Data.{MatchData};
+ghost use Rattle.match_file.specs.Data.{MatchData, IsMatch};
 ghost use Rattle.sync_model.specs.State.{MirrorState};
 ghost use Rattle.sync_model.specs.Change.{said, after};
 ghost use Rattle.sync_model.specs.History.{opening_of, IsFromHistory};
@@ -54,6 +54,13 @@ pub fn race_ends<G: Game>()
         → AllFed c job end seat history → Closed c opening spare (seat m) (history m) s
         → IsLeftAt c end m left
         → EndsAtFold G.rules c opening (finished s (to_deliver c m (λ k. (end k).marked) left)) }
+{}
+
+/// There is an end for a race of each match, whatever the game: what a race promises of the mirrors
+/// that it answers can be met.
+pub fn some_race_ends<G: Game>()
+    ensures { (m : MatchData) (opening : G) → IsMatch m
+        → (mirrors : List (MirrorState G)) × AreRaced G.rules m opening mirrors }
 {}
 
 /// The mirrors that a race answers are those of the match, one for each number. Each has accepted

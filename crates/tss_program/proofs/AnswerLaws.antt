@@ -1,5 +1,5 @@
 -- What is due: one answer for any words but `race`, with its status and what it keeps.
-use Rattle.std.proofs.Common.{◌≡◌, true, false, Bool, ℕ, ◌<◌, ◌≤◌, ◌⊎◌, List, [], Option, Some, None, inl, inr, sym, ap, subst, refl, ◌∙◌, arith}
+use Rattle.std.proofs.Common.{◌≡◌, true, false, Bool, ℕ, zero, suc, ◌<◌, ◌≤◌, ◌⊎◌, List, [], Option, Some, None, inl, inr, sym, ap, subst, refl, ◌∙◌, arith}
 use Rattle.std.specs.Prelude.{nat_eq, nat_lt}
 use Rattle.std.proofs.lemmas.Bool.Decides.{nat_tests}
 use Rattle.tss_io.specs.declared.cause.Cause.TheVariants.{Number}
@@ -12,6 +12,8 @@ use Rattle.match_file.specs.Text.{match_text}
 use Rattle.match_hall.specs.Script.{played, logs_from}
 use Rattle.match_hall.proofs.Headline.{played-AllPlayed}
 use Rattle.run_recorder.specs.declared.race_record.RaceRecord.{RaceRecord}
+use Rattle.run_recorder.specs.Text.{record_text}
+use Rattle.race_hall.proofs.SomeRace.{some_raced}
 use Rattle.run_auditor.specs.declared.verdict.Verdict.{Verdict}
 use Rattle.run_auditor.specs.declared.verdict.Verdict.TheVariants.{Legal, NotLegal}
 use Rattle.run_auditor.proofs.AuditLaws.{says_exactly}
@@ -22,6 +24,7 @@ use Rattle.run_recorder.specs.declared.log.MirrorLog.{MirrorLog}
 use Rattle.run_auditor.specs.Audit.{event_count}
 use Rattle.tss_race.specs.Record.{IsRecordOfRace, record_of}
 use Rattle.tss_race.proofs.LegalLaws.{record_legal}
+use Rattle.tss_race.proofs.ArenaLaws.{arena_record}
 use Rattle.watch_board.specs.Behaviour.{Behaviour}
 use Rattle.tss_words.specs.declared.subcommand.MatchTask.{MatchTask}
 use Rattle.tss_words.specs.declared.subcommand.MatchTask.TheVariants.{Order, Play, Race, Lift, Score, PaintOrder, PaintPlay, Join, Rewind}
@@ -85,16 +88,27 @@ one-match ws PaintPlay plain m a b is its = is ∙ sym its
 one-match ws (Join number lines) plain m a b is its = one-joined number lines m a b is its
 one-match ws (Rewind every room ticks) plain m a b is its = is ∙ sym its
 
-some-match : (ws : List Behaviour) (task : MatchTask) → is_race task ≡ false → (m : MatchData) → IsMatch m → (due : Due) × IsMatchAnswer ws task m due
-some-match ws Order plain m sound = (_, refl)
-some-match ws Play plain m sound = (_, refl)
-some-match ws Race plain m sound = absurd cc
-some-match ws Lift plain m sound = (_, refl)
-some-match ws Score plain m sound = (_, refl)
-some-match ws PaintOrder plain m sound = (_, refl)
-some-match ws PaintPlay plain m sound = (_, refl)
-some-match ws (Join number lines) plain m sound = some-joined number lines m sound
-some-match ws (Rewind every room ticks) plain m sound = (_, refl)
+-- of a match that is raced: the record of workers that did nothing, or the refusal of a match without pace
+some-raced : (m : MatchData) → IsMatch m → (due : Due) × IsRaced m due
+some-raced m sound = by m.pace refl
+  where
+    by : (pace : ℕ) → m.pace ≡ pace → (due : Due) × IsRaced m due
+    by zero is = (refusal_due (refused_at pace_line Number), no_pace is refl)
+    by (suc pace) is =
+        let ends = some_raced arena_rules m (opening_world m.layout) sound in
+        (complete (record_text (record_of (arena_shown m) m ends.0)) (logs_from 0 ends.0),
+        raced ends.0 (omega (arith, is)) refl (record { raced = ends.1; text_is = refl; kept_is = refl }) (arena_record m ends.0 sound ends.1))
+
+some-match : (ws : List Behaviour) (task : MatchTask) (m : MatchData) → IsMatch m → (due : Due) × IsMatchAnswer ws task m due
+some-match ws Order m sound = (_, refl)
+some-match ws Play m sound = (_, refl)
+some-match ws Race m sound = some-raced m sound
+some-match ws Lift m sound = (_, refl)
+some-match ws Score m sound = (_, refl)
+some-match ws PaintOrder m sound = (_, refl)
+some-match ws PaintPlay m sound = (_, refl)
+some-match ws (Join number lines) m sound = some-joined number lines m sound
+some-match ws (Rewind every room ticks) m sound = (_, refl)
 
 one-audit : (r : RaceRecord) (a b : Due) → IsAudited r a → IsAudited r b → a ≡ b
 one-audit r a b is its =
@@ -113,13 +127,13 @@ one-due ws (Some Audit) plain input a b is its = one-for IsAudited record-exact 
 one-due ws (Some Lossy) plain input a b is its = one-for (λ x due. due ≡ due_of_lossy x) lossy-exact (λ x a b is its. is ∙ sym its) input a b is its
 one-due ws (Some (Soak n)) plain input a b is its = is ∙ sym its
 
--- and some text is
-pub some-due : (ws : List Behaviour) (what : Option Subcommand) → races what ≡ false → (input : List ℕ) → (due : Due) × IsDueOf ws what input due
-some-due ws None plain input = (usage_due, refl)
-some-due ws (Some (OfMatch task)) plain input = some-for (IsMatchAnswer ws task) match-exact (λ m text is. some-match ws task plain m is.0) input
-some-due ws (Some Audit) plain input = some-for IsAudited record-exact some-audit input
-some-due ws (Some Lossy) plain input = some-for (λ x due. due ≡ due_of_lossy x) lossy-exact (λ x text is. (due_of_lossy x, refl)) input
-some-due ws (Some (Soak n)) plain input = (due_of_number n, refl)
+-- and some text is, for any words
+pub some-due : (ws : List Behaviour) (what : Option Subcommand) (input : List ℕ) → (due : Due) × IsDueOf ws what input due
+some-due ws None input = (usage_due, refl)
+some-due ws (Some (OfMatch task)) input = some-for (IsMatchAnswer ws task) match-exact (λ m text is. some-match ws task m is.0) input
+some-due ws (Some Audit) input = some-for IsAudited record-exact some-audit input
+some-due ws (Some Lossy) input = some-for (λ x due. due ≡ due_of_lossy x) lossy-exact (λ x text is. (due_of_lossy x, refl)) input
+some-due ws (Some (Soak n)) input = (due_of_number n, refl)
 
 -- ---- its status
 

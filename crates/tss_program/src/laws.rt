@@ -62,11 +62,10 @@ ghost use Rattle.tss_program.specs.Promises.{keeps_logs, Keeps, KeepsPlayed, Kee
 
 use game_trait::Game;
 
-/// For any words other than `race`, any input and any watchers exactly one text is due, with one
-/// status and one list of logs.
+/// For any words, any input and any watchers some text is due, with its status and its logs; for
+/// words other than `race` exactly one is.
 pub fn one_is_due()
     ensures some { (watchers : List Behaviour) (words : List (List ℕ)) (input : List ℕ)
-        → races (subcommand_of words) ≡ false
         → (due : Due) × IsDue watchers words input due }
     ensures one { (watchers : List Behaviour) (words : List (List ℕ)) (input : List ℕ) (a b : Due)
         → races (subcommand_of words) ≡ false
