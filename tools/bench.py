@@ -33,8 +33,9 @@ With the word `race` a match of such a kind (four, if none is given) with 8,192 
 is raced on 1, 2 and 4 cores; `play` of the same text stands beside it.
 
 With the word `beside` the words of painting, late mirrors, worlds at ticks and lossy nets are timed in turn with `order` or `play` of
-the same match, `four` with 8,192 commands. `join` stands beside `play` of one mirror's lines, taken twice. `lossy` has a net of 262,144
-lines over 32,768 commands, and beside it stands `play` of a script with the same arrivals and turns.
+the same match, `four` with 8,192 commands. `join` stands beside `play` of one mirror's lines, taken twice; so it does once more of a
+match in which 196,608 arrivals of one command from before the joiner's start come behind 32,767 that it was handed. `lossy` has a net
+of 262,144 lines over 32,768 commands, and beside it stands `play` of a script with the same arrivals and turns.
 
 TSS_MIRROR is the built program `tss_mirror`. With the word `live` it is fed whole inputs at once: a million requests that change nothing
 (`step`, answered `idle`), a million that are refused, and a `play` of a match of 4 mirrors with four copies, in which three commands of
@@ -248,21 +249,35 @@ def one_mirror(text):
     return "".join(line + "\n" for line in [*head, *own, "end"]).encode(), len(own)
 
 
+def old_text():
+    """A match whose mirror takes 32,767 commands for later and is brought an old one again and again behind the start of a joiner, and
+    the number of lines before that start."""
+    start, old = LENGTH // 2, 32_767
+    lines = ["tss match 2", f"length {LENGTH}", "grid 64 64", "mirrors 1", "delays 0", "pace 0", "player ann 32 32 e"]
+    lines += [f"cmd {start + number % start} 0 {number} 0 {('left', 'right')[number % 2]}" for number in range(old)]
+    lines += [f"cmd 0 0 {old} 0 go", "script"]
+    begun = [f"arrive 0 0 {number}" for number in range(old)] + ["turn 0"] * start
+    lines += [*begun, *[f"arrive 0 0 {old}"] * 196_608, "end"]
+    return "".join(line + "\n" for line in lines).encode(), len(begun)
+
+
 def time_beside(program, runs):
     """Times words in turn with `order` or `play` of the same match, and prints how many times as long they take."""
     text = hall_text(8192, "four")
     one, own = one_mirror(text)
     net, script = net_texts()
+    olds, begun = old_text()
     ticks = [str(256 * k) for k in range(16)]
     for words, given, beside, other, times in (
         (["paint", "order"], text, ["order"], text, 1), (["paint", "play"], text, ["play"], text, 1),
         (["rewind", "64", "16", *ticks], text, ["order"], text, 1),
-        (["join", "0", str(own // 2)], one, ["play"], one, 2), (["lossy"], net, ["play"], script, 1),
+        (["join", "0", str(own // 2)], one, ["play"], one, 2), (["join", "0", str(begun)], olds, ["play"], olds, 2),
+        (["lossy"], net, ["play"], script, 1),
     ):
         made = [(run_once(program, words, given), run_once(program, beside, other)) for _ in range(runs)]
         least, by = (min(pair[at][0] for pair in made) for at in (0, 1))
         peak = max(pair[0][1] for pair in made)
-        print(f"{' '.join(words[:2]):12} {least * 1000:8.2f} ms  {peak / 1024:6.1f} MiB  {beside[0]} {by * 1000:8.2f} ms"
+        print(f"{' '.join(words[:3]):12} {least * 1000:8.2f} ms  {peak / 1024:6.1f} MiB  {beside[0]} {by * 1000:8.2f} ms"
               f"  x{least / by / times:.2f}{' of it twice' if times == 2 else ''}")
 
 

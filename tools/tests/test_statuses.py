@@ -14,6 +14,9 @@ from common import PROGRAM, TOP
 ENDED = "tss match 1\nlength 1\ngrid 3 1\nmirrors 1\ndelays 0\npace 0\nplayer ann 0 0 e\nscript\nturn 0\nturn 0\nend\n"
 
 
+PAGE = 4096
+
+
 def sample(name):
     with open(os.path.join(TOP, "examples", name), encoding="ascii") as file:
         return file.read()
@@ -31,6 +34,15 @@ def ended(words, text="", limit=None, **streams):
     return done.returncode, (done.stdout or b"").decode(), (done.stderr or b"").decode()
 
 
+def least_limit(words, text):
+    """The least memory, in pages, with which the words are answered."""
+    low, high = 1, 1 << 16
+    while low < high:
+        middle = (low + high) // 2
+        low, high = (low, middle) if ended(words, text, limit=middle * PAGE)[0] == 0 else (middle + 1, high)
+    return low
+
+
 @unittest.skipUnless(os.path.exists(PROGRAM), "the program isn't built")
 class Statuses(unittest.TestCase):
     def test_0_what_is_due_is_written(self):
@@ -45,6 +57,18 @@ class Statuses(unittest.TestCase):
                 break  # too little for the process itself, which no program ends
             self.assertEqual((written, said), ("", "tss: out of memory\n"))
         self.assertLess(limit, needed - 1)
+
+    def test_1_a_world_that_was_looked_up_finds_no_memory(self):
+        """Looks at one tick and at 16 print as much, but keep one world and 16: some memory is enough for the former alone."""
+        one, each = (["rewind", "8192", "64", *map(str, ticks)] for ticks in ([100] * 16, range(100, 116)))
+        for commands in range(0, 4096, 20):
+            lines = ENDED.splitlines()[:7] + [f"cmd {number} 0 {number} 0 left" for number in range(commands)] + ["end"]
+            text = "".join(line + "\n" for line in lines).replace("length 1\n", "length 8192\n")
+            limit = (least_limit(one, text) + 16) * PAGE
+            if (ended(one, text, limit=limit)[0], ended(each, text, limit=limit)[0]) == (0, 1):
+                self.assertEqual(ended(each, text, limit=limit), (1, "", "tss: out of memory\n"))
+                return
+        self.fail("each memory is enough for all looks, or for none")
 
     def test_2_words_ask_for_nothing(self):
         status, written, said = ended(["order", "order"], stdin=subprocess.DEVNULL)

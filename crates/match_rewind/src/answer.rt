@@ -1,6 +1,6 @@
 //! The text of looks at the ticks of a match.
 
-ghost use Rattle.std.specs.Prelude.{◌≡◌, ◌≤◌, ◌<◌, ◌++◌, true, length, IfOk, OnOk, if◌then◌else◌};
+ghost use Rattle.std.specs.Prelude.{◌≡◌, ◌≤◌, ◌<◌, ◌^◌, ◌++◌, true, length, IfOk, OnOk, if◌then◌else◌};
 ghost use Rattle.std.specs.List.{AllByRecursion};
 ghost use Rattle.game_trait.specs.declared.limits.TheConstants.{LONGEST_MATCH, MOST_CACHED};
 ghost use Rattle.report_text.specs.Worlds.{Showing, block_text, at_head};
@@ -15,7 +15,6 @@ use report_text::{done_line, hits_line, world_block};
 use rewind_store::{Looked, Rewind};
 use std::alloc::Global;
 use tss_io::{NoMemory, Seq};
-use tss_words::MOST_LOOKS;
 
 // How much a look counts among those that hit.
 fn count(hit: bool) -> u32
@@ -58,7 +57,7 @@ fn push_looks<G: Game + Shown>(
     out: &mut Vec<u8>,
 ) -> Result<u32, NoMemory>
     requires ticks { AllByRecursion (λ t. t ≤ store.old.length) ticks.now }
-    requires few { length ticks.now ≤ MOST_LOOKS }
+    requires few { length ticks.now < 2 ^ 32 }
     ensures hits { IfOk result (λ n. n ≡ hits_of store.old.room store.old.cached ticks.now) }
     ensures text { OnOk result (out.new.items ≡ out.old.items
         ++ looks_text
@@ -76,10 +75,10 @@ fn push_looks<G: Game + Shown>(
 
 /// The text of `rewind` for a match that opens so: the world at each of the ticks, in the order in
 /// which they stand, and how many of the looks found their world cached. A tick is one of the
-/// match or its end, and there are up to `MOST_LOOKS`. Worlds are kept at each multiple of `every`, from 1 to
-/// 8,192 ticks, and up to `room`, from 1 to 64, are cached; neither changes a world in the text. On
-/// `NoMemory` there is no text: it also comes where a world finds no memory to be cached, so that
-/// the hits of a text are those of looks that all could be.
+/// match or its end, and there are fewer than 2 ^ 32. Worlds are kept at each multiple of `every`,
+/// from 1 to 8,192 ticks, and up to `room`, from 1 to 64, are cached; neither changes a world in the
+/// text. On `NoMemory` there is no text: it also comes where a world finds no memory to be cached,
+/// so that the hits of a text are those of looks that all could be.
 #[tactic(auto, unfolding(crate::specs::Rewind::rewind_text))]
 pub fn rewind<G: Game + Shown>(
     alloc: Global,
@@ -94,7 +93,7 @@ pub fn rewind<G: Game + Shown>(
     requires some_room { 0 < room }
     requires little_room { room ≤ MOST_CACHED }
     requires ticks { AllByRecursion (λ t. t ≤ m.now.length) ticks.now }
-    requires few { length ticks.now ≤ MOST_LOOKS }
+    requires few { length ticks.now < 2 ^ 32 }
     ensures { IfOk result (λ text. text
         ≡ rewind_text
         (record { rules = G.rules; lines = G.lines; names = m.now.names })

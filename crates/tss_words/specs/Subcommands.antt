@@ -8,21 +8,6 @@ use Rattle.tss_words.specs.declared.subcommand.MatchTask.TheVariants.{Order, Pla
 use Rattle.tss_words.specs.declared.subcommand.Subcommand.{Subcommand}
 use Rattle.tss_words.specs.declared.subcommand.Subcommand.TheVariants.{OfMatch, Audit, Lossy, Soak}
 
--- a subcommand's name
-abbrev pub subcommand_word : Subcommand → List ℕ
-subcommand_word (OfMatch Order) = codes "order"
-subcommand_word (OfMatch Play) = codes "play"
-subcommand_word (OfMatch Race) = codes "race"
-subcommand_word (OfMatch Lift) = codes "lift"
-subcommand_word (OfMatch Score) = codes "score"
-subcommand_word (OfMatch PaintOrder) = codes "paint order"
-subcommand_word (OfMatch PaintPlay) = codes "paint play"
-subcommand_word (OfMatch (Join mirror lines)) = codes "join"
-subcommand_word (OfMatch (Rewind every room ticks)) = codes "rewind"
-subcommand_word Audit = codes "audit"
-subcommand_word Lossy = codes "lossy"
-subcommand_word (Soak number) = codes "soak"
-
 -- the subcommand whose name is one word
 unfoldable pub subcommand_named : List ℕ → Option Subcommand
 subcommand_named word =
@@ -118,7 +103,7 @@ IsAskedOfMatch Lift = Unit {0}
 IsAskedOfMatch Score = Unit {0}
 IsAskedOfMatch PaintOrder = Unit {0}
 IsAskedOfMatch PaintPlay = Unit {0}
-IsAskedOfMatch (Join mirror lines) = Unit {0}
+IsAskedOfMatch (Join mirror lines) = (mirror < MOST_MIRRORS) × (lines ≤ MOST_SCRIPT_LINES)
 IsAskedOfMatch (Rewind every room ticks) = IsKept every room
 
 -- the same of whatever words ask for

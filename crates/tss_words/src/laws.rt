@@ -1,8 +1,8 @@
-//! What is asked for, taken apart. The law is the contract of a function without parameters that
+//! What is asked for, taken apart. Each law is the contract of a function without parameters that
 //! does nothing.
 
 ghost use Rattle.std.specs.Prelude.{◌<◌, ◌≤◌, ℕ, List};
-ghost use Rattle.tss_words.specs.declared.subcommand.MatchTask.TheVariants.{Rewind};
+ghost use Rattle.tss_words.specs.declared.subcommand.MatchTask.TheVariants.{Join, Rewind};
 ghost use Rattle.tss_words.specs.declared.subcommand.Subcommand.TheVariants.{OfMatch};
 ghost use Rattle.tss_words.specs.Subcommands.{IsAsked};
 
@@ -11,4 +11,11 @@ ghost use Rattle.tss_words.specs.Subcommands.{IsAsked};
 pub fn looks_are_kept_in_ranges()
     ensures { (every room : ℕ) (ticks : List ℕ) → IsAsked (OfMatch (Rewind every room ticks))
         → (0 < every) × (every ≤ 8192) × (0 < room) × (room ≤ 64) }
+{}
+
+/// Whoever asks for a mirror to join late names one of the 8 that a match may have, and so many lines
+/// as a script may have.
+pub fn joins_are_asked_in_ranges()
+    ensures { (mirror lines : ℕ) → IsAsked (OfMatch (Join mirror lines))
+        → (mirror ≤ 7) × (lines ≤ 262144) }
 {}

@@ -1,12 +1,7 @@
 //! What the program is asked to do.
 
-ghost use Rattle.std.specs.Prelude.{Some};
-ghost use Rattle.tss_words.specs.Subcommands.{subcommand_word};
-
 use crate::ticks::Ticks;
 use game_trait::{MirrorId, Tick};
-use std::fmt;
-use std::fmt::Display;
 
 /// What may be asked of a match.
 #[derive(Drop)]
@@ -55,25 +50,4 @@ pub enum Subcommand {
     Lossy,
     /// Make the match of this number, play it, and tell whether all copies agree. Nothing is read.
     Soak(u32),
-}
-
-impl Display for Subcommand {
-    ghost output = { λ s. Some (subcommand_word s) };
-
-    fn fmt<W: fmt::Write>(&self, f: &mut fmt::Formatter<W>) -> fmt::Result {
-        f.write_str(match self {
-            Subcommand::OfMatch(MatchTask::Order) => "order",
-            Subcommand::OfMatch(MatchTask::Play) => "play",
-            Subcommand::OfMatch(MatchTask::Race) => "race",
-            Subcommand::OfMatch(MatchTask::Lift) => "lift",
-            Subcommand::OfMatch(MatchTask::Score) => "score",
-            Subcommand::OfMatch(MatchTask::PaintOrder) => "paint order",
-            Subcommand::OfMatch(MatchTask::PaintPlay) => "paint play",
-            Subcommand::OfMatch(MatchTask::Join { .. }) => "join",
-            Subcommand::OfMatch(MatchTask::Rewind { .. }) => "rewind",
-            Subcommand::Audit => "audit",
-            Subcommand::Lossy => "lossy",
-            Subcommand::Soak(_) => "soak",
-        })
-    }
 }
