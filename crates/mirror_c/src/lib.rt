@@ -16,6 +16,7 @@ mod codes;
 mod engine;
 mod handle;
 mod held;
+pub mod laws;
 mod listed;
 mod plan;
 mod turns;
