@@ -1,0 +1,4 @@
+pub mod AsBox
+pub mod Following
+pub mod Plans
+pub mod Worlds

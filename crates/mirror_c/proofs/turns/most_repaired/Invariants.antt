@@ -1,0 +1,7 @@
+use Rattle.std.proofs.Common.{◌≡◌, drop}
+use Rattle.std.specs.Prelude.{max}
+use Rattle.mirror_c.specs.Worlds.{most_repaired}
+use Rattle.mirror_c.proofs.turns.most_repaired.Given as goal
+
+abbrev pub invariant-loop-reply : goal.invariant-loop-reply
+invariant-loop-reply l = max l.most (most_repaired (drop l.reply-index l.replies)) ≡ most_repaired l.replies

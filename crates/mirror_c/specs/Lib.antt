@@ -1,0 +1,5 @@
+pub mod Answers
+pub mod Held
+pub mod Lists
+pub mod Rising
+pub mod Worlds

@@ -1,0 +1,31 @@
+#!/usr/bin/env bash
+# Builds the library for C, and the samples over it, into a folder.
+#
+#     tools/c/build.sh [OUT]
+#
+# OUT is tools/c/out where none is given. The library is proved and built by `rt lib` in crates/mirror_c, or is the one
+# that the variable LIBMIRROR names. The kit, whose c/liblibc_c.a has the calls for memory, is the one that `rt` stands in, or
+# the folder that KIT names. In OUT stand then libtss_mirror.a, libtss_mirror.so and the samples.
+set -eu
+here=$(cd "$(dirname "$0")" && pwd)
+out=${1:-$here/out}
+kit=${KIT:-$(dirname "$(dirname "$(readlink -f "$(command -v rt)")")")}
+crate=$here/../../crates/mirror_c
+mkdir -p "$out"
+if [ -z "${LIBMIRROR:-}" ]; then
+    (cd "$crate" && rt lib)
+fi
+# one file for whoever links: the library, and the kit's calls for memory
+rm -rf "$out/parts" && mkdir "$out/parts"
+(cd "$out/parts" && ar x "${LIBMIRROR:-$crate/out/libmirror_c.a}" && ar x "$kit/c/liblibc_c.a")
+rm -f "$out/libtss_mirror.a"
+ar rcs "$out/libtss_mirror.a" "$out"/parts/*
+rm -rf "$out/parts"
+for name in sample misuse bench; do
+    cc -O2 -std=gnu11 -Wall -Wextra -I "$here" "$here/$name.c" "$out/libtss_mirror.a" -o "$out/$name"
+done
+cc -shared -o "$out/libtss_mirror.so" -Wl,--whole-archive "$out/libtss_mirror.a" -Wl,--no-whole-archive \
+    -Wl,--version-script="$here/tss_mirror.map" -Wl,-z,defs
+if command -v rustc > /dev/null; then
+    rustc -O --edition 2021 "$here/sample.rs" -C link-arg="$out/libtss_mirror.a" -o "$out/sample_rs"
+fi
