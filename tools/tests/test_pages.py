@@ -1,4 +1,4 @@
-"""The page of a match, in a real browser."""
+"""The page of a match, in a real browser; and the sessions that pages of docs/ print."""
 
 import os
 import random
@@ -80,6 +80,47 @@ class Films(Files):
     def test_the_title_is_the_files_name_alone(self):
         page = self.made(self.file("DATA {{data}}.match", read(os.path.join(TOP, "examples", "late.match"))))[2]
         self.assertIn("<title>DATA {{data}}.match</title>", page)
+
+
+@unittest.skipUnless(os.path.exists(PROGRAM), "the program isn't built")
+class Sessions(unittest.TestCase):
+    """What pages print is what the program prints: their indented lines, of which `...` stands for some that are left out."""
+
+    def blocks(self, page, behind):
+        """The indented blocks behind a sentence of a page."""
+        text = read(os.path.join(TOP, page)).split(behind, 1)[1]
+        return [[line[4:] for line in block.split("\n") if line] for block in re.findall(r"(?m)(?:^    .*\n)+", text)]
+
+    def printed(self, words, text):
+        return subprocess.run([PROGRAM, *words], input=text.encode(), capture_output=True).stdout.decode().split("\n")[:-1]
+
+    def example(self, name):
+        return read(os.path.join(TOP, "examples", name))
+
+    def test_readme(self):
+        self.assertEqual(self.blocks("README.md", "rt try -- play < ../../examples/late.match\n")[0], self.printed(["play"], self.example("late.match")))
+
+    def test_tour(self):
+        order, _, *rest = self.blocks("docs/TOUR.md", "# A tour")
+        self.assertEqual(order[1:], self.printed(["order"], self.example("copies.match")))
+        left = iter(self.printed(["play"], self.example("copies.match")))
+        for line in [line for block in rest for line in block if line != "..."]:
+            self.assertIn(line, left)
+
+    def test_arena(self):
+        match, shown = self.blocks("docs/ARENA.md", "## An example\n")
+        words = re.search(r"`(rewind [\d ]+)`", read(os.path.join(TOP, "docs", "ARENA.md"))).group(1).split(" ")
+        self.assertEqual(shown, self.printed(words, "".join(line + "\n" for line in match)))
+
+    def test_net(self):
+        shown = self.blocks("docs/FORMATS.md", "[examples/net.lossy]")[0]
+        self.assertEqual(shown[-1], "...")
+        self.assertEqual(shown[:-1], self.printed(["lossy"], self.example("net.lossy"))[:len(shown) - 1])
+
+    def test_painting(self):
+        setup = ["tss match 1", "length 2", "grid 3 1", "mirrors 1", "delays 0", "pace 0", "player ann 0 0 e", "cmd 0 0 0 0 go", "end"]
+        shown = self.blocks("docs/FORMATS.md", "## Painting\n")[0]
+        self.assertEqual(shown, self.printed(["paint", "order"], "".join(line + "\n" for line in setup)))
 
 
 @unittest.skipUnless(CHROMIUM and os.path.exists(PROGRAM), "Chromium isn't installed, or the program isn't built")
