@@ -1,6 +1,6 @@
 //! A mirror of a match.
 
-ghost use Rattle.std.specs.Prelude.{◌≡◌, ◌<◌, ◌≤◌, ◌^◌, IfOk, [], length, slice_get, slice_index_or};
+ghost use Rattle.std.specs.Prelude.{◌≡◌, ◌<◌, ◌≤◌, ◌^◌, ◌⊎◌, IfOk, IfSome, IfNone, [], length, slice_get, slice_index_or};
 ghost use Rattle.std.specs.List.{AllByRecursion};
 ghost use Rattle.game_trait.specs.CommandList.{has_command};
 ghost use Rattle.game_trait.specs.Run.{world_of};
@@ -121,6 +121,23 @@ impl<G: Game> Mirror<G> {
         let arrived = self.inner.arrive(x);
         self.inner.refresh();
         arrived
+    }
+
+    /// What `arrive` does, for a command that may be due at any tick: `None`, and nothing changes,
+    /// where it isn't due within the match or no room is left for an arrival (this project's own).
+    pub fn try_arrive(&mut self, x: &Command) -> Option<Arrived>
+        ensures may { IfSome result (λ _. (x.now.time < self.old.length) × (0 < self.old.spare)) }
+        ensures state { IfSome result (λ _. self.new ≡ next self.old (Event.Arrive x.now)) }
+        ensures answer { IfSome result
+            (λ arrived. said self.old (Event.Arrive x.now) ≡ Reply.Arrive arrived) }
+        ensures none { IfNone result ((self.old.length ≤ x.now.time) ⊎ (self.old.spare ≡ 0)) }
+        ensures same { IfNone result (self.new ≡ self.old) }
+    {
+        if x.time < self.length() && 0 < self.spare() {
+            Some(self.arrive(x))
+        } else {
+            None
+        }
     }
 
     /// The copy, which is there, runs one tick: the commands due then in key order, and one beat.
@@ -312,6 +329,21 @@ impl<G: Game> Mirror<G> {
             ≡ world_of G.rules self.now.opening (slice_index_or self.now.runs copy []) }
     {
         self.inner.stack.world(copy)
+    }
+
+    /// What `world` answers, of a copy that may not be there: `None` where it isn't (this project's
+    /// own).
+    pub fn try_world(&self, copy: u8) -> Option<&G>
+        ensures there { IfSome result (λ _. copy < length self.now.runs) }
+        ensures world { IfSome result (λ world. world.now
+            ≡ world_of G.rules self.now.opening (slice_index_or self.now.runs copy [])) }
+        ensures none { IfNone result (length self.now.runs ≤ copy) }
+    {
+        if copy < self.copies() {
+            Some(self.world(copy))
+        } else {
+            None
+        }
     }
 
     /// The commands that were accepted, in order of arrival.

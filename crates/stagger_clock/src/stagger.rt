@@ -1,8 +1,9 @@
 //! A plan of delays and the match's length: how far each copy may go, and where the clock ends.
 
-ghost use Rattle.std.specs.Prelude.{◌≡◌, ◌<◌, ◌≤◌, length, slice_index};
+ghost use Rattle.std.specs.Prelude.{◌≡◌, ◌<◌, ◌≤◌, IfSome, IfNone, length, slice_index};
 ghost use Rattle.sync_model.specs.Schedule.{IsSchedule, limit_at, longest_delay, is_at_end};
 
+use crate::plan::is_schedule;
 use game_trait::Tick;
 use game_trait::limits::{LONGEST_DELAY, MOST_COPIES};
 use std::marker::Model;
@@ -47,6 +48,21 @@ impl Stagger {
             places,
             copies: delays.len() as u8,
             ticks: length,
+        }
+    }
+
+    /// What `new` makes, of numbers that may be any: `None` where the delays aren't 1 to 8 rising
+    /// ones of at most 1,024 ticks each, or the match isn't of 1 to 8,192 ticks (this project's own).
+    #[tactic(auto, using(crate::proofs::Plans::schedules))]
+    pub fn try_new(delays: &[Tick], length: Tick) -> Option<Stagger>
+        ensures made { IfSome result (λ s. s ≡ record { delays = delays.now; length = length }) }
+        ensures none { IfNone result
+            (IsSchedule (record { delays = delays.now; length = length }) → ⊥) }
+    {
+        if is_schedule(delays, length) {
+            Some(Stagger::new(delays, length))
+        } else {
+            None
         }
     }
 
