@@ -1,2 +1,2 @@
-mod Limits
+pub mod Limits
 mod Plans
