@@ -26,7 +26,7 @@ fn runs_by(reply: Reply) -> Tick
     }
 }
 
-// What one draft came to.
+// The outcome of one draft.
 #[derive(Clone, Copy)]
 struct Turned {
     // How many ticks the copy ran.
@@ -37,7 +37,7 @@ struct Turned {
     idle: bool,
 }
 
-// One turn, or so many at once where no tick is due.
+// One turn, or a batch of them where no tick is due.
 fn run_turns<G: Game, P: DraftPost<G>>(post: &mut P, copy: u8, times: u64) -> Turned
     requires takes { P.takes post.old (Step copy) }
     requires calls { 2 ≤ P.calls post.old }
@@ -88,9 +88,9 @@ fn pass_all<Q: Gate>(gate: &Q, job: CopyJob, turns: Range<u64>) {
 /// Runs one copy of a mirror, turn by turn, until it has run as many ticks as the match has or the
 /// budget is spent. Each turn passes the gate and asks the post for the copy's due tick, once one
 /// seems to be due. A draft is executed away from the mirror and given back; where the tick has too
-/// many commands for one, the copy's step is asked; where no tick is due, nothing is. A worker for
-/// which it isn't worth while to wait asks for many turns at once; where none of them has a tick it
-/// then passes the gate for the further ones too. It takes no memory. It may wait where the post or
+/// many commands for one, the copy's step is asked; where no tick is due, nothing is. A worker that
+/// has stopped backing off batches its turns in one call; where none of them has a tick it then
+/// passes the gate for the rest of the batch too. It takes no memory. It may wait where the post or
 /// the gate does.
 pub fn run_copy<G: Game, P: DraftPost<G>, Q: Gate>(post: &mut P, gate: &Q, job: CopyJob) -> CopyEnd
     requires takes { P.takes post.old (Step job.copy) }

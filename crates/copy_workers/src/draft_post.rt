@@ -33,9 +33,9 @@ pub trait DraftPost<G: Game>: Post {
     /// none.
     ghost drawn: { Self → Option (DraftTick G) };
 
-    /// Takes out the copy's due tick. Where none is due, that is the answer to asking so many times
-    /// in a row, at least once, between which nothing changes: the trail has a mark for each of them.
-    /// It asks no event, and uses up one call. It may wait.
+    /// Takes out the copy's due tick. Where none is due, that is the answer to asking `times` times
+    /// in a row, at least once, between which nothing changes: the trail has a mark for each of
+    /// them. It asks no event, and uses up one call. It may wait.
     fn draft(&mut self, copy: u8, times: u64) -> Draw
         requires takes { Self.takes self.old (Step copy) }
         requires some { 0 < times }

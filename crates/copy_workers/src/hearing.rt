@@ -90,7 +90,7 @@ pub fn hear_all<P: Post>(
     quiet
 }
 
-/// The least of the first so many marks; where there are none, the limit.
+/// The least of the first `count` marks; where there are none, the limit.
 pub fn least(marks: &[Tick], count: usize, limit: Tick) -> Tick
     requires { count ≤ length marks.now }
     ensures { (hearings : List Hearing) → length hearings ≡ count → AllKept marks.now hearings

@@ -14,9 +14,9 @@ pub struct Asked {
     pub reply: Reply,
 }
 
-/// What a call of a post came to, for a trail of all its calls. `Asked` is an event that was asked;
-/// the others are of a draft of that copy. A call that asks for a draft many times leaves as many
-/// marks where no tick was due.
+/// The outcome of a call of a post, for a trail of all its calls. `Asked` is an event that was
+/// asked; the others are of a draft of that copy. A call that asks for a draft many times leaves as
+/// many marks where no tick was due.
 #[derive(Clone, Copy, Debug, PartialEq, Eq)]
 pub enum TrailMark {
     /// An event was asked.
@@ -33,7 +33,7 @@ pub enum TrailMark {
     Stale { copy: u8 },
 }
 
-/// Answers events for a mirror: so many in all, and so many arrivals among them.
+/// Answers events for a mirror: at most a share of them in all, and a share of arrivals among them.
 pub trait Post {
     ghost use Rattle.game_trait.specs.Events.{is_arrival, IsOfKind};
     ghost use Rattle.copy_workers.specs.Asking.{pair_of};
@@ -43,7 +43,7 @@ pub trait Post {
 
     /// What was asked so far, with the answers.
     ghost asked: { Self → List Asked };
-    /// What all calls so far came to.
+    /// The outcomes of all calls so far.
     ghost trail: { Self → List TrailMark };
     /// How many calls are left.
     ghost calls: { Self → ℕ };
@@ -72,8 +72,8 @@ pub trait Post {
         ensures same { (p : Self) → same p self.old → same p self.new }
         ensures bare { bare self.new };
 
-    /// Sleeps for a moment, longer where so many naps were taken in a row. Nothing is proved of it:
-    /// it asks nothing, and uses up no call.
+    /// Sleeps for a moment, longer with each nap in a row (a backoff). Nothing is proved of it: it
+    /// asks nothing, and uses up no call.
     fn nap(&self, taken: u32);
 
     /// How many naps in a row are worth while for a worker that finds nothing to do: for that of the

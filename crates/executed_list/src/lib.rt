@@ -1,4 +1,5 @@
-//! One list that keeps the runs of all copies, with an end for each; stands on `game_trait`.
+//! The runs of all copies as one list, with an end for each copy; a rollback truncates it. Stands
+//! on `game_trait`.
 #![tactic(auto)]
 
 mod ends;

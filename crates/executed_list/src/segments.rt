@@ -38,8 +38,8 @@ impl Model for Segments {
 }
 
 impl Segments {
-    /// No items yet: 1 to 8 copies that have run nothing, and room for so many items. Want of
-    /// memory makes nothing.
+    /// No items yet: 1 to 8 copies that have run nothing, and room for so many items. On `NoMemory`
+    /// nothing is created.
     pub fn new(alloc: Global, copies: u8, room: u32) -> Result<Segments, NoMemory>
         requires { (0 < copies) × (copies ≤ MOST_COPIES) }
         ensures { IfOk result

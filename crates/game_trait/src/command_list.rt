@@ -45,7 +45,7 @@ impl CommandList {
         }
     }
 
-    /// No commands yet, and room for so many. Want of memory makes nothing.
+    /// No commands yet, with room for `room` of them. On `NoMemory` nothing is created.
     pub fn with_room(alloc: Global, room: usize) -> Result<CommandList, AllocError>
         ensures { IfOk result (λ list. list ≡ record { items = []; room = room }) }
     {

@@ -81,7 +81,7 @@ impl<G: Game> Joiner<G> {
     /// and so many changes of the plan, of which it takes one; each at most 1,048,576. It moves to
     /// the snapshot's plan and accepts all of the rest. Where no tick is left it is TooLate, with
     /// the snapshot's clock and the match's length. It takes all the memory that the joiner ever
-    /// needs. Want of memory makes nothing.
+    /// needs. On `NoMemory` nothing is created.
     pub fn new(
         alloc: Global,
         snap: Snapshot<G>,

@@ -1,11 +1,11 @@
 //! Links from one mirror to another: messages in the order in which they were sent, and none is
 //! lost.
 //!
-//! `link` gives the two ends. Each may go to a thread of its own. A message that was sent takes its
-//! place for good: a link has room for so many messages in all, and the sender never waits. The
-//! receiver never waits either: it gets the next message, or is told that none was seen, which it
-//! counts. Whoever holds both ends asks `rest` what is left: what was received and what is left is
-//! what was sent.
+//! `link` gives the two ends. Each may go to a thread of its own. A single-producer single-consumer
+//! queue of a fixed capacity, counted over all messages: a slot isn't used twice, and the sender
+//! never waits. The receiver never waits either: it gets the next message, or is told that none was
+//! seen, which it counts. Whoever holds both ends asks `rest` what is left: what was received and
+//! what is left is what was sent.
 //!
 //! It stands on `rtrb` of the kit. Only `link` takes memory. The messages are this project's own.
 #![tactic(auto)]

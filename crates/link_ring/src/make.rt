@@ -9,8 +9,8 @@ use rtrb::RingBuffer;
 use std::alloc::Global;
 use tss_io::NoMemory;
 
-/// A link with room for so many messages in all, at least 1: the end that sends and the end that
-/// receives. Nothing was sent, and nothing missed. Want of memory makes nothing.
+/// A link for at most `room` messages in all, at least 1: the end that sends and the end that
+/// receives. Nothing was sent, and nothing missed. On `NoMemory` nothing is created.
 pub fn link(alloc: Global, room: u32) -> Result<(LinkSend, LinkReceive), NoMemory>
     requires { 1 ≤ room }
     ensures sent { IfOk result (λ r. sent_of r.0 ≡ []) }

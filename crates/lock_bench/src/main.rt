@@ -1,7 +1,7 @@
-//! Calls of a counter by so many threads, each with a seat of a turn lock, or behind std's mutex.
-//! It measures alone: `turn` or `mutex`, how many threads, how many calls each of them makes, and
-//! further pairs of these. What it prints is the same whatever the schedule: a line for each pair, the
-//! count before the last call.
+//! Calls of a counter by a number of threads, each with a seat of a turn lock, or behind std's
+//! mutex. It measures alone: `turn` or `mutex`, how many threads, how many calls each of them
+//! makes, and further pairs of these. What it prints is the same whatever the schedule: a line for
+//! each pair, the count before the last call.
 #![tactic(auto)]
 
 ghost use Rattle.std.specs.Prelude.{◌≡◌, ◌<◌, ◌≤◌, ◌^◌, length};

@@ -1,4 +1,4 @@
-//! A match over a lossy net, and what is told of it.
+//! A match over a lossy net, and its text.
 
 ghost use Rattle.std.specs.Prelude.{◌≡◌, IfOk};
 ghost use Rattle.match_hall.specs.Report.{Showing};
@@ -14,7 +14,7 @@ use run_recorder::MirrorLog;
 use std::alloc::Global;
 use tss_io::{NoMemory, Seq};
 
-/// What is told of a match over a lossy net: its text, and the logs of its mirrors, mirror 0 first.
+/// The answer of a match over a lossy net: its text, and the logs of its mirrors, mirror 0 first.
 #[derive(Drop)]
 pub struct LossyAnswer {
     pub text: Seq<u8>,
@@ -22,8 +22,9 @@ pub struct LossyAnswer {
 }
 
 /// Plays a match that opens with this world over a lossy net: all its lines, then what is left in
-/// the links is sent and carried, and the mirrors are drained. The text is what the lines print, and
-/// then the mirrors at their end, as a match that is played ends. Want of memory leaves nothing.
+/// the links is sent and carried, and the mirrors are drained. The text is what the lines print,
+/// and then the mirrors at their end, as a match that is played ends. On `NoMemory` nothing is
+/// returned.
 pub fn lossy<G: Game + Shown>(
     alloc: Global,
     x: &LossyText,

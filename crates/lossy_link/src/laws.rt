@@ -122,7 +122,7 @@ pub fn a_link_receives_a_front()
         has_flown l.counts k ≡ true → k ≤ length l.received }
 {}
 
-/// What the end of a net comes to: on each link all that was sent was received, no command was
+/// What the end of a net guarantees: on each link all that was sent was received, no command was
 /// issued twice, and there is a mirror for each number. Each was played, has each issued command
 /// once and no other, accepted or turned away, and where it turned none away all its copies are at
 /// the time-ordered execution of what was issued.

@@ -108,7 +108,7 @@ fn count_from(commands: &[Command], from: MirrorId) -> u32
 
 impl Links {
     /// The links of a match's mirrors over which nothing was sent, each with room for the commands
-    /// of the mirror that sends. Want of memory makes nothing.
+    /// of the mirror that sends. On `NoMemory` nothing is created.
     #[tactic(auto, unfolding(crate::specs::Links::new_rows))]
     pub fn new(alloc: Global, m: &Match) -> Result<Links, NoMemory>
         ensures { IfOk result (λ n. n ≡ new_links m.now.mirrors m.now.commands) }

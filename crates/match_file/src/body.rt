@@ -292,8 +292,8 @@ impl Body {
         }
     }
 
-    // A line of the kind that its first word names. The most frequent kinds are seen apart, since
-    // each line would else clear a place for the answer of every kind.
+    // A line of the kind that its first word names. The most frequent kinds come first and apart;
+    // otherwise every line would zero stack space for all kinds' results.
     #[tactic(auto, unfolding(tss_io::specs::Machines::take_words, crate::specs::Reading::body_entries))]
     fn take_words(
         &mut self,

@@ -1,4 +1,4 @@
-//! The parts of a line, read at a glance where they are short.
+//! Fast paths for the frequent lines and for short words.
 
 ghost use Rattle.std.specs.Prelude.{◌≡◌, ◌<◌, ◌≤◌, ◌++◌, ◌∷◌, ℕ, true, length, bytes_eq, position, decimal, IfOk, IfSome, Ok};
 ghost use Rattle.std.specs.List.{list_all};
@@ -19,8 +19,8 @@ use game_trait::{Act, Command};
 use tss_io::Cause;
 use tss_io::words::{front, last, next_line};
 
-/// The first line of the text, and the text behind its newline. It and the first word are never
-/// inlined: their loops over bytes would then count for the line's further loops too.
+/// The first line of the text, and the text behind its newline. Kept out of line, as the first word
+/// is: inlined, their byte loops make the optimizer give up on the caller's loops.
 #[inline(never)]
 pub fn line_of(text: &[u8]) -> Result<(&[u8], &[u8]), Cause>
     ensures read { Answers (λ x. (x.0.now, lines_of x.1.now)) result (line_at (lines_of text.now)) }
@@ -57,8 +57,8 @@ fn gap_front(line: &[u8]) -> Option<(&[u8], &[u8])>
     }
 }
 
-/// The first word of a line, where others follow, and these. One look at each byte tells where it
-/// ends and that it is a word.
+/// The first word of a line, where others follow, and these. A single pass finds its end and checks
+/// that it is a word.
 #[inline(never)]
 pub fn keyword_of(line: &[u8]) -> Result<(&[u8], &[u8]), Cause>
     ensures { Answers (λ x. (x.0.now, words_of x.1.now)) result (front_at (words_of line.now)) }

@@ -247,7 +247,7 @@ fn logs_of<G: Game>(
 
 impl<G: Game + Shown> Hall<G> {
     /// The mirrors of a match as it begins with this world. Each has room for the script's arrivals
-    /// at it, and for the script's changes of its plan. Want of memory makes nothing.
+    /// at it, and for the script's changes of its plan. On `NoMemory` nothing is created.
     pub fn new(alloc: Global, m: &Match, opening: &G) -> Result<Hall<G>, NoMemory>
         ensures mirrors { IfOk result (λ hall. hall ≡ opening_mirrors opening.now m.now) }
         ensures count { IfOk result (λ hall. length hall ≡ m.now.mirrors) }
@@ -257,7 +257,7 @@ impl<G: Game + Shown> Hall<G> {
     }
 
     /// The mirrors of a match as it begins with this world, each with room for so many arrivals, at
-    /// most 1,048,576, and for no change of its plan. Want of memory makes nothing.
+    /// most 1,048,576, and for no change of its plan. On `NoMemory` nothing is created.
     pub fn with_room(alloc: Global, m: &Match, opening: &G, room: u32) -> Result<Hall<G>, NoMemory>
         requires { room ≤ MOST_ROOM }
         ensures { IfOk result (λ hall. hall

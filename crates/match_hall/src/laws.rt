@@ -72,8 +72,8 @@ pub fn staggered_after_each_front<G: Game>()
         → IsPlayed G.rules m start end log → IsStaggered end }
 {}
 
-/// What playing comes to at a mirror: its log is its history, legal, and leads to it; it is drained,
-/// and the world of each of its copies is the time-ordered execution of what it accepted.
+/// What playing guarantees of a mirror: its log is its history, legal, and leads to it; it is
+/// drained, and the world of each of its copies is the time-ordered execution of what it accepted.
 pub fn a_played_mirror_is_at_its_log<G: Game>()
     ensures log { (m : MatchData) (start end : MirrorState G) (log : List Event)
         → IsPlayed G.rules m start end log → (log ≡ end.history) × (after start log ≡ end) }

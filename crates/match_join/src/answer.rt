@@ -132,7 +132,7 @@ fn told(
 /// drained. The text says with what clock the joiner began, what each later arrival came to at the
 /// joiner, how both ended, and whether their last copies' worlds are one; where the clock was the
 /// match's length already, that it was too late. Lines are counted over the whole script, and more
-/// than it has are all of it. The mirror is one of the match's. Want of memory leaves nothing.
+/// than it has are all of it. The mirror is one of the match's. On `NoMemory` nothing is returned.
 pub fn join(alloc: Global, m: &Match, mirror: MirrorId, lines: u32) -> Result<JoinAnswer, NoMemory>
     requires { mirror < m.now.mirrors }
     ensures { let show : Showing World =

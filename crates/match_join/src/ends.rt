@@ -1,4 +1,4 @@
-//! What is told of a mirror and of one that joined late, at the end.
+//! The lines of a mirror and of one that joined late, at the end.
 
 ghost use Rattle.std.specs.Prelude.{◌≡◌, ◌↔◌, ◌++◌, IsTrue, length, OnOk};
 ghost use Rattle.arena_rules.specs.World.{arena_rules};

@@ -32,8 +32,8 @@ pub fn cut(script: &[ScriptLine], lines: u32) -> (&[ScriptLine], &[ScriptLine])
     }
 }
 
-/// The mirror of this number after its lines among the first so many of the match's script. Want of
-/// memory makes nothing.
+/// The mirror of this number after its lines among the first so many of the match's script. On
+/// `NoMemory` nothing is created.
 pub fn begin<G: Game>(
     alloc: Global,
     opening: &G,
@@ -56,7 +56,7 @@ pub fn begin<G: Game>(
 }
 
 /// A joiner from the snapshot of a mirror of the match, with room for what these lines bring. Where
-/// no tick is left it is TooLate, with the match's length twice. Want of memory makes nothing.
+/// no tick is left it is TooLate, with the match's length twice. On `NoMemory` nothing is created.
 pub fn open_joiner<G: Game>(
     alloc: Global,
     m: &Match,

@@ -13,9 +13,9 @@ ghost use Rattle.match_rewind.specs.Rewind.{looks_text, rewind_text};
 
 use game_trait::Game;
 
-/// The first look at a tick prints the world that the time-ordered execution up to it comes to, and
-/// hits nothing; looks one after another print their blocks one after another. Behind the blocks of
-/// all looks stands how many of them hit.
+/// The first look at a tick prints the world after the time-ordered execution up to it, and hits
+/// nothing; looks one after another print their blocks one after another. Behind the blocks of all
+/// looks stands how many of them hit.
 pub fn a_look_prints_the_world_at_its_tick<G: Game>()
     ensures one { (show : Showing G) (opening : G) (m : MatchData) (room tick : ℕ)
         → rewind_text show opening m room (tick ∷ [])

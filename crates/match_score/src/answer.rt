@@ -1,4 +1,4 @@
-//! A match that is played to watchers, and what is told of it.
+//! A match that is played to watchers, and its text.
 
 ghost use Rattle.std.specs.Prelude.{◌≡◌, ◌++◌, ◌∷◌, [], length, map, IfOk};
 ghost use Rattle.std.specs.List.{AllByRecursion};
@@ -86,8 +86,8 @@ fn text_of(
 }
 
 /// Plays a match to watchers and drains it. The text is that of `score`: the scoreboard, then the
-/// lines of the watchers, who were told what changed mirror 0, then mirror 1, and so on. Want of
-/// memory leaves nothing.
+/// lines of the watchers, who were told what changed mirror 0, then mirror 1, and so on. On
+/// `NoMemory` nothing is returned.
 pub fn score(
     alloc: Global,
     m: &Match,

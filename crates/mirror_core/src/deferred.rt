@@ -83,7 +83,7 @@ fn settle<G: Game>(inner: &mut LazyMirror<G>, looked: u32) -> u32
 }
 
 impl<G: Game> DeferredMirror<G> {
-    /// What `Mirror::new` makes, with as much room. Want of memory makes nothing.
+    /// What `Mirror::new` makes, with as much room. On `NoMemory` nothing is created.
     pub fn new(
         alloc: Global,
         opening: &G,

@@ -32,7 +32,7 @@ impl Model for Epochs {
 }
 
 impl Epochs {
-    /// 0 for each copy. Want of memory makes nothing.
+    /// 0 for each copy. On `NoMemory` nothing is created.
     pub fn new(alloc: Global, copies: u8) -> Result<Epochs, NoMemory>
         requires { copies ≤ MOST_COPIES }
         ensures { IfOk result (λ e. e ≡ replicate copies 0) }

@@ -20,8 +20,8 @@ pub struct Lists {
 }
 
 impl Lists {
-    /// These plans, and empty lists with room for so many arrivals and events. Want of memory makes
-    /// nothing.
+    /// These plans, and empty lists with room for so many arrivals and events. On `NoMemory`
+    /// nothing is created.
     pub fn new(
         alloc: Global,
         plans: &[Stagger],

@@ -51,7 +51,7 @@ impl<G: Game> Mirror<G> {
     /// A mirror before any event, with 1 to 8 plans of as many ticks each, of which the first is in
     /// force, and each of as many copies; with room for so many arrivals that are taken or turned
     /// away, and so many changes of the plan, each at most 1,048,576. It takes all the memory that
-    /// the mirror ever needs, and keeps twins of the opening. Want of memory makes nothing.
+    /// the mirror ever needs, and keeps twins of the opening. On `NoMemory` nothing is created.
     pub fn new(
         alloc: Global,
         opening: &G,

@@ -1,4 +1,4 @@
-//! What the close of a mirror's lock comes to, so that it can't be read more weakly. Each is the
+//! What the close of a mirror's lock guarantees, so that it can't be read more weakly. Each is the
 //! contract of a function without parameters that does nothing.
 
 ghost use Rattle.std.specs.Prelude.{◌≡◌, ◌++◌, ℕ, List};

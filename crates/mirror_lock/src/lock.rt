@@ -60,7 +60,7 @@ impl<L> MirrorOver<L> {
 impl<G: Game> MirrorLock<G> {
     /// A lock of the mirror, and a seat for each share, numbered from 0 on. No seat has seen
     /// anything, and what fits the mirror fits each seat. The shares' arrivals are at most what the
-    /// mirror has room for, in sum. Want of memory makes nothing, and lets the mirror go.
+    /// mirror has room for, in sum. On `NoMemory` nothing is created, and the mirror is dropped.
     pub fn start(
         alloc: Global,
         mirror: Mirror<G>,
@@ -91,8 +91,8 @@ impl<G: Game> MirrorLock<G> {
     /// Waits for the seat's turn, and makes the event. It has to be due within the match, or to
     /// name a copy that is there; no seat puts another plan in force. The answer is the mirror's at
     /// that point of one history, of which the seat has then seen a front that ends with this
-    /// event. It uses up one call of the seat's share, and an arrival one growing call. While it
-    /// waits, it pauses between two looks, and naps every so often. It takes no memory.
+    /// event. It uses up one call of the seat's share, and an arrival one growing call. It spins
+    /// briefly, and every 32 looks sleeps for about 100 microseconds. It takes no memory.
     pub fn ask<W: Wait>(&self, rt: &W, seat: &mut MirrorSeat<G>, event: &Event) -> Reply
         requires own { seat_name seat.old.seat ≡ lock_name self.now.lock }
         requires fits { FitsSeat (mirror_rules G.rules) (view seat.old.seat) (AskEvent event.now) }
@@ -162,10 +162,10 @@ impl<G: Game> MirrorLock<G> {
         }
     }
 
-    /// What `draft` does so many times in a row, for as long as no tick is due, in one turn of the
-    /// seat: where none is due, that is the answer each time, and else the first time gives it. It
-    /// uses up one call all the same. The call and its answer are written on the slip, over what
-    /// stood there.
+    /// `draft`, repeated `times` times for as long as no tick is due, in one turn of the seat:
+    /// where none is due, that is the answer each time, and else the first time gives it. It uses
+    /// up one call all the same. The call and its answer are written on the slip, over what stood
+    /// there.
     pub fn draft_on<W: Wait>(
         &self,
         rt: &W,

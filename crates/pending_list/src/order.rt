@@ -12,10 +12,10 @@ use game_trait::{Act, Command, Tick};
 use std::collections::VecDeque;
 use std::marker::Model;
 
-// A search from the end takes steps that grow so many times.
+// How often the step of the exponential search grows.
 const STRIDE: usize = 64;
 
-/// Commands in key order, told by buckets of their slots. Contracts see the commands in that order.
+/// Commands in key order, as buckets of their slots. Contracts see the commands in that order.
 #[derive(Drop)]
 pub struct KeyOrder<'a> {
     commands: &'a Vec<Command>,
@@ -92,8 +92,9 @@ fn is_passed_at(in_order: &KeyOrder, place: usize, x: &Command) -> bool
     in_order.is_before(place, x)
 }
 
-// The stretch of places, from the first to the last, at one of which a command stands. It is looked
-// for from the end by steps each of which is 64 times the one before.
+// The stretch of places, from the first to the last, at one of which a command stands. An
+// exponential search from the end, each step 64 times the one before, since commands mostly come in
+// order.
 fn stretch_of(in_order: &KeyOrder, x: &Command) -> (usize, usize)
     requires { KeysRise in_order.now }
     ensures { IsStretch x.now in_order.now result.0 result.1 }
@@ -110,7 +111,7 @@ fn stretch_of(in_order: &KeyOrder, x: &Command) -> (usize, usize)
     (0, last)
 }
 
-// The same place as `place_of`, by halving the stretch.
+// The same place as `place_of`, by binary search in the stretch.
 fn searched_place(in_order: &KeyOrder, x: &Command) -> usize
     requires { KeysRise in_order.now }
     ensures { IsStretch x.now in_order.now result result }
@@ -127,8 +128,8 @@ fn searched_place(in_order: &KeyOrder, x: &Command) -> usize
     first
 }
 
-/// The place at which a command stands among those in key order, behind those before it. The ends
-/// need no search, and a place near the end is found soon.
+/// The place at which a command stands among those in key order, behind those before it. The two
+/// ends need no search, and the exponential search finds a place near the end soon.
 pub fn place_of(in_order: &KeyOrder, x: &Command) -> usize
     requires { KeysRise in_order.now }
     ensures within { result ≤ length in_order.now }

@@ -22,7 +22,7 @@ pub struct Placed {
     pub slot: u32,
 }
 
-/// Buckets that hold nothing, with room for so many and one more. Want of memory makes nothing.
+/// Buckets that hold nothing, with room for so many and one more. On `NoMemory` nothing is created.
 pub fn new_buckets(alloc: Global, room: usize) -> Result<Vec<VecDeque<Placed>>, NoMemory>
     requires { room < 2 ^ 32 }
     ensures items { IfOk result (λ buckets. joined (map (λ b. b.items) buckets.items) ≡ []) }

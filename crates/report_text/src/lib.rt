@@ -1,5 +1,5 @@
-//! Every line that the program prints. Each call appends one text to what was printed before, or
-//! tells one.
+//! Lines of mirrors, scores, soaks, hits, refusals and usage. Each call appends one text, or
+//! returns one.
 #![tactic(auto)]
 
 mod ends;

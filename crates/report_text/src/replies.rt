@@ -6,8 +6,8 @@ ghost use Rattle.report_text.specs.Replies.{repair_line, tick_text, arrival_text
 use game_trait::{Arrived, MirrorId, Number, Stepped, Ticked};
 use tss_io::{NoMemory, Word, push_line};
 
-/// Appends `repair M R`: at this mirror so many copies were repaired. It appends nothing where none
-/// was. On `NoMemory` `out` is unchanged. The line is this project's own, as all others are.
+/// Appends `repair M R`: at this mirror R copies were repaired. It appends nothing where none was.
+/// On `NoMemory` `out` is unchanged. The line is this project's own, as all others are.
 #[tactic(auto, unfolding(crate::specs::Replies::repair_line))]
 pub fn repair_line(out: &mut Vec<u8>, mirror: MirrorId, repaired: u8) -> Result<(), NoMemory>
     ensures ok { OnOk result (out.new.items ≡ out.old.items ++ repair_line mirror repaired) }

@@ -101,7 +101,7 @@ fn restaggers(events: &[Event]) -> u32
 impl<'a, G: Game> LogWalk<'a, G> {
     /// A walk along the log, of at most 1,048,576 events, each of which names a command, a copy or
     /// a plan that the match has; the mirror begins with a twin of `opening`. It takes all the
-    /// memory that the walk needs. Want of memory makes nothing.
+    /// memory that the walk needs. On `NoMemory` nothing is created.
     pub fn new(
         alloc: Global,
         m: &Match,

@@ -145,7 +145,7 @@ pub fn same_arrivals_parts<G: Game>()
         × (t.spare ≡ s.spare) × (t.plan_spare ≡ s.plan_spare)) }
 {}
 
-/// What draining comes to, part by part: every copy has run the whole match, nothing arrived, and
+/// What draining guarantees, part by part: every copy has run the whole match, nothing arrived, and
 /// each run is the ordered part of what was accepted.
 pub fn ends_in_order_parts<G: Game>()
     ensures parts { (s : MirrorState G) → EndsInOrder s

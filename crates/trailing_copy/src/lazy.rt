@@ -70,7 +70,7 @@ impl<G: Game> Model for LazyStack<G> {
 
 impl<G: Game> LazyStack<G> {
     /// 1 to 8 copies that have run nothing, in a match of 1 to 8,192 ticks, with room for so many
-    /// commands, at most 1,048,576. Want of memory makes nothing.
+    /// commands, at most 1,048,576. On `NoMemory` nothing is created.
     pub fn new(
         alloc: Global,
         opening: &G,

@@ -49,8 +49,8 @@ fn put_at<G: Game>(worlds: &mut Vec<G>, stale: u8, copy: u8, world: &G)
     worlds[copy as usize].set_from(world);
 }
 
-/// The copy's world comes to be the one that is given, or where none is, executes a tick, unless it
-/// is one of the first `stale`, which are still to be made. The tick's commands begin at `start` in
+/// The copy's world becomes the one that is given, or where none is, executes a tick, unless it is
+/// one of the first `stale`, which are still to be made. The tick's commands begin at `start` in
 /// key order. Answers how many items it has.
 pub fn execute_or_put<G: Game>(
     worlds: &mut Vec<G>,

@@ -1,5 +1,5 @@
-//! What the close of a lock comes to, so that it can't be read more weakly. Each is the contract of
-//! a function without parameters that does nothing.
+//! What the close of a lock guarantees, so that it can't be read more weakly. Each is the contract
+//! of a function without parameters that does nothing.
 
 ghost use Rattle.std.specs.Prelude.{◌≡◌, ◌++◌, ◌∷◌, ℕ, List, [], map, slice_get, Some};
 ghost use Rattle.std.specs.List.{AllByRecursion, Contains};

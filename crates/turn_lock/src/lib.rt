@@ -6,18 +6,17 @@
 //! the seat has seen of the one history of all calls, which ends with the seat's own call when that
 //! returns. `TurnLock::close` takes all seats, and gives the object at the end of the history.
 //!
-//! A thread waits by tickets. It looks for a while whether nobody is in the queue, and draws a ticket
-//! then, or all the same after so many looks; with it, it looks whether its ticket is served, again
-//! and again. Between two looks it pauses a little, and every so often it naps: it sleeps for some
-//! hundred microseconds, about as short a time as the system has, and no one has to wake it. One that
-//! yields the processor would give up its share of it instead, and beside other work get it back
-//! milliseconds later. Where a thread needn't wait, a call costs two atomic additions, three atomic
-//! loads, two moves of a pointer, since the object lies on the heap, and what the object does. Each
-//! call hands the turn to the thread that drew the next ticket, and that one may be off its
-//! processor, which holds up all behind: so hardly anyone is put off with a ticket in its hand.
-//! `start` takes all memory; `call` and `close` take none. The lock's rule counts tickets: each that
-//! was drawn is passed on, or a seat holds it, so none is lost, for which all behind would wait for
-//! good.
+//! A ticket lock. A thread spins while others queue, at most for a bounded number of looks, then
+//! draws a ticket and spins until it is served. Between two looks it pauses, and every 32 looks it
+//! naps: it sleeps for some hundred microseconds, about as short a time as the system has, and no
+//! one has to wake it. One that yields the processor would give up its share of it instead, and
+//! beside other work get it back milliseconds later. Where a thread needn't wait, a call costs two
+//! atomic additions, three atomic loads, two moves of a pointer, since the object lies on the heap,
+//! and what the object does. Each call hands the turn to the thread that drew the next ticket, and
+//! that one may be off its processor, which holds up all behind: so hardly anyone is put off with a
+//! ticket in its hand. `start` takes all memory; `call` and `close` take none. The lock's rule
+//! counts tickets: each that was drawn is passed on, or a seat holds it, so none is lost, for which
+//! all behind would wait for good.
 //!
 //! What isn't promised: that a turn ever comes, or when. A seat that was dropped can't be brought
 //! to `close`. Before `close` no clause says how what two seats have seen compares.

@@ -1,4 +1,4 @@
-//! What telling watchers comes to. Each law is the contract of a function without parameters that
+//! What telling watchers guarantees. Each law is the contract of a function without parameters that
 //! does nothing.
 
 ghost use Rattle.std.specs.Prelude.{◌≡◌, ◌++◌, ◌∷◌, [], ℕ, true, false, List};
