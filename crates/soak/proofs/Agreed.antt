@@ -40,6 +40,12 @@ length-played {W} opening seed =
     length-map (scripted opening (match_of_number seed)) (λ (s : MirrorState W). drain s)
     ∙ (length-script (match_of_number seed).commands (opening_mirrors opening (match_of_number seed)) (match_of_number seed).script ∙ length-opening opening (match_of_number seed) 0 8)
 
+-- what holds of each holds of the one in a place
+pub all-got : {X : Type 0} (P : X → Type 0) (xs : List X) (i : ℕ) (x : X) → AllByRecursion P xs → slice_get xs i ≡ Some x → P x
+all-got P [] i x all e = absurd cc
+all-got {X} P (y ∷ xs) zero x all e = (let same : y ≡ x = cc in subst P same all.0)
+all-got P (y ∷ xs) (suc i) x all e = all-got P xs i x all.1 e
+
 -- what holds of the element at each place
 pub all-gets : {X : Type 0} → (P : X → Type 0) (xs : List X) → ((i : ℕ) → i < length xs → (x : X) × (slice_get xs i ≡ Some x) × P x) → AllByRecursion P xs
 all-gets P [] h = tt

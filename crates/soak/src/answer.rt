@@ -1,8 +1,10 @@
 //! The match of a number, played, and what is told of it.
 
 ghost use Rattle.std.specs.Prelude.{◌≡◌, length, IfOk, OnOk};
+ghost use Rattle.std.specs.List.{AllByRecursion};
 ghost use Rattle.arena_rules.specs.World.{arena_rules};
 ghost use Rattle.game_trait.specs.Ordered.{time_ordered};
+ghost use Rattle.sync_model.specs.Turns.{IsDrained};
 ghost use Rattle.match_hall.specs.Script.{played, logs_from};
 ghost use Rattle.soak.specs.Answer.{soaked, IsSoakText, soak_text, TellsOf, TellsAgreement};
 
@@ -33,6 +35,7 @@ pub struct SoakAnswer {
 fn play(alloc: Global, opening: &Arena, m: &Match) -> Result<Hall<Arena>, NoMemory>
     ensures mirrors { IfOk result (λ hall. hall ≡ played opening.now m.now) }
     ensures count { IfOk result (λ hall. length hall ≡ m.now.mirrors) }
+    ensures drained { IfOk result (λ hall. AllByRecursion (λ s. IsDrained s) hall) }
 {
     let mut hall = Hall::new(alloc, m, opening)?;
     let mut nobody = Board::over(Vec::new(alloc));
@@ -52,21 +55,24 @@ fn in_order(alloc: Global, opening: &Arena, m: &Match) -> Result<Arena, NoMemory
     Ok(world)
 }
 
-// Appends whether each copy of each mirror of the hall, which has so many, has this world.
+// Appends whether each copy of each mirror of the hall, which has so many and is drained, has this
+// world.
 fn push_agreement(
     out: &mut Vec<u8>,
     hall: &Hall<Arena>,
     mirrors: MirrorId,
     world: &Arena,
 ) -> Result<(), NoMemory>
-    requires { length hall.now ≡ mirrors }
+    requires count { length hall.now ≡ mirrors }
+    requires drained { AllByRecursion (λ s. IsDrained s) hall.now }
     ensures { OnOk result
         (TellsAgreement arena_rules world.now hall.now out.old.items out.new.items) }
 {
     same_line(out, are_all_at(hall, mirrors, world))
 }
 
-// The text of a number and of the hall of its match, whose time-ordered execution is this world.
+// The text of a number and of the drained hall of its match, whose time-ordered execution is this
+// world.
 #[tactic(auto, unfolding(crate::specs::Answer::agreement_text))]
 fn text_of(
     alloc: Global,
@@ -75,7 +81,8 @@ fn text_of(
     mirrors: MirrorId,
     world: &Arena,
 ) -> Result<Seq<u8>, NoMemory>
-    requires { length hall.now ≡ mirrors }
+    requires count { length hall.now ≡ mirrors }
+    requires drained { AllByRecursion (λ s. IsDrained s) hall.now }
     ensures { IfOk result (λ text. TellsOf arena_rules world.now number hall.now text) }
 {
     let mut text = Vec::new(alloc);
