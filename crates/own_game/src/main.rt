@@ -14,7 +14,7 @@ use crate::playing::{opened, play, show};
 use std::io;
 
 fn main(rt: HostRuntime) -> io::Result<()> {
-    let Ok(mut mirror) = opened(rt.alloc()) else {
+    let Some(mut mirror) = opened(rt.alloc()) else {
         return eprintln!(rt; "own_game: no memory");
     };
     play(&rt, &mut mirror)?;

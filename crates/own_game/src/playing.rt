@@ -7,14 +7,12 @@ use mirror_core::Mirror;
 use stagger_clock::Stagger;
 use std::alloc::Global;
 use std::io;
-use tss_io::NoMemory;
 
 /// A mirror with three copies, of which the last stands four ticks behind the mirror's clock, for a
-/// match of ten ticks, with room for sixteen arrivals.
-#[tactic(auto, unfolding(sync_model::specs::Schedule::DelaysRise))]
-pub fn opened(alloc: Global) -> Result<Mirror<Pile>, NoMemory> {
-    let plans = [Stagger::new(&[0, 2, 4], 10)];
-    Mirror::new(alloc, &Pile::start(), &plans, 16, 0)
+/// match of ten ticks, with room for sixteen arrivals. `None` where memory ran out.
+pub fn opened(alloc: Global) -> Option<Mirror<Pile>> {
+    let plan = Stagger::try_new(&[0, 2, 4], 10)?;
+    Mirror::new(alloc, &Pile::start(), &[plan], 16, 0).ok()
 }
 
 /// Ten turns, in each of which the clock ticks, every copy runs what is due to it, and what comes at
@@ -42,20 +40,18 @@ fn arrive_all(rt: &impl Print, mirror: &mut Mirror<Pile>) -> io::Result<()> {
 
 // A command arrives, if it is due within the match and there is room, and the answer is told.
 fn arrive(rt: &impl Print, mirror: &mut Mirror<Pile>, x: &Command) -> io::Result<()> {
-    if x.time >= mirror.length() || mirror.spare() == 0 {
-        return println!(rt; "command {}.{} can't be taken", x.from, x.number);
-    }
-    match mirror.arrive(x) {
-        Arrived::Taken { repaired } => {
+    match mirror.try_arrive(x) {
+        Some(Arrived::Taken { repaired }) => {
             println!(rt;
                 "command {}.{} taken, repaired {repaired}",
                 x.from, x.number
             )
         }
-        Arrived::Repeat => println!(rt; "command {}.{} again", x.from, x.number),
-        Arrived::Late { bound } => {
+        Some(Arrived::Repeat) => println!(rt; "command {}.{} again", x.from, x.number),
+        Some(Arrived::Late { bound }) => {
             println!(rt; "command {}.{} late, bound {bound}", x.from, x.number)
         }
+        None => println!(rt; "command {}.{} can't be taken", x.from, x.number),
     }
 }
 
