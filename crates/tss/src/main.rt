@@ -1,6 +1,6 @@
 //! The program `tss`: the real arguments, streams and exit code. What it does with them is
 //! `words_behind`, and `run` where the words are the one word `race`, which alone may wait, or else
-//! `run_watched`, which returns.
+//! `run_watched`, which returns. What follows a run is `Done::finish`.
 #![tactic(auto)]
 
 #[cfg(test)]
@@ -11,8 +11,8 @@ use std::alloc::Global;
 use std::process::ExitCode;
 use std::rt::Env;
 use std::{env, io};
-use tss_io::{NoMemory, Seq, StdSink, StdSource};
-use tss_program::{Done, Status, asks_race, run, run_watched, words_behind};
+use tss_io::{NoMemory, StdSink, StdSource};
+use tss_program::{Done, asks_race, run, run_watched, words_behind};
 
 // The program's own name and the words behind it, as the system tells them.
 fn arguments(rt: &(impl Env + Alloc<A = Global>)) -> io::Result<Vec<String>> {
@@ -30,11 +30,7 @@ fn main(rt: HostRuntime) -> ExitCode {
             run(&rt, alloc, words, &mut source, &mut sink, &OpenGate, untold)
         }
         Ok(words) => run_watched(alloc, words, &mut source, &mut sink),
-        Err(NoMemory) => Done::of(Status::NoMemory, Seq::new(alloc)),
+        Err(NoMemory) => Done::unbegun(alloc),
     };
-    if let Some(failure) = done.failure() {
-        // Where standard error fails too, the exit code still tells.
-        let _ = eprintln!(rt; "tss: {failure}");
-    }
-    done.exit_code()
+    done.finish(&mut StdSink::new(rt.stderr()))
 }

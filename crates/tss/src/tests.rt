@@ -6,6 +6,7 @@ mod calls;
 mod commands;
 mod copies;
 mod deferred;
+mod ends;
 mod limits;
 mod links;
 mod locks;

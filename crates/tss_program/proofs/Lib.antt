@@ -5,6 +5,7 @@ mod Lifting
 mod RacedLogs
 mod RefusalLaws
 mod RunLaws
+mod Saying
 mod Texts
 mod Whole
 mod Within

@@ -1,8 +1,9 @@
 //! What the words of a run's promise come to, so that none can be read more weakly. Each is the
 //! contract of a function without parameters that does nothing.
 
-ghost use Rattle.std.specs.Prelude.{◌≡◌, ◌<◌, ◌≤◌, ◌⊎◌, ◌↔◌, ℕ, true, false, Option, List, [], None, Some, ◌++◌, length, slice_get, take};
+ghost use Rattle.std.specs.Prelude.{◌≡◌, ◌<◌, ◌≤◌, ◌⊎◌, ◌↔◌, ℕ, true, false, Option, List, [], None, Some, ◌++◌, codes, length, slice_get, take};
 ghost use Rattle.std.specs.List.{AllByRecursion, Contains};
+ghost use Rattle.tss_io.specs.Lines.{as_line};
 ghost use Rattle.tss_io.specs.Streams.{Rose, Gains};
 ghost use Rattle.tss_io.specs.declared.fault.Refused.{Refused};
 ghost use Rattle.tss_io.specs.declared.fault.TextFault.TheVariants as text_faults;
@@ -57,7 +58,8 @@ ghost use Rattle.tss_program.specs.declared.due.Due.{Due};
 ghost use Rattle.tss_words.specs.Subcommands.{subcommand_of, most_asked, races};
 ghost use Rattle.tss_program.specs.declared.status.Status.TheVariants.{Complete};
 ghost use Rattle.tss_program.specs.Due.{IsAnswer, IsDue, IsMatchText, IsNoMatch, IsRecordText, IsNoRecord, IsLossyText, IsNoLossy, IsLegalOne, IsRaced, arena_shown, refusal_due, due_of_verdict, code, net_of, order_text};
-ghost use Rattle.tss_program.specs.Run.{Run, IsRun, IsPut, ReadsAtMost, behind, asked};
+ghost use Rattle.tss_program.specs.Finish.{failure_line, IsSaid};
+ghost use Rattle.tss_program.specs.Run.{Run, Taken, IsRun, IsPut, ReadsAtMost, behind, asked};
 ghost use Rattle.tss_program.specs.Promises.{keeps_logs, Keeps, KeepsPlayed, KeepsPainted, KeepsRaced, KeepsAMatch, KeepsSome, KeepsNet, LacksWhatIsAsked, SoaksWhole, AuditsARecord, IsLegalAnswer, EndsWith, IsComplete};
 
 use game_trait::Game;
@@ -394,4 +396,19 @@ pub fn lifting_keeps<G: Game>()
     ensures played { (opening : G) (m : MatchData) → played opening (lifted m) ≡ played opening m }
     ensures text { (show : Showing G) (opening : G) (m : MatchData)
         → play_text show opening (lifted m) ≡ play_text show opening m }
+{}
+
+/// What follows a run: at status 1, 3 and 4 a line that says in words what failed, and nothing at
+/// another status. It was put whole, or a put failed and a proper front of it was.
+pub fn failures_are_said_in_words()
+    ensures lines { (failure_line 1 ≡ Some (as_line (codes "tss: out of memory")))
+        × (failure_line 3 ≡ Some (as_line (codes "tss: reading standard input failed")))
+        × (failure_line 4 ≡ Some (as_line (codes "tss: writing standard output failed"))) }
+    ensures nothing { (failure_line 0 ≡ None) × (failure_line 2 ≡ None)
+        × (failure_line 5 ≡ None) × (failure_line 6 ≡ None) × (failure_line 7 ≡ None) }
+    ensures put { (line bytes : List ℕ) (old new : Taken) → IsSaid line old new
+        → old.bytes ≡ Some bytes
+        → ((new.faults ≡ old.faults) × (new.bytes ≡ Some (bytes ++ line)))
+        ⊎ (Rose old.faults new.faults × ((n : ℕ) × (n < length line)
+        × (new.bytes ≡ Some (bytes ++ take n line)))) }
 {}

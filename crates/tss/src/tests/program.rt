@@ -1,5 +1,6 @@
 //! Runs of the program: words and a text in, a status, a text and the events that are kept out.
 
+use crate::tests::ends::{finished, line_at};
 use crate::tests::stage::lines::{assert_lines, joined, push_events};
 use crate::tests::tables::audits::{AUDITED, AUDITS};
 use crate::tests::tables::faults::TWO_FAULTS;
@@ -15,11 +16,11 @@ use crate::tests::tables::words::{USED_WRONG, WORDS};
 use copy_workers::OpenGate;
 use match_file::{TextFault, read_match};
 use std::alloc::Global;
-use std::process::Abort;
+use std::process::{Abort, ExitCode};
 use std::sync::Wait;
 use std::thread::Threads;
-use tss_io::{MemSink, MemSource, Seq};
-use tss_program::{Done, Status, asks_race, run, run_watched};
+use tss_io::{MemSink, MemSource};
+use tss_program::{Done, asks_race, run, run_watched};
 
 // What a run is given, and how it has to end. Its text is a front that other rows may have, too, and
 // the rest.
@@ -82,12 +83,13 @@ fn fails(rt: &impl Abort, alloc: Global, call: Option<u32>) -> Vec<u32> {
     calls
 }
 
-// How a run ended: its status and what it says of a failure, what it wrote, how many logs it kept, and
-// the events of these, a line for each.
+// How a run ended: its status, what it said of a failure and the exit code, what it wrote, how many
+// logs it kept, and the events of these, a line for each.
 #[derive(Drop)]
 pub(super) struct Ended {
     pub status: u8,
-    pub failure: &'static str,
+    pub said: String,
+    pub code: ExitCode,
     pub written: String,
     pub logs: usize,
     pub kept: String,
@@ -114,26 +116,18 @@ pub(super) fn run_on<R: Threads + Wait + Sync + Abort>(
         push_events(rt, alloc, &mut kept, log.events.as_slice());
     }
     let written = String::from_utf8_lossy(alloc, sink.taken()).expect(rt, "memory");
+    let status = done.status;
+    let logs = done.kept.len();
+    let (said, code) = finished(rt, alloc, done);
     Ended {
-        status: done.status,
-        failure: done.failure().unwrap_or("nothing"),
+        status,
+        said,
+        code,
         written,
-        logs: done.kept.len(),
+        logs,
         kept,
     }
 }
-
-// What a run that ended with this status says of a failure.
-const FAILURES: [&str; 8] = [
-    "nothing",
-    "out of memory",
-    "nothing",
-    "reading standard input failed",
-    "writing standard output failed",
-    "nothing",
-    "nothing",
-    "nothing",
-];
 
 // Asserts that a run of this row ends so over these streams, in which a call may fail, with so many
 // bytes of what is due: at a failed call a front of it, and else all.
@@ -148,8 +142,13 @@ fn assert_ends<R: Threads + Wait + Sync + Abort>(
     let text = joined(rt, alloc, &[row.front, row.rest]);
     let found = run_on(rt, alloc, row.words, text.as_str(), streams);
     assert_eq!(rt; found.status, status, "the status of {}", row.name);
-    let failure = FAILURES.get(usize::from(status)).copied();
-    assert_eq!(rt; Some(found.failure), failure, "what {} says", row.name);
+    assert_eq!(rt;
+        found.code,
+        ExitCode::from(status),
+        "the exit code of {}",
+        row.name
+    );
+    assert_lines(rt, row.name, found.said.as_str(), line_at(status));
     assert_lines(rt, row.name, found.written.as_str(), written);
     let is_read = streams.failing_read.is_none();
     let logs = if is_read { row.logs } else { 0 };
@@ -166,16 +165,9 @@ fn assert_rows<R: Threads + Wait + Sync + Abort>(rt: &R, alloc: Global, rows: &[
     }
 }
 
-// No row's run is in want of memory, so what is said then is asked for here.
 #[test]
 fn words_are_answered(rt: HostRuntime) {
     assert_rows(&rt, rt.alloc(), &WORDS);
-    let done = Done::of(Status::NoMemory, Seq::new(rt.alloc()));
-    assert_eq!(rt;
-        (done.status, done.failure()),
-        (1, Some("out of memory")),
-        "want of memory"
-    );
 }
 
 #[test]
