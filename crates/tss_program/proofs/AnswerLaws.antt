@@ -21,7 +21,7 @@ use Rattle.run_auditor.proofs.VerdictLaws.{some_verdict, one_verdict}
 use Rattle.match_maker.specs.Generator.{match_of_number}
 use Rattle.match_maker.proofs.Sound.{IsMatch-match_of_number}
 use Rattle.run_recorder.specs.declared.log.MirrorLog.{MirrorLog}
-use Rattle.run_auditor.specs.Audit.{event_count}
+use Rattle.run_auditor.specs.Audit.{IsLegalRecord, event_count}
 use Rattle.tss_race.specs.Record.{IsRecordOfRace, record_of}
 use Rattle.tss_race.proofs.LegalLaws.{record_legal}
 use Rattle.tss_race.proofs.ArenaLaws.{arena_record}
@@ -95,9 +95,10 @@ some-raced m sound = by m.pace refl
     by : (pace : ℕ) → m.pace ≡ pace → (due : Due) × IsRaced m due
     by zero is = (refusal_due (refused_at pace_line Number), no_pace is refl)
     by (suc pace) is =
-        let ends = some_raced arena_rules m (opening_world m.layout) sound in
-        (complete (record_text (record_of (arena_shown m) m ends.0)) (logs_from 0 ends.0),
-        raced ends.0 (omega (arith, is)) refl (record { raced = ends.1; text_is = refl; kept_is = refl }) (arena_record m ends.0 sound ends.1))
+        let ends = some_raced arena_rules m (opening_world m.layout) sound in (
+          complete (record_text (record_of (arena_shown m) m ends.0)) (logs_from 0 ends.0),
+          raced ends.0 (omega (arith, is)) refl (record { raced = ends.1; text_is = refl; kept_is = refl }) (arena_record m ends.0 sound ends.1),
+        )
 
 some-match : (ws : List Behaviour) (task : MatchTask) (m : MatchData) → IsMatch m → (due : Due) × IsMatchAnswer ws task m due
 some-match ws Order m sound = (_, refl)
@@ -283,6 +284,12 @@ race-legal m due some (raced mirrors pace is of fits) =
       legal = record_legal (arena_shown m) (opening_world m.layout) m mirrors of.raced;
     }
 race-legal m due some (no_pace pace is) = absurd (omega (arith, some, pace))
+
+-- a legal answer, taken apart
+pub legal-parts :
+    (m : MatchData) (due : Due) (h : IsLegalAnswer m due)
+    → IsRecordText h.r due.text × (h.r.game ≡ m) × (h.r.logs ≡ due.kept) × IsLegalRecord (arena_shown m) (opening_world m.layout) h.r
+legal-parts m due h = (h.text, h.game, h.logs, subst (λ (x : MatchData). IsLegalRecord (arena_shown x) (opening_world x.layout) h.r) h.game h.legal)
 
 -- what is due for a text of a legal record
 audit-legal : (ws : List Behaviour) (m : MatchData) (due audited : Due) → IsLegalAnswer m due → IsAnswer ws Audit due.text audited → audited ≡ due_of_verdict (Legal (event_count due.kept))

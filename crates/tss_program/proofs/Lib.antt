@@ -2,7 +2,9 @@ mod AnswerLaws
 mod Ends
 mod Inputs
 mod Lifting
+mod NeedLaws
 mod RacedLogs
+mod ReadLaws
 mod RefusalLaws
 mod RunLaws
 mod Saying

@@ -1,7 +1,7 @@
 //! What the words of a run's promise come to, so that none can be read more weakly. Each is the
 //! contract of a function without parameters that does nothing.
 
-ghost use Rattle.std.specs.Prelude.{◌≡◌, ◌<◌, ◌≤◌, ◌⊎◌, ◌↔◌, ℕ, true, false, Option, List, [], None, Some, ◌++◌, codes, length, slice_get, take};
+ghost use Rattle.std.specs.Prelude.{◌≡◌, ◌<◌, ◌≤◌, ◌⊎◌, ◌↔◌, ◌+◌, ℕ, true, false, Option, List, [], None, Some, ◌++◌, codes, drop, length, slice_get, take};
 ghost use Rattle.std.specs.List.{AllByRecursion, Contains};
 ghost use Rattle.tss_io.specs.Lines.{as_line};
 ghost use Rattle.tss_io.specs.Streams.{Rose, Gains};
@@ -53,11 +53,11 @@ ghost use Rattle.tss_words.specs.declared.subcommand.MatchTask.{MatchTask};
 ghost use Rattle.tss_words.specs.declared.subcommand.MatchTask.TheVariants.{Join, PaintPlay, Play, Race, Rewind, Score};
 ghost use Rattle.lossy_text.specs.Data.{LossyData};
 ghost use Rattle.lossy_text.specs.Reading.{IsFirstOfLossy};
-ghost use Rattle.match_join.specs.Join.{IsTooLate, TellsOfBoth};
+ghost use Rattle.match_join.specs.Join.{IsTooLate, TellsOfBoth, too_late_text};
 ghost use Rattle.tss_program.specs.declared.due.Due.{Due};
 ghost use Rattle.tss_words.specs.Subcommands.{subcommand_of, most_asked, races};
 ghost use Rattle.tss_program.specs.declared.status.Status.TheVariants.{Complete};
-ghost use Rattle.tss_program.specs.Due.{IsAnswer, IsDue, IsMatchText, IsNoMatch, IsRecordText, IsNoRecord, IsLossyText, IsNoLossy, IsLegalOne, IsRaced, arena_shown, refusal_due, due_of_verdict, code, net_of, order_text};
+ghost use Rattle.tss_program.specs.Due.{IsAnswer, IsDue, IsMatchText, IsNoMatch, IsRecordText, IsNoRecord, IsLossyText, IsNoLossy, IsLegalOne, IsRaced, IsJoined, arena_shown, refusal_due, due_of_rewind, due_of_verdict, code, net_of, order_text};
 ghost use Rattle.tss_program.specs.Finish.{failure_line, IsSaid};
 ghost use Rattle.tss_program.specs.Run.{Run, Taken, IsRun, IsPut, ReadsAtMost, behind, asked};
 ghost use Rattle.tss_program.specs.Promises.{keeps_logs, Keeps, KeepsPlayed, KeepsPainted, KeepsRaced, KeepsAMatch, KeepsSome, KeepsNet, LacksWhatIsAsked, SoaksWhole, AuditsARecord, IsLegalAnswer, EndsWith, IsComplete};
@@ -112,6 +112,32 @@ pub fn races_need_a_pace()
         × IsRecordOfRace (arena_shown m) (opening_world m.layout) m mirrors due.text due.kept) }
 {}
 
+/// Of a match that lacks the mirror no mirror is joined: it is refused at the line that states its
+/// mirrors.
+pub fn joins_need_their_mirror()
+    ensures refused { (m : MatchData) (number lines : ℕ) (due : Due) → m.mirrors ≤ number
+        → IsJoined number lines m due
+        → due ≡ refusal_due (record { line = 4; cause = Number }) }
+    ensures due { (watchers : List Behaviour) (words : List (List ℕ)) (m : MatchData)
+        (number lines : ℕ) (due : Due)
+        → subcommand_of words ≡ Some (OfMatch (Join number lines)) → IsMatch m
+        → m.mirrors ≤ number → IsDue watchers words (match_text m) due
+        → due ≡ refusal_due (record { line = 4; cause = Number }) }
+{}
+
+/// At a tick past its end a match is looked at by nobody: it is refused at the line that states its
+/// length.
+pub fn looks_need_their_ticks()
+    ensures refused { (m : MatchData) (room : ℕ) (ticks : List ℕ) (tick : ℕ)
+        → Contains ticks tick → m.length < tick
+        → due_of_rewind room ticks m ≡ refusal_due (record { line = 2; cause = Number }) }
+    ensures due { (watchers : List Behaviour) (words : List (List ℕ)) (m : MatchData)
+        (every room : ℕ) (ticks : List ℕ) (tick : ℕ) (due : Due)
+        → subcommand_of words ≡ Some (OfMatch (Rewind every room ticks)) → IsMatch m
+        → Contains ticks tick → m.length < tick → IsDue watchers words (match_text m) due
+        → due ≡ refusal_due (record { line = 2; cause = Number }) }
+{}
+
 /// A run that is complete ended as is due for some input, which is the one that the source tells:
 /// with the status, with the whole text behind what the sink had taken, and with the logs.
 pub fn a_complete_run_wrote_what_is_due()
@@ -144,6 +170,9 @@ pub fn a_run_wrote_all_or_a_front_or_nothing()
 pub fn races_are_legal_for_audit()
     ensures legal { (m : MatchData) (due : Due) → 0 < m.pace → IsRaced m due
         → IsLegalAnswer m due }
+    ensures parts { (m : MatchData) (due : Due) (h : IsLegalAnswer m due)
+        → IsRecordText h.r due.text × (h.r.game ≡ m) × (h.r.logs ≡ due.kept)
+        × IsLegalRecord (arena_shown m) (opening_world m.layout) h.r }
     ensures verdict { (watchers : List Behaviour) (m : MatchData) (due audited : Due)
         → 0 < m.pace → IsRaced m due → IsAnswer watchers Audit due.text audited
         → audited ≡ due_of_verdict (Legal (event_count due.kept)) }
@@ -242,6 +271,28 @@ pub fn runs_read_and_write()
         → Gains r.sink_old.bytes [] r.sink_new.bytes }
 {}
 
+/// What is read of a source that tells its input is a front of it, in no more calls than it may have
+/// bytes: those of the longest text of what the words ask to read, and one more. At status 0, 6 and 7
+/// that text was read to its end, at status 5 the input to its end or to that one byte more. Where
+/// the words ask for nothing to be read all of it is left.
+pub fn what_is_read_is_a_front()
+    ensures front { (r : Run) (input : List ℕ) → IsRun r → r.source_old.left ≡ Some input
+        → (read : List ℕ) × (rest : List ℕ) × (input ≡ read ++ rest)
+        × (length read ≤ most_asked (asked r)) × (r.source_new.left ≡ Some rest) }
+    ensures calls { (r : Run) → IsRun r
+        → r.source_new.calls ≤ r.source_old.calls + most_asked (asked r) }
+    ensures whole { (r : Run) (input : List ℕ) → IsRun r → r.source_old.left ≡ Some input
+        → 0 < most_asked (asked r) → (r.status ≡ 0) ⊎ (r.status ≡ 6) ⊎ (r.status ≡ 7)
+        → r.source_new.left ≡ Some [] }
+    ensures refused { (r : Run) (input : List ℕ) → IsRun r → r.source_old.left ≡ Some input
+        → r.status ≡ 5 → r.source_new.left ≡ Some (drop (most_asked (asked r)) input) }
+    ensures nothing { (r : Run) (input : List ℕ) → IsRun r → r.source_old.left ≡ Some input
+        → most_asked (asked r) ≡ 0 → r.source_new.left ≡ Some input }
+    ensures most { (task : MatchTask) (number : ℕ) → (most_asked (Some (OfMatch task)) ≡ 8388609)
+        × (most_asked (Some Audit) ≡ 33554433) × (most_asked (Some Lossy) ≡ 16777217)
+        × (most_asked (Some (Soak number)) ≡ 0) × (most_asked None ≡ 0) }
+{}
+
 /// What is kept: the logs of the match that is played or raced, of which playing and racing promise
 /// what they do, and nothing elsewhere.
 pub fn runs_keep_what_is_played()
@@ -330,12 +381,22 @@ pub fn a_whole_soak_tells_of_each_mirror()
         ++ (whole_lines 0 repairs ++ (same_line true ++ done_line))))) }
 {}
 
-/// A mirror that joins late: at status 7 no tick was left for it, and at status 0 what was put
-/// tells of the mirror and of it, and whether their last worlds are one.
+/// A mirror that joins late: at status 7 no tick was left for it, and the line that says so was put;
+/// where none is left for it, the status is 7, if memory is found and no call fails. At status 0 what
+/// was put tells of the mirror and of it, and whether their last worlds are one.
 pub fn joins_tell_of_both()
     ensures too_late { (r : Run) (input : List ℕ) (m : MatchData) (number lines : ℕ) → IsRun r
         → asked r ≡ Some (OfMatch (Join number lines)) → r.source_old.left ≡ Some input
         → IsMatchText m input → r.status ≡ 7 → IsTooLate (opening_world m.layout) m number lines }
+    ensures late_text { (r : Run) (input : List ℕ) (m : MatchData) (number lines : ℕ) → IsRun r
+        → asked r ≡ Some (OfMatch (Join number lines)) → r.source_old.left ≡ Some input
+        → IsMatchText m input → r.status ≡ 7
+        → Gains r.sink_old.bytes (too_late_text m.length m.length) r.sink_new.bytes }
+    ensures only_too_late { (r : Run) (input : List ℕ) (m : MatchData) (number lines : ℕ)
+        → IsRun r → asked r ≡ Some (OfMatch (Join number lines))
+        → r.source_old.left ≡ Some input → IsMatchText m input → number < m.mirrors
+        → IsTooLate (opening_world m.layout) m number lines
+        → (r.status ≡ 1) ⊎ (r.status ≡ 3) ⊎ (r.status ≡ 4) ⊎ (r.status ≡ 7) }
     ensures told { (r : Run) (input : List ℕ) (m : MatchData) (number lines : ℕ) → IsRun r
         → asked r ≡ Some (OfMatch (Join number lines)) → r.source_old.left ≡ Some input
         → IsMatchText m input → r.status ≡ 0 → (text : List ℕ)
