@@ -141,7 +141,7 @@ abbrev IsIt : Terms → List ℕ → Request → Type 0
 IsIt t l r = (l ≡ request_text r) × MayAsk t r
 
 -- what a test chose between
-chosen : {T P : Type 0} (b : Bool) (x y : Result T Cause) (r : T) → cond b x y ≡ Ok r → (b ≡ true → x ≡ Ok r → P) → (y ≡ Ok r → P) → P
+pub chosen : {T P : Type 0} (b : Bool) (x y : Result T Cause) (r : T) → cond b x y ≡ Ok r → (b ≡ true → x ≡ Ok r → P) → (y ≡ Ok r → P) → P
 chosen true x y r e first other = first refl e
 chosen false x y r e first other = other e
 
