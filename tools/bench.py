@@ -41,7 +41,8 @@ TSS_MIRROR is the built program `tss_mirror`. With the word `live` it is fed who
 (`step`, answered `idle`), a million that are refused, and a `play` of a match of 4 mirrors with four copies, in which three commands of
 other mirrors and one of its own come each tick, up to 100 ticks late, with a turn and a look at copy 0; and a `wide` one of eight
 copies and 32 players with 20 commands a tick. Then it is spoken to over pipes, each request once the one before was answered:
-the `play` once more, and of the `wide` match the time from a turn to the block of the leading copy.
+the `play` once more, and of the `wide` match the time from a turn to the block of the leading copy, and how much memory was asked for
+by the end of the head and by the end of all requests.
 
 LOCK_BENCH is the built program `lock_bench`. With the word `lock` it makes 3,600,000 calls of a counter, of 1, 2, 4 and 9
 threads together, each with a seat of a turn lock, and then behind a mutex of std; the calls a second are printed.
@@ -304,8 +305,15 @@ LIVES = {
 }
 
 
+def asked_for(process):
+    """The memory in KiB that a process has asked for at most so far, touched or not."""
+    with open(f"/proc/{process.pid}/status", encoding="utf-8") as status:
+        return next(int(line.split()[1]) for line in status if line.startswith("VmPeak:"))
+
+
 def converse(program, head, requests):
-    """Speaks to a live mirror, each request once the one before was answered; gives the seconds of each."""
+    """Speaks to a live mirror, each request once the one before was answered; gives the seconds of each, and the memory in KiB that was
+    asked for by the end of the head and by the end of the requests."""
     with subprocess.Popen([program, "0"], stdin=subprocess.PIPE, stdout=subprocess.PIPE, bufsize=0) as mirror:
         seconds = []
 
@@ -318,11 +326,13 @@ def converse(program, head, requests):
             seconds.append(time.perf_counter() - begun)
 
         ask("".join(line + "\n" for line in head).encode())
+        opened = asked_for(mirror)
         for line in requests:
             ask(line.encode() + b"\n")
+        ended = asked_for(mirror)
         mirror.stdin.close()
         mirror.wait()
-        return seconds[1:]
+        return seconds[1:], opened, ended
 
 
 def time_live(program, runs):
@@ -336,12 +346,13 @@ def time_live(program, runs):
         peak = max(memory for _, memory in made)
         print(f"at once {name:8} {len(lines) - len(head):8} requests  {least * 1000:8.2f} ms  {(len(lines) - len(head)) / least / 1e6:6.2f} million a second  {peak / 1024:6.1f} MiB")
     head, requests = LIVES["play"]
-    least = min(sum(converse(program, head, requests[:6000])) for _ in range(max(1, runs // 5)))
+    least = min(sum(converse(program, head, requests[:6000])[0]) for _ in range(max(1, runs // 5)))
     print(f"conversation   6000 requests  {least * 1000:8.2f} ms  {6000 / least:8.0f} a second")
     head, requests = LIVES["wide"]
-    seconds = converse(program, head, requests)
+    seconds, opened, ended = converse(program, head, requests)
     turns = [a + b for a, b, line in zip(seconds[:-1], seconds[1:], requests) if line == "turn"]
     print(f"wide: a turn with the block of copy 0  {sum(turns) / len(turns) * 1e6:8.1f} us, the longest {max(turns) * 1e6:8.1f} us")
+    print(f"wide: memory asked for by the end of the head {opened / 1024:8.1f} MiB, by the end of {len(requests)} requests {ended / 1024:8.1f} MiB")
 
 
 def run_once(program, words, text):

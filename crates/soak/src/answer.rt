@@ -1,4 +1,4 @@
-//! The match of a number, played, and what is told of it.
+//! The match made from a number, played, and its text.
 
 ghost use Rattle.std.specs.Prelude.{◌≡◌, length, IfOk, OnOk};
 ghost use Rattle.std.specs.List.{AllByRecursion};
@@ -31,7 +31,7 @@ pub struct SoakAnswer {
     pub kept: Seq<MirrorLog>,
 }
 
-// The mirrors of a match that opens so, played and drained. Nobody is told of it.
+// Plays and drains the match's mirrors, without watchers.
 fn play(alloc: Global, opening: &Arena, m: &Match) -> Result<Hall<Arena>, NoMemory>
     ensures mirrors { IfOk result (λ hall. hall ≡ played opening.now m.now) }
     ensures count { IfOk result (λ hall. length hall ≡ m.now.mirrors) }
@@ -118,7 +118,7 @@ fn make_and_play(alloc: Global, number: u32) -> Result<SoakAnswer, NoMemory>
 
 /// Makes the match of a number, plays it along its script and drains it. The text is that of
 /// `soak`: it says that all copies have the time-ordered execution of all commands as their world,
-/// which was compared and is so for every number. Want of memory leaves nothing.
+/// which was compared and is so for every number. On `NoMemory` nothing is returned.
 pub fn soak(alloc: Global, number: u32) -> Result<SoakAnswer, NoMemory>
     ensures told { IfOk result (λ s. IsSoakText number s.text) }
     ensures same { IfOk result (λ s. s.text ≡ soak_text number) }

@@ -9,6 +9,8 @@ mod live;
 mod memory;
 mod streams;
 mod talking;
+#[cfg(test)]
+mod tests;
 mod words;
 
 use crate::behind::words_behind;

@@ -115,7 +115,7 @@ pub fn score_match(
     })
 }
 
-/// The answer of `soak` to a number: what playing its match comes to, and its mirrors at the end.
+/// The answer of `soak` to a number: the text of its match played, and its mirrors at the end.
 pub fn soak_number(alloc: Global, number: u32) -> Result<Due, NoMemory>
     ensures { IfOk result (λ due. due ≡ due_of_number number) }
 {
@@ -145,8 +145,8 @@ fn due_of_join(alloc: Global, answer: JoinAnswer) -> Due
     }
 }
 
-/// The answer of `join` to a match: what is told of this mirror and of one that joins late from it
-/// after so many lines of the script. A match without such a mirror is refused at the line that
+/// The answer of `join` to a match: the text of this mirror and of one that joins late from it,
+/// after `lines` lines of the script. A match without such a mirror is refused at the line that
 /// states its mirrors.
 pub fn join_match(alloc: Global, m: &Match, mirror: MirrorId, lines: u32) -> Result<Due, Stop>
     ensures { Gives (IsJoined mirror lines m.now) result }
