@@ -1,5 +1,6 @@
 //! Tests of the program over a peer in memory.
 
+mod endless;
 mod limits;
 mod refusals;
 mod rows;
