@@ -191,8 +191,8 @@ due-status ws P (Some (Soak n)) input due is a b c d e = subst (λ (x : Due). P 
 pub due-no :
     (ws : List Behaviour) (n : ℕ) (what : Option Subcommand) (input : List ℕ) (due : Due) → IsDueOf ws what input due
     → nat_eq 0 n ≡ false → nat_eq 2 n ≡ false → nat_eq 5 n ≡ false → nat_eq 6 n ≡ false → nat_eq 7 n ≡ false → (status : ℕ) → status ≡ code due.status → status ≡ n → ⊥
-due-no ws n what input due is zero two five six seven status of at =
-    due-status ws (λ s. status ≡ code s → ⊥) what input due is (λ none e. not 2 n status two e at) (λ e. not 0 n status zero e at)
+due-no ws n what input due is at_0 two five six seven status of at =
+    due-status ws (λ s. status ≡ code s → ⊥) what input due is (λ none e. not 2 n status two e at) (λ e. not 0 n status at_0 e at)
     (λ e. not 5 n status five e at) (λ audits e. not 6 n status six e at) (λ joins e. not 7 n status seven e at) of
 
 -- ---- what it keeps
@@ -231,12 +231,12 @@ rewind-kept room ticks m = by (are_within m ticks) refl
     by false h = rw h refl
 
 unkept : (s : Subcommand) (input : List ℕ) (due : Due) → due.kept ≡ [] → keeps_logs s ≡ false → (KeepsNothing s due) ⊎ (KeepsLogs s input due)
-unkept s input due kept silent = inl (record { kept = kept; later = λ keeping zero. absurd (let never = sym silent ∙ keeping in cc) })
+unkept s input due kept silent = inl (record { kept = kept; later = λ keeping at_0. absurd (let never = sym silent ∙ keeping in cc) })
 
 refused-keeps : (s : Subcommand) (input : List ℕ) (r : Refused) (due : Due) → due ≡ refusal_due r → (KeepsNothing s due) ⊎ (KeepsLogs s input due)
 refused-keeps s input r due is = inl (record {
   kept = ap (λ (d : Due). d.kept) is;
-  later = λ keeping zero. not 5 0 (code due.status) refl (ap (λ (d : Due). code d.status) is) zero;
+  later = λ keeping at_0. not 5 0 (code due.status) refl (ap (λ (d : Due). code d.status) is) at_0;
 })
 
 match-keeps : (ws : List Behaviour) (task : MatchTask) (input : List ℕ) (m : MatchData) (due : Due) → IsMatchText m input → IsMatchAnswer ws task m due
@@ -305,16 +305,16 @@ race-audited ws m due audited some is has = audit-legal ws m due audited (race-l
 
 -- the pace of a match that was raced
 pub race-paced : (m : MatchData) (due : Due) → IsRaced m due → code due.status ≡ 0 → 0 < m.pace
-race-paced m due (raced mirrors pace is of fits) zero = pace
-race-paced m due (no_pace none is) zero = absurd (not 5 0 (code due.status) refl (ap (λ (d : Due). code d.status) is) zero)
+race-paced m due (raced mirrors pace is of fits) at_0 = pace
+race-paced m due (no_pace none is) at_0 = absurd (not 5 0 (code due.status) refl (ap (λ (d : Due). code d.status) is) at_0)
 
 -- ---- what an audit says
 
 -- the status of a verdict says whether the record is legal
 verdict-says : (r : RaceRecord) (v : Verdict) (status : ℕ) → IsVerdictOf r v → status ≡ code (status_of v) → SaysIfLegal status r
-verdict-says r (Legal events) status tells is = (λ zero. tells.0, λ legal. is)
+verdict-says r (Legal events) status tells is = (λ at_0. tells.0, λ legal. is)
 verdict-says r (NotLegal mirror place why) status tells is = (
-  λ zero. absurd (not 6 0 status refl is zero),
+  λ at_0. absurd (not 6 0 status refl is at_0),
   λ legal. absurd (let never = (says_exactly (arena_shown r.game) (opening_world r.game.layout) r (NotLegal mirror place why) tells).1 legal in cc),
 )
 
