@@ -168,13 +168,16 @@ async def serve(given):
     for which in (signal.SIGINT, signal.SIGTERM):
         asyncio.get_running_loop().add_signal_handler(which, stop.set)
     page = page_of(session, given, stop)
-    await link_all(session, given)
-    await session.begin()
     session.add_bots(given.bots)
-    if page:
-        print(f"play at {await page.begin(given.port)}", flush=True)
-    await session.run(given.seconds, stop)
-    return await ended(session, given, page)
+    try:
+        await link_all(session, given)
+        await session.begin()
+        if page:
+            print(f"play at {await page.begin(given.port)}", flush=True)
+        await session.run(given.seconds, stop)
+        return await ended(session, given, page)
+    finally:
+        await session.close()
 
 
 async def ended(session, given, page):

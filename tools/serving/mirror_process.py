@@ -1,7 +1,9 @@
 """One `tss_mirror`, spoken to line by line."""
 
 import asyncio
+import os
 import re
+import signal
 
 from match_lines import Wrong
 
@@ -62,9 +64,16 @@ class MirrorProcess:
                 raise Died(self.number)
             self.buffer += piece
 
+    def end(self):
+        # `Process.kill` asks first whether it has ended, which takes the status away from who waits for it
+        try:
+            os.kill(self.process.pid, signal.SIGKILL)
+        except ProcessLookupError:
+            pass  # it has ended
+
     async def stop(self):
         if self.process and self.process.returncode is None:
-            self.process.kill()
+            self.end()
             await self.process.wait()
         if self.process:
             self.process.stdin.close()

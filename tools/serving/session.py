@@ -33,7 +33,7 @@ class Session:
         self.match, self.key, self.net, self.rate, self.told = match, key, net, rate, told
         self.rooms = {number: Room(program, number, match, told) for number in numbers}
         self.players = [words[0] for words in match.lines_of("player")]
-        self.claims, self.servers, self.works, self.looks, self.shown = {}, [], [], {}, None
+        self.claims, self.servers, self.works, self.looked_at, self.shown = {}, [], [], set(), None
         self.stalled, self.draw = set(), random.Random(5)
 
     # ---- links
@@ -108,12 +108,18 @@ class Session:
             self.watch_stall(room, -ahead)
             began = time.perf_counter()
             self.play_bots(room)
-            looks = self.looks.get(room.number, set())
-            blocks = await room.turn(sorted(looks) if ahead > -1 or room.clock % 10 == 0 else ())
+            blocks = await room.turn(self.copies_to_show(room) if ahead > -1 or room.clock % 10 == 0 else ())
             self.works.append(time.perf_counter() - began)
             notes, room.notes = room.notes, []
             if self.shown:
                 self.shown(room, blocks, notes)
+
+    def copies_to_show(self, room):
+        """Where somebody looks at the mirror: its leading copy, and its trailing ones in turn, one a tick."""
+        if room.number not in self.looked_at:
+            return ()
+        trailing = len(room.delays) - 1
+        return (0, 1 + room.clock % trailing) if trailing else (0,)
 
     def watch_stall(self, room, behind):
         ticks = int(behind * self.rate)
@@ -140,13 +146,19 @@ class Session:
         """Ends all mirrors. What each told."""
         await self.settle()
         told = {number: await room.end() for number, room in sorted(self.rooms.items())}
+        await self.close()
+        return told
+
+    async def close(self):
+        """Leaves no link, server or process. What is closed stays so."""
         for room in self.rooms.values():
             for link in room.out.values():
-                link.task.cancel()
+                if link.task:
+                    link.task.cancel()
+                    link.task = None
             await room.process.stop()
         for server in self.servers:
             server.close()
-        return told
 
     def work_line(self):
         if not self.works:

@@ -15,7 +15,7 @@ from aiohttp import WSMsgType, web
 
 PAGE = os.path.join(os.path.dirname(os.path.abspath(__file__)), "page.html")
 ACTS = ("go", "left", "right", "shoot", "dash")
-MOST_MESSAGES_A_SECOND, LONGEST_MESSAGE = 60, 400
+MOST_MESSAGES_A_SECOND, LONGEST_MESSAGE, HEARD_OUT = 60, 400, 0.5
 
 
 class Bad(Exception):
@@ -103,12 +103,23 @@ class Page:
             if given.type != WSMsgType.TEXT:
                 break
             if not viewer.counted():
-                await viewer.socket.close(code=1008, message=b"too many messages")
+                await self.turn_out(viewer.socket)
                 break
             try:
                 await self.take(viewer, given.data)
             except Bad as bad:
                 viewer.put({"error": str(bad)})
+
+    async def turn_out(self, socket):
+        """Closes a page that floods, with the reason. What it still sends is heard for a moment and dropped: bytes that nobody
+        reads would reset the connection, and the reason wouldn't reach the page."""
+        try:
+            async with asyncio.timeout(HEARD_OUT):
+                while (await socket.receive()).type == WSMsgType.TEXT:
+                    pass
+        except TimeoutError:
+            pass
+        await socket.close(code=1008, message=b"too many messages")
 
     async def take(self, viewer, data):
         try:
@@ -196,9 +207,7 @@ class Page:
         self.tell_all({"note": f"mirror {mirror}: {text}"})
 
     def count_looks(self):
-        copies = range(len(self.session.match.numbers("delays")))
-        looked = {viewer.mirror for viewer in self.viewers if viewer.mirror is not None}
-        self.session.looks = {mirror: set(copies) for mirror in looked}
+        self.session.looked_at = {viewer.mirror for viewer in self.viewers if viewer.mirror is not None}
 
     def show(self, room, blocks, notes):
         viewers = [viewer for viewer in self.viewers if viewer.mirror == room.number]
@@ -206,7 +215,7 @@ class Page:
             return
         links = {other: [link.is_up, None if link.lag_ms is None else round(link.lag_ms), len(link.waiting)] for other, link in room.out.items()}
         message = {"tick": room.clock, "mirror": room.number, "plan": room.plan, "notes": notes, "links": links,
-                   "copies": [[int(blocks[copy][0].split(" ")[3]), blocks[copy][1:]] for copy in sorted(blocks) if blocks[copy]]}
+                   "copies": [[copy, int(lines[0].split(" ")[3]), lines[1:]] for copy, lines in sorted(blocks.items()) if lines]}
         for viewer in viewers:
             viewer.put(message)
 

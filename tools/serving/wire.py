@@ -110,15 +110,17 @@ class LinkOut:
         while True:
             try:
                 await self.connect()
-            except (OSError, Stranger, asyncio.TimeoutError) as fault:
+            except (OSError, Stranger) as fault:
                 self.away = str(fault) or type(fault).__name__
             self.is_up, self.lag_ms = False, None
             await asyncio.sleep(0.3)
 
     async def connect(self):
-        reader, writer = await asyncio.wait_for(asyncio.open_connection(*self.place, limit=LONGEST_LINE + 1), 5)
+        async with asyncio.timeout(5):
+            reader, writer = await asyncio.open_connection(*self.place, limit=LONGEST_LINE + 1)
         try:
-            number = await asyncio.wait_for(greet(reader, writer, self.key, self.room.number, first=True), 5)
+            async with asyncio.timeout(5):
+                number = await greet(reader, writer, self.key, self.room.number, first=True)
             if number != self.other:
                 raise Stranger(f"mirror {number} answers in place of mirror {self.other}")
             self.is_up, self.away = True, None
@@ -149,8 +151,9 @@ class LinkOut:
                 loop.call_later(self.net.lag / 1000, send, writer, f"ping {now:.6f}")
             self.changed.clear()
             try:
-                await asyncio.wait_for(self.changed.wait(), 0.05)
-            except asyncio.TimeoutError:
+                async with asyncio.timeout(0.05):
+                    await self.changed.wait()
+            except TimeoutError:
                 pass
 
     def deliver(self, writer, sequence):
@@ -187,7 +190,8 @@ class LinkIn:
 
     async def serve(self, reader, writer):
         try:
-            self.other = await asyncio.wait_for(greet(reader, writer, self.key, self.room.number, first=False), 5)
+            async with asyncio.timeout(5):
+                self.other = await greet(reader, writer, self.key, self.room.number, first=False)
             if self.other == self.room.number or self.other >= self.room.mirrors:
                 raise Stranger(f"there is no other mirror {self.other}")
             while True:
@@ -196,7 +200,7 @@ class LinkIn:
         except Stranger as why:
             self.room.say(f"a connection was closed: {why}")
             send(writer, f"closed {why}")
-        except (OSError, asyncio.TimeoutError, asyncio.CancelledError):
+        except (OSError, asyncio.CancelledError):
             pass  # it went away, and comes back with what wasn't acknowledged; or the session is over
         finally:
             writer.close()

@@ -100,7 +100,7 @@ class Nets(Sessions):
         async def kill():
             while room.clock < 100:
                 await asyncio.sleep(0.01)
-            room.process.process.kill()
+            room.process.end()
         played = await self.played(session, beside=kill())
         verdict, is_right = played.verdict(PROGRAM)
         self.assertEqual(room.restarts, 1)
@@ -145,8 +145,12 @@ class Nets(Sessions):
 class Programs(Files):
     """The tool as it is run."""
 
-    def serve(self, *words, match=ARENA):
-        return tool("serve_mirrors.py", match, "--program", PROGRAM, "--mirror-program", MIRROR_PROGRAM, *words)
+    def patient(self):
+        """The arena with a last delay of a second at 100 ticks a second, so that a busy machine turns no command away."""
+        return self.file("patient.match", read(ARENA).replace("delays 0 4 20\n", "delays 0 4 100\n"))
+
+    def serve(self, *words, match=None):
+        return tool("serve_mirrors.py", match or self.patient(), "--program", PROGRAM, "--mirror-program", MIRROR_PROGRAM, *words)
 
     def test_a_session_is_kept_and_audited(self):
         folder = self.path("played")
@@ -160,7 +164,7 @@ class Programs(Files):
         self.assertEqual(study[2], 0, study[1])
 
     def test_ctrl_c_ends_a_session(self):
-        words = [sys.executable, SERVE, ARENA, "--program", PROGRAM, "--mirror-program", MIRROR_PROGRAM, "--no-page", "--bots", "4", "--rate", "100"]
+        words = [sys.executable, SERVE, self.patient(), "--program", PROGRAM, "--mirror-program", MIRROR_PROGRAM, "--no-page", "--bots", "4", "--rate", "100"]
         with subprocess.Popen(words, stdout=subprocess.PIPE, stderr=subprocess.PIPE) as served:
             time.sleep(2.5)
             served.send_signal(signal.SIGINT)
@@ -170,7 +174,7 @@ class Programs(Files):
 
     def test_two_machines_are_two_processes_with_one_key(self):
         key = self.file("key", "0123456789abcdef0123456789abcdef\n")
-        match = self.file("two.match", read(ARENA).replace("mirrors 4\n", "mirrors 2\n").replace("length 8192\n", "length 100\n"))
+        match = self.file("two.match", read(self.patient()).replace("mirrors 4\n", "mirrors 2\n").replace("length 8192\n", "length 100\n"))
         places = {0: "127.0.0.1:8951", 1: "127.0.0.1:8952"}
         running = [subprocess.Popen([sys.executable, SERVE, match, "--program", PROGRAM, "--mirror-program", MIRROR_PROGRAM, "--no-page", "--rate", "50", "--bots", "3",
                                      "--mirror", str(m), "--listen", places[m], "--peer", f"{1 - m}={places[1 - m]}", "--key", key, "--out", self.path(f"part{m}")],
@@ -239,7 +243,9 @@ class Pages(Sessions):
             await socket.send_json({"do": "act", "act": "left", "token": token})
             await asyncio.sleep(0.5)
             tick = await self.hear(socket, "tick")
-            self.assertEqual((tick["mirror"], len(tick["copies"])), (1, 3))
+            self.assertEqual(tick["mirror"], 1)
+            shown = [[copy for copy, _, _ in (await self.hear(socket, "tick"))["copies"]] for _ in range(4)]
+            self.assertEqual(({copies[0] for copies in shown}, {tuple(copies[1:]) for copies in shown}), ({0}, {(1,), (2,)}))
             own = [command for command in self.served.rooms[1].commands.values() if command.split(" ")[3] == "6"]
             self.assertEqual([command.split(" ")[4] for command in own], ["left"])
         await asyncio.sleep(0.2)
