@@ -1,5 +1,6 @@
 -- The words of a command line, and how much of an input they ask to read.
 use Rattle.std.specs.Prelude.{ℕ, ◌<◌, ◌≤◌, ◌+◌, ◌-◌, ◌^◌, ◌&&◌, Bool, true, false, List, [], ◌∷◌, Option, Some, None, option_map, option_and_then, nat_le, length, bytes_eq, codes, if◌then◌else◌}
+use Rattle.std.specs.List.{AllByRecursion}
 use Rattle.tss_io.specs.Decimals.{number_of}
 use Rattle.game_trait.specs.declared.limits.TheConstants.{LONGEST_MATCH, LONGEST_MATCH_TEXT, LONGEST_RECORD_TEXT, LONGEST_LOSSY_TEXT, MOST_CACHED, MOST_MIRRORS, MOST_SCRIPT_LINES}
 use Rattle.tss_words.specs.declared.ticks.TheConstants.{MOST_LOOKS}
@@ -30,7 +31,7 @@ paint_of word =
     if bytes_eq word (codes "order") then Some (OfMatch PaintOrder)
     else (if bytes_eq word (codes "play") then Some (OfMatch PaintPlay) else None)
 
--- to join from a mirror after so many lines of the script: both are canonical decimals, of a mirror
+-- to join from a mirror after a number of lines of the script: both are canonical decimals, of a mirror
 -- and a number of lines that some match has
 unfoldable pub join_of : List ℕ → List ℕ → Option Subcommand
 join_of mirror lines =
@@ -56,7 +57,7 @@ ticks_of words =
     then numbers_of words LONGEST_MATCH
     else None
 
--- to look at a match at ticks: a world is kept at every so many of 1 to 8,192 ticks, and 1 to 64 of
+-- to look at a match at ticks: a world is kept every 1 to 8,192 ticks, and 1 to 64 of
 -- those that were looked up
 unfoldable pub rewind_of : List ℕ → List ℕ → List (List ℕ) → Option Subcommand
 rewind_of every room ticks =
@@ -94,6 +95,12 @@ pub record IsKept (every room : ℕ) : Type 0 where
   pub some_room : 0 < room
   pub little_room : room ≤ MOST_CACHED
 
+-- ticks at which a match may be looked at: 1 to 16, each a tick of some match, or its end
+pub record AreLooks (ticks : List ℕ) : Type 0 where
+  pub some : 0 < length ticks
+  pub few : length ticks ≤ MOST_LOOKS
+  pub within : AllByRecursion (λ t. t ≤ LONGEST_MATCH) ticks
+
 -- what is asked of a match is in its ranges
 abbrev pub IsAskedOfMatch : MatchTask → Type 0
 IsAskedOfMatch Order = Unit {0}
@@ -104,7 +111,7 @@ IsAskedOfMatch Score = Unit {0}
 IsAskedOfMatch PaintOrder = Unit {0}
 IsAskedOfMatch PaintPlay = Unit {0}
 IsAskedOfMatch (Join mirror lines) = (mirror < MOST_MIRRORS) × (lines ≤ MOST_SCRIPT_LINES)
-IsAskedOfMatch (Rewind every room ticks) = IsKept every room
+IsAskedOfMatch (Rewind every room ticks) = IsKept every room × AreLooks ticks
 
 -- the same of whatever words ask for
 abbrev pub IsAsked : Subcommand → Type 0
@@ -121,7 +128,7 @@ most_read Audit = LONGEST_RECORD_TEXT + 1
 most_read Lossy = LONGEST_LOSSY_TEXT + 1
 most_read (Soak number) = 0
 
--- the same of words: where they ask for nothing that is built, nothing is read
+-- the same of words: where they ask for nothing, nothing is read
 abbrev pub most_asked : Option Subcommand → ℕ
 most_asked None = 0
 most_asked (Some subcommand) = most_read subcommand

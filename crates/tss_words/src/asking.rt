@@ -2,9 +2,10 @@
 
 ghost use Rattle.std.specs.Prelude.{◌≡◌, ◌≤◌, ◌&&◌, nat_le, map, length, IfSome};
 ghost use Rattle.game_trait.specs.declared.limits.TheConstants.{LONGEST_MATCH};
+ghost use Rattle.std.specs.List.{AllByRecursion};
 ghost use Rattle.std.specs.String.{string_bytes};
 ghost use Rattle.tss_io.specs.Decimals.{number_of};
-ghost use Rattle.tss_words.specs.Subcommands.{subcommand_named, subcommand_of, soak_of, paint_of, join_of, rewind_of, two_of, longer_of, IsAsked, ticks_of, numbers_of, number_between};
+ghost use Rattle.tss_words.specs.Subcommands.{subcommand_named, subcommand_of, soak_of, paint_of, join_of, rewind_of, two_of, longer_of, IsAsked, AreLooks, ticks_of, numbers_of, number_between};
 
 use crate::subcommand::{MatchTask, Subcommand};
 use crate::ticks::{MOST_LOOKS, Ticks};
@@ -42,7 +43,9 @@ fn are_few(words: &[String]) -> bool
 #[tactic(auto, unfolding(crate::specs::Subcommands::numbers_of))]
 fn numbers_of(words: &[String]) -> Option<Ticks>
     requires { length words.now ≤ MOST_LOOKS }
-    ensures { result ≡ numbers_of (map string_bytes words.now) LONGEST_MATCH }
+    ensures exact { result ≡ numbers_of (map string_bytes words.now) LONGEST_MATCH }
+    ensures each { IfSome result (λ ticks. AllByRecursion (λ t. t ≤ LONGEST_MATCH) ticks) }
+    ensures count { IfSome result (λ ticks. length ticks ≡ length words.now) }
 {
     let mut ticks = Ticks::new();
     for word in words {
@@ -58,7 +61,8 @@ fn numbers_of(words: &[String]) -> Option<Ticks>
 // length of the longest match.
 #[tactic(auto, unfolding(crate::specs::Subcommands::ticks_of))]
 fn ticks_of(words: &[String]) -> Option<Ticks>
-    ensures { result ≡ ticks_of (map string_bytes words.now) }
+    ensures exact { result ≡ ticks_of (map string_bytes words.now) }
+    ensures looks { IfSome result AreLooks }
 {
     if are_few(words) {
         numbers_of(words)
@@ -111,7 +115,7 @@ impl Subcommand {
         }
     }
 
-    // To let a mirror join from this one after so many lines of the script.
+    // To let a mirror join from this one after a number of lines of the script.
     #[tactic(auto, unfolding(crate::specs::Subcommands::join_of))]
     fn join(mirror: &str, lines: &str) -> Option<Subcommand>
         ensures exact { result ≡ join_of mirror.now lines.now }
@@ -168,8 +172,8 @@ impl Subcommand {
         }
     }
 
-    /// The subcommand that the words ask for. `None` where they ask for none that is built. It
-    /// takes no memory.
+    /// The subcommand that the words ask for. `None` where they ask for nothing. It takes no
+    /// memory.
     #[tactic(auto, unfolding(crate::specs::Subcommands::subcommand_of))]
     pub fn of(words: &[String]) -> Option<Subcommand>
         ensures exact { result ≡ subcommand_of (map string_bytes words.now) }

@@ -20,7 +20,7 @@ pub enum MatchTask {
     PaintOrder,
     /// What `Play` does, in the game of painting.
     PaintPlay,
-    /// Let a mirror join late: it opens from this mirror's last copy after so many lines of the
+    /// Let a mirror join late: it opens from this mirror's last copy after this many lines of the
     /// script, and both go on.
     Join {
         /// The mirror that is joined from; 7 at most.
@@ -39,7 +39,7 @@ pub enum MatchTask {
     },
 }
 
-/// What the program is asked to do, of what is built, by what it reads.
+/// What the program is asked to do, by what it reads.
 #[derive(Drop)]
 pub enum Subcommand {
     /// Answer the match whose text is read.

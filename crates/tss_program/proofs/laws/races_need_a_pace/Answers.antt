@@ -15,8 +15,8 @@ use Rattle.tss_program.proofs.Texts.{match-exact}
 use Rattle.tss_program.proofs.laws.races_need_a_pace.Goals as goal
 
 of-match : (m : MatchData) (due : Due) → IsMatch m → m.pace ≡ 0 → IsDueFor IsMatchText IsFaultyMatch IsRaced (match_text m) due → due ≡ refusal_due (refused_at pace_line Number)
-of-match m due sound none (answer v is raced) =
-    race-refused m due none (subst (λ (x : MatchData). IsRaced x due) (match-exact.one v m (match_text m) is (sound, refl)) raced)
+of-match m due sound none (answer v is told) =
+    race-refused m due none (subst (λ (x : MatchData). IsRaced x due) (match-exact.one v m (match_text m) is (sound, refl)) told)
 of-match m due sound none (refusal refused lacks is) = absurd (match-exact.apart m (match_text m) refused (sound, refl) lacks)
 
 pub returns-clause-refused : goal.returns-clause-refused
