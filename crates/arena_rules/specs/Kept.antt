@@ -31,7 +31,7 @@ pub record AreNumbered (players : List Player) (numbers : List ℕ) (may_be_dead
   pub front : take (length players) numbers ≡ map (λ p. place_number p.state) players
   pub live : may_be_dead ≡ false → list_all is_live players ≡ true
 
--- a pickup as it is seen after so many beats
+-- a pickup as it is seen after n beats
 abbrev pub seen_at : ℕ → Resting → Pickup
 seen_at beats resting = record { place = resting.place; wait = resting.until - beats }
 

@@ -91,7 +91,7 @@ lying x y kind = record { x = x; y = y; kind = kind }
 abbrev pub lane : Grid
 lane = open_grid 64 1
 
--- so many pickups, and behind them so many players, side by side in the lane
+-- pickups, and behind them players, side by side in the lane
 abbrev pub side_by_side : ℕ → ℕ → Layout
 side_by_side pickups players = record {
   grid = lane;
@@ -103,7 +103,7 @@ side_by_side pickups players = record {
 abbrev pub on_ground : Grid → Layout
 on_ground grid = record { grid = grid; pickups = []; players = at 0 0 E ∷ [] }
 
--- so many players, live and side by side in the lane
+-- n players, live and side by side in the lane
 abbrev pub crowd : ℕ → World
 crowd players =
     record {
@@ -114,7 +114,7 @@ crowd players =
       time = 0;
     }
 
--- so many pickups side by side in the lane
+-- n pickups side by side in the lane
 abbrev pub spread : ℕ → World
 spread pickups =
     record {

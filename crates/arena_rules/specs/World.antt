@@ -39,7 +39,7 @@ pub record IsBody (grid : Grid) (body : Body) : Type 0 where
   pub health : (1 ≤ body.health) × (body.health ≤ MOST_HEALTH)
   pub ammo : body.ammo ≤ MOST_AMMO
 
--- a player is live and such, or waits for so many beats at most
+-- a player is live and such, or waits for a bounded number of beats
 abbrev pub IsState : Grid → State → Type 0
 IsState grid (Live body) = IsBody grid body
 IsState grid (Dead wait) = wait ≤ BEATS_DEAD
@@ -56,7 +56,7 @@ pub record ArePlayers (grid : Grid) (players : List Player) : Type 0 where
   pub each : All (IsPlayer grid) players
   pub apart : IsDistinct same_place (map place players)
 
--- a shot of a world of so many players: its owner is there, it is in the grid and on no wall, and
+-- a shot of a world with this number of players: its owner is there, it is in the grid and on no wall, and
 -- has 1 cell left or more
 pub record IsShot (grid : Grid) (players : ℕ) (shot : Shot) : Type 0 where
   pub owner : shot.owner < players
@@ -68,7 +68,7 @@ pub record AreShots (grid : Grid) (players : ℕ) (shots : List Shot) : Type 0 w
   pub count : length shots ≤ MOST_SHOTS
   pub each : All (IsShot grid players) shots
 
--- a pickup of a world: it lies in the grid and on no wall, and waits for so many beats
+-- a pickup of a world: it lies in the grid and on no wall, and waits for a bounded number of beats
 -- at most
 pub record IsPickup (grid : Grid) (pickup : Pickup) : Type 0 where
   pub free : is_open grid pickup.place.x pickup.place.y ≡ true

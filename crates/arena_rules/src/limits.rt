@@ -1,6 +1,6 @@
 //! The numbers of the arena's rules, each with its unit (this project's own).
 
-/// How many points of health a live player has at most and at home: so many hits kill.
+/// How many points of health a live player has at most and at home: as many hits kill.
 pub const MOST_HEALTH: u8 = 3;
 
 /// How many shots a player can hold at most.

@@ -32,7 +32,7 @@ pub struct PickupSpot {
 #[derive(Clone, Copy, Debug, Default, PartialEq, Eq)]
 pub struct Pickup {
     pub place: PickupSpot,
-    /// For so many beats more it can't be taken, from 0 to 20.
+    /// It can't be taken for this number of further beats, from 0 to 20.
     pub wait: u8,
 }
 

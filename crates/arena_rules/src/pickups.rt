@@ -19,7 +19,7 @@ use std::marker::Model;
 // The most beats that are counted before counting begins anew: a wait more is still a number.
 const MOST_BEATS: u32 = 4_294_967_275;
 
-// The pickups as they are seen after so many beats.
+// The pickups as they are seen after a number of beats.
 fn seen_each(pickups: &[Resting], beats: u32) -> ArrayVec<Pickup, MOST_PICKUPS>
     requires count { length pickups.now ≤ MOST_PICKUPS }
     requires waits { All (λ p. p.until - beats ≤ BEATS_TAKEN) pickups.now }
@@ -32,7 +32,7 @@ fn seen_each(pickups: &[Resting], beats: u32) -> ArrayVec<Pickup, MOST_PICKUPS>
     seen
 }
 
-// The kind of the pickup that lies ready in the cell of this spot, after so many beats.
+// The kind of the pickup that lies ready in the cell of this spot, after a number of beats.
 fn ready_kind(pickups: &[Resting], spot: Spot, beats: u32) -> Option<Kind>
     ensures { result ≡ ready_kind_at beats pickups.now (spot_cell spot) }
 {
@@ -42,7 +42,7 @@ fn ready_kind(pickups: &[Resting], spot: Spot, beats: u32) -> Option<Kind>
         .map(|p| p.place.kind)
 }
 
-// Takes each pickup that lies ready in the cell of this spot, after so many beats.
+// Takes each pickup that lies ready in the cell of this spot, after a number of beats.
 fn take_each(pickups: &mut [Resting], spot: Spot, beats: u32)
     requires { beats ≤ 4294967275 }
     ensures { pickups.new ≡ map (emptied_at beats (spot_cell spot)) pickups.old }

@@ -55,7 +55,7 @@ impl Body {
 #[derive(Clone, Copy, Debug, PartialEq, Eq)]
 pub enum State {
     Live(Body),
-    /// Dead for so many beats more at least, from 0 to 10.
+    /// Dead for at least this number of further beats, from 0 to 10.
     Dead { wait: u8 },
 }
 

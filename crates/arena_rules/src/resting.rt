@@ -14,7 +14,7 @@ use crate::spot::Spot;
 #[derive(Clone, Copy, Debug, Default)]
 pub struct Resting {
     pub place: PickupSpot,
-    /// It can be taken after so many beats.
+    /// It can be taken after this number of beats.
     pub until: u32,
 }
 
@@ -26,7 +26,7 @@ impl Resting {
         Resting { place, until: 0 }
     }
 
-    /// How it is seen after so many beats.
+    /// How it is seen after a number of beats.
     pub fn seen(self, beats: u32) -> Pickup
         requires { self.until - beats ≤ BEATS_TAKEN }
         ensures { result ≡ seen_at beats self }
@@ -37,7 +37,7 @@ impl Resting {
         }
     }
 
-    /// Whether it lies ready in the cell of this spot after so many beats.
+    /// Whether it lies ready in the cell of this spot after a number of beats.
     pub fn lies_ready(self, spot: Spot, beats: u32) -> bool
         ensures { result ≡ lies_ready (spot_cell spot) (seen_at beats self) }
     {

@@ -59,7 +59,7 @@ impl Roster {
         self.names.len()
     }
 
-    /// The name in this place, counted from 0, or None where there are no more than so many names.
+    /// The name in this place, counted from 0, or None where there are no more names than that.
     pub fn name_at(&self, place: usize) -> Option<&[u8]>
         ensures name { option_copied result ≡ slice_get self.now place }
         ensures distinct { PlayerNamesDiffer self.now }

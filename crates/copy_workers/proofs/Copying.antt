@@ -25,7 +25,7 @@ two-marks : (trail mid now : List TrailMark) (a b : TrailMark) → mid ≡ trail
 two-marks trail mid now a b first second =
     second ∙ ap (λ (l : List TrailMark). l ++ b ∷ []) first ∙ append_assoc trail (a ∷ []) (b ∷ [])
 
--- what so many turns leave at which no tick is due
+-- what turns leave at which no tick is due
 none-asked : (c count : ℕ) → flat_map (asked_of c) (replicate count CopyTurn.idle) ≡ []
 none-asked c zero = refl
 none-asked c (suc count) = none-asked c count
@@ -34,7 +34,7 @@ idle-marks : (c count : ℕ) → flat_map (marks_of c) (replicate count CopyTurn
 idle-marks c zero = refl
 idle-marks c (suc count) = ap (λ (l : List TrailMark). IdleMark c ∷ l) (idle-marks c count)
 
--- no tick was due, so many times
+-- no tick was due, n times
 pub idle-turns :
     (c count : ℕ) (asked now : List Asked) (trail trail_now : List TrailMark) → now ≡ asked → trail_now ≡ trail ++ replicate count (IdleMark c)
     → AreTurns c count 0 asked now trail trail_now

@@ -14,7 +14,7 @@ use Rattle.copy_workers.specs.declared.post.TrailMark.TheVariants.{Asked as Aske
 use Rattle.copy_workers.specs.Asking.{pair_of}
 
 -- what became of a turn: no tick was due; too many commands were, and the step that was asked was
--- answered so; the drawn tick became the copy's, with so many copies repaired; or it was stale
+-- answered so; the drawn tick became the copy's, with this number of copies repaired; or it was stale
 pub data CopyTurn : Type 0 where
   idle : CopyTurn
   wide : Stepped → CopyTurn
@@ -47,7 +47,7 @@ is_ran Restaggered = false
 abbrev pub runs_in : List Asked → ℕ
 runs_in asked = times (λ p. is_ran p.reply) asked
 
--- so many turns of copy c, in which it ran so many ticks: one, or several at which none was due
+-- turns of copy c, in which it ran ticks: one, or several at which none was due
 pub record AreTurns (c count ran : ℕ) (asked asked_now : List Asked)
     (trail trail_now : List TrailMark) : Type 0 where
   pub turn : CopyTurn
@@ -62,7 +62,7 @@ RunsOn c length count [] = Unit {0}
 RunsOn c length count (turn ∷ rest) =
     (count < length) × RunsOn c length (count + runs_in (asked_of c turn)) rest
 
--- what the worker did so far, for which its post's calls were so many before and are so many now
+-- what the worker did so far, with how many calls its post had before and has behind it
 pub record Works (job : CopyJob) (end : CopyEnd) (calls calls_now : ℕ)
     (asked asked_now : List Asked) (trail trail_now : List TrailMark) : Type 0 where
   -- what became of each turn

@@ -24,7 +24,7 @@ ArriveInTime asked pace got = (front back : List Message) (x : Command)
     → got ≡ front ++ Cmd x ∷ back → ArrivesBy asked x (last_mark front + pace)
 
 -- one link's end, as it was handed in and as it is given back, with what was received meanwhile in
--- so many turns
+-- this number of turns
 pub record Receives (turns : ℕ) (first now : LinkReceive) (got : List Message) : Type 0 where
   pub same : SameReceive first now
   pub received : received_of now ≡ received_of first ++ got

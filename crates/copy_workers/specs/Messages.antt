@@ -9,7 +9,7 @@ use Rattle.link_ring.specs.declared.message.Message.TheVariants.{Cmd, Mark}
 abbrev pub tick_messages : List Command → ℕ → List Message
 tick_messages plan t = map Cmd (due_at plan t) ++ Mark (t + 1) ∷ []
 
--- what is sent for the first so many ticks
+-- what is sent for the first n ticks
 unfoldable pub messages : List Command → ℕ → List Message
 messages plan zero = []
 messages plan (suc n) = messages plan n ++ tick_messages plan n

@@ -9,7 +9,7 @@ use Rattle.copy_workers.specs.Asking.{HasArrivals}
 use Rattle.link_ring.specs.declared.send.LinkSend.{LinkSend}
 use Rattle.link_ring.specs.Ends.{sent_of, room_of, SameSend}
 
--- so many more messages may be sent
+-- this number of messages may still be sent
 pub record MaySend (n : ℕ) (s : LinkSend) : Type 0 where
   pub room : length (sent_of s) + n ≤ room_of s
 
@@ -19,7 +19,7 @@ pub record IsSent (more : List Message) (before after : LinkSend) : Type 0 where
   pub room : room_of after ≡ room_of before
   pub same : SameSend before after
 
--- the first so many are related, and the others are the same
+-- the first n are related, and the others are the same
 unfoldable pub UpTo : {X : Type 0} → (X → X → Type 0) → ℕ → List X → List X → Type 0
 UpTo R i [] [] = Unit {0}
 UpTo R zero (a ∷ xs) (b ∷ ys) = (a ≡ b) × UpTo R zero xs ys

@@ -30,7 +30,7 @@ pub record Start : Type 0 where
   pub short : budget < 2 ^ 63
   pub fits : job.length + job.delay < 2 ^ 32
 
--- its values are those of the machine; so many calls of this turn are spent
+-- its values are those of the machine; this number of calls of this turn are spent
 pub record Stands (c : Start) (f : Feeder) (asked : List Asked)
     (calls grows spent : ℕ) : Type 0 where
   pub state : Feed

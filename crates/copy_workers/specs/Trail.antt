@@ -33,7 +33,7 @@ IsDrawn {W} c ADraft drawn = (d : DraftTick W) × (drawn ≡ Some d) × (d.copy 
 IsDrawn c NoTick drawn = drawn ≡ None
 IsDrawn c (ManyDue n) drawn = drawn ≡ None
 
--- the marks of what was answered where a draft was asked for, so many times in a row if no tick was
+-- the marks of what was answered where a draft was asked for, n times in a row if no tick was
 -- due
 abbrev pub draw_marks : ℕ → ℕ → Draw → List TrailMark
 draw_marks c times ADraft = Drawn c ∷ []

@@ -273,7 +273,7 @@ impl Feeder {
     ghost use Rattle.copy_workers.specs.Feed.{ending_clock};
     ghost use Rattle.copy_workers.specs.Standing.{Start, IsHeld, Rests};
 
-    // Makes up to so many turns more, as long as nothing comes: the marks hold the clock, so that
+    // Makes up to `most` turns more, as long as nothing comes: the marks hold the clock, so that
     // each of them only passes the gate and asks each link. The last is that in which something came.
     fn hold<P: Post, Q: Gate>(&mut self, post: &mut P, gate: &Q, most: u64)
         requires held { IsHeld self.old }

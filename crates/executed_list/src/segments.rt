@@ -38,7 +38,7 @@ impl Model for Segments {
 }
 
 impl Segments {
-    /// No items yet: 1 to 8 copies that have run nothing, and room for so many items. On `NoMemory`
+    /// No items yet: 1 to 8 copies that have run nothing, and room for `room` items. On `NoMemory`
     /// nothing is created.
     pub fn new(alloc: Global, copies: u8, room: u32) -> Result<Segments, NoMemory>
         requires { (0 < copies) × (copies ≤ MOST_COPIES) }
@@ -132,8 +132,8 @@ impl Segments {
         self.clocks[c] + beats_of(passed)
     }
 
-    /// The copy's end goes on by so many items, to at most the end of the copy ahead. The copy is
-    /// there, and isn't copy 0.
+    /// The copy's end goes on by a number of items, to at most the end of the copy ahead. The copy
+    /// is there, and isn't copy 0.
     pub fn pass(&mut self, copy: u8, by: u32)
         requires copy { (0 < copy) × (copy < length self.old.ends) }
         requires upto { end_of self.old.ends copy + by ≤ end_of self.old.ends (copy - 1) }

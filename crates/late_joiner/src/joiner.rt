@@ -77,11 +77,11 @@ fn told(start: Tick, arrived: Arrived) -> Joined
 
 impl<G: Game> Joiner<G> {
     /// A mirror that joins the match from a snapshot, with the match's 1 to 8 plans, of as many
-    /// ticks and copies each, and with room for so many arrivals, the snapshot's rest among them,
-    /// and so many changes of the plan, of which it takes one; each at most 1,048,576. It moves to
-    /// the snapshot's plan and accepts all of the rest. Where no tick is left it is TooLate, with
-    /// the snapshot's clock and the match's length. It takes all the memory that the joiner ever
-    /// needs. On `NoMemory` nothing is created.
+    /// ticks and copies each, and with room for `room` arrivals, the snapshot's rest among them,
+    /// and `restaggers` changes of the plan, of which it takes one; each at most 1,048,576. It
+    /// moves to the snapshot's plan and accepts all of the rest. Where no tick is left it is
+    /// TooLate, with the snapshot's clock and the match's length. It takes all the memory that the
+    /// joiner ever needs. On `NoMemory` nothing is created.
     pub fn new(
         alloc: Global,
         snap: Snapshot<G>,

@@ -67,7 +67,7 @@ net_text-append show commands n (l ∷ ls) rest =
     ap (λ (text : List ℕ). net_line_text show commands n l ++ text) (net_text-append show commands (next_net commands n l) ls rest)
     ∙ sym (append_assoc (net_line_text show commands n l) (net_text show commands (next_net commands n l) ls) (net_text show commands (after_net commands (next_net commands n l) ls) rest))
 
--- so many lines are made
+-- the first n lines are made
 pub record IsMadeTo {W : Type 0} (show : Showing W) (m : MatchData) (lines : List NetLine) (i : ℕ) (begun n : NetState W) (old out : List ℕ) : Type 0 where
   pub way : (opening : W) × IsNet m opening n
   pub state : n ≡ after_net m.commands begun (take i lines)

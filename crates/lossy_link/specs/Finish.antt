@@ -20,7 +20,7 @@ use Rattle.lossy_link.specs.Links.{link_at}
 use Rattle.lossy_text.specs.Data.{LossyData}
 use Rattle.lossy_link.specs.Net.{NetState, net_mirror, opening_net, made_net, after_net, net_text}
 
--- so many packets of a link, from this number on, each sent and carried
+-- n packets of a link, from this number on, each sent and carried
 unfoldable pub packet_lines : ℕ → ℕ → ℕ → ℕ → List NetLine
 packet_lines from to k zero = []
 packet_lines from to k (suc n) = Send from to k ∷ Carry from to k ∷ packet_lines from to (k + 1) n

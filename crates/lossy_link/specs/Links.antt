@@ -28,7 +28,7 @@ pub record NetLinks : Type 0 where
 abbrev pub is_from : ℕ → Command → Bool
 is_from from x = x.from == from
 
--- the rows of so many mirrors over which nothing was sent, each with a link to each of the mirrors
+-- the rows of n mirrors over which nothing was sent, each with a link to each of the mirrors
 -- that has room for its mirror's own commands
 unfoldable pub new_rows : List Command → ℕ → ℕ → List (List LinkState)
 new_rows commands mirrors zero = []
@@ -36,7 +36,7 @@ new_rows commands mirrors (suc n) =
     new_rows commands mirrors n
     ++ replicate mirrors (new_link (times (is_from n) commands)) ∷ []
 
--- the links of so many mirrors over which nothing was sent
+-- the links of n mirrors over which nothing was sent
 abbrev pub new_links : ℕ → List Command → NetLinks
 new_links mirrors commands =
     record {

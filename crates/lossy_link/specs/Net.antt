@@ -55,7 +55,7 @@ net_text show commands n (l ∷ ls) =
 abbrev pub made_net : {W : Type 0} → W → LossyData → NetState W
 made_net opening x = after_net x.game.commands (opening_net opening x.game) x.lines
 
--- there are so many mirrors, and a link from each to each
+-- this is the number of mirrors, and there is a link from each to each
 pub record HasEach {W : Type 0} (mirrors : ℕ) (n : NetState W) : Type 0 where
   pub mirrors_count : length n.mirrors ≡ mirrors
   pub rows : length n.links.rows ≡ mirrors

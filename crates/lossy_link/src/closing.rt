@@ -28,7 +28,7 @@ fn push_link(
     Ok(())
 }
 
-// Appends the lines of what is left in the links from a mirror, to so many mirrors.
+// Appends the lines of what is left in the links from a mirror, to this number of mirrors.
 #[tactic(auto, unfolding(crate::specs::Finish::row_lines))]
 fn push_row(
     lines: &mut Vec<NetLine>,
@@ -47,7 +47,7 @@ fn push_row(
     Ok(())
 }
 
-/// Appends what is left in the links of so many mirrors, each packet sent and carried. On
+/// Appends what is left in the links of this number of mirrors, each packet sent and carried. On
 /// `NoMemory` some of it may have been appended.
 #[tactic(auto, unfolding(crate::specs::Finish::rows_lines))]
 pub fn push_left(lines: &mut Vec<NetLine>, links: &Links, mirrors: u8) -> Result<(), NoMemory>

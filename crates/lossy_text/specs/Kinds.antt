@@ -60,7 +60,7 @@ is_few (Err cause) = true
 
 -- ---- the kinds
 
--- how many lines of the net follow, of which there are at most so many
+-- how many lines of the net follow, of which there are at most as many as a text may have
 abbrev pub net_kind : Kind Tail (List ℕ) ℕ Tail
 net_kind = record {
   keyword = codes "net";

@@ -234,7 +234,7 @@ walls_has g w x y (suc n) =
 
 -- ---- the walls of a grid rise, and are in it
 
--- cells that rise, are in so many columns, and stand from one number on and below another
+-- cells that rise, are in this number of columns, and stand from one number on and below another
 pub record Rising (width least most : ℕ) (cells : List Cell) : Type 0 where
   pub rise : DelaysRise (map place cells)
   pub columns : AllByRecursion (λ c. c.x < width) cells

@@ -14,7 +14,7 @@ use Rattle.match_file.specs.declared.script_line.ScriptLine.{ScriptLine}
 use Rattle.match_file.specs.declared.script_line.ScriptLine.TheVariants.{Tick, Turn, Arrive, Step, World, Run, Restagger}
 use Rattle.match_file.specs.Names.{is_name}
 
--- a match: its text's version, so many ticks, so many mirrors, the delays of their copies and the
+-- a match: its text's version, its length in ticks, how many mirrors, the delays of their copies and the
 -- further plans of delays, the pace, how the world begins, the players' names, the commands in the
 -- order of their lines, and the script
 pub record MatchData : Type 0 where

@@ -6,7 +6,7 @@ use Rattle.std.specs.Str.Parse.{AllDigits, digits_value}
 abbrev pub is_gap : ℕ → Bool
 is_gap b = nat_lt b 33 || nat_lt 126 b
 
--- the text begins with so many digits, which write this number
+-- the text begins with n digits, which write this number
 pub record IsFront (text : List ℕ) (number at : ℕ) : Type 0 where
   pub within : at ≤ length text
   pub value : number ≡ digits_value 10 (take at text)

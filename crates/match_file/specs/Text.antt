@@ -57,12 +57,12 @@ script_line (Restagger mirror plan) =
 abbrev pub wall_at : Grid → ℕ → ℕ → List Cell
 wall_at grid x y = if is_walled grid x y then record { x = x; y = y } ∷ [] else []
 
--- the walled cells of this row, in so many columns
+-- the walled cells of this row, in this number of columns
 unfoldable pub walls_in_row : Grid → ℕ → ℕ → List Cell
 walls_in_row grid y zero = []
 walls_in_row grid y (suc x) = walls_in_row grid y x ++ wall_at grid x y
 
--- the walled cells of so many columns in so many rows, row by row
+-- the walled cells of a grid with these numbers of columns and rows, row by row
 unfoldable pub walls_of : Grid → ℕ → ℕ → List Cell
 walls_of grid columns zero = []
 walls_of grid columns (suc y) = walls_of grid columns y ++ walls_in_row grid y columns

@@ -39,7 +39,7 @@ script_text-append show commands mirrors (l ∷ ls) rest =
 
 -- ---- the lines that are made
 
--- the state and the text, where so many lines are made
+-- the state and the text, where the first n lines are made
 pub record IsMadeTo {W : Type 0} (show : Showing W) (m : MatchData) (script : List ScriptLine) (i : ℕ) (begun mirrors : List (MirrorState W)) (old out : List ℕ) : Type 0 where
   pub all : script ≡ m.script
   pub opening : W

@@ -185,7 +185,7 @@ one-named number l h = rw h refl
 none-named : (number : ℕ) (l : ScriptLine) → names number l ≡ false → filter (names number) (l ∷ []) ≡ []
 none-named number l h = rw h refl
 
--- how far the mirror of this number has come along so many lines of the script, of which events may wait, and what watchers were told meanwhile
+-- how far the mirror of this number has come along a front of the script, of which events may wait, and what watchers were told meanwhile
 pub record IsToldTo {W : Type 0} (m : MatchData) (number : ℕ) (script : List ScriptLine) (i : ℕ)
     (begun s : MirrorState W) (es : List Event) (old new : List Behaviour) (before after : List ℕ) : Type 0 where
   pub all : script ≡ m.script

@@ -50,7 +50,7 @@ own-end {W} m begun at d e below =
     (get_or_from_slice_get (after_script m.commands begun m.script) at (lines (get_or begun at e)) e
     (own-lines m.commands begun m.script at ∙ ap (option_map lines) (slice_get-get_or begun at e below)))
 
--- so many mirrors are played, and what changed them was told
+-- the first n mirrors are played, and what changed them was told
 pub record IsPlayedTo {W : Type 0} (m : MatchData) (at : ℕ) (begun mirrors : List (MirrorState W)) (old new : List Behaviour) (before after : List ℕ) : Type 0 where
   pub opening : W
   pub opened : begun ≡ opening_mirrors opening m

@@ -55,7 +55,7 @@ script_text show commands mirrors (l ∷ ls) =
 abbrev pub turn_text : {W : Type 0} → ℕ → MirrorState W → List ℕ
 turn_text number s = replies_text (lines.Turn number) (answers s (turn_events (length s.runs)))
 
--- what turns print until a mirror is drained, at most so many
+-- what turns print until a mirror is drained, at most n of them
 unfoldable pub drain_text : {W : Type 0} → ℕ → ℕ → MirrorState W → List ℕ
 drain_text number zero s = []
 drain_text number (suc n) s =

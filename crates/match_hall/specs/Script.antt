@@ -31,7 +31,7 @@ mirror_of (lines.World mirror copy) = mirror
 mirror_of (lines.Run mirror copy) = mirror
 mirror_of (lines.Restagger mirror plan) = mirror
 
--- the events that a script line makes at a mirror of so many copies
+-- the events that a script line makes at a mirror with this number of copies
 unfoldable pub events_of : List Command → ℕ → ScriptLine → List Event
 events_of commands copies (lines.Tick mirror) = Tick ∷ []
 events_of commands copies (lines.Turn mirror) = turn_events copies
@@ -112,7 +112,7 @@ opening_mirror opening m number =
     opening_state opening m.length (all_plans m) (times (arrives_at number) m.script)
     (times (restaggers_at number) m.script)
 
--- so many mirrors as the match begins, of which the first has this number
+-- a number of mirrors as the match begins, of which the first has this number
 unfoldable pub opening_from : {W : Type 0} → W → MatchData → ℕ → ℕ → List (MirrorState W)
 opening_from opening m number zero = []
 opening_from opening m number (suc n) =

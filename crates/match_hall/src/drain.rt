@@ -10,7 +10,7 @@ use game_trait::{Game, MirrorId};
 use mirror_core::{DeferredMirror, Mirrored};
 use tss_io::NoMemory;
 
-/// Makes turns until the mirror is drained, at most so many, and appends what they print. On
+/// Makes turns until the mirror is drained, at most a given number, and appends what they print. On
 /// `NoMemory` it stopped at one of them, whose text wasn't appended.
 pub fn drain_mirror<G: Game>(
     mirror: &mut DeferredMirror<G>,

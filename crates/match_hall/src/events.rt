@@ -37,7 +37,7 @@ fn alone(event: Event) -> Events
     events
 }
 
-/// The events that a script line makes at a mirror of so many copies.
+/// The events that a script line makes at a mirror with this number of copies.
 #[tactic(auto, unfolding(crate::specs::Script::events_of))]
 pub fn events_of(m: &Match, copies: u8, line: &ScriptLine) -> Events
     requires copies { copies ≤ 8 }

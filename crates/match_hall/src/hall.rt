@@ -256,7 +256,7 @@ impl<G: Game + Shown> Hall<G> {
         Ok(Hall { mirrors })
     }
 
-    /// The mirrors of a match as it begins with this world, each with room for so many arrivals, at
+    /// The mirrors of a match as it begins with this world, each with room for `room` arrivals, at
     /// most 1,048,576, and for no change of its plan. On `NoMemory` nothing is created.
     pub fn with_room(alloc: Global, m: &Match, opening: &G, room: u32) -> Result<Hall<G>, NoMemory>
         requires { room ≤ MOST_ROOM }

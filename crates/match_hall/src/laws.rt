@@ -1,4 +1,4 @@
-//! What the words of a hall's promises come to. Each is the contract of a function without
+//! What the words of a hall's promises mean. Each is the contract of a function without
 //! parameters that does nothing.
 
 ghost use Rattle.std.specs.Prelude.{◌≡◌, ◌↔◌, ◌<◌, ◌≤◌, ◌+◌, ◌++◌, ◌∷◌, ℕ, false, List, [], Some, length, map, take, filter, slice_get, option_map};

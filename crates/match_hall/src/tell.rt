@@ -210,7 +210,7 @@ fn tell_turn<G: Game>(
     tell_changes(number, events, &replies, board, out)
 }
 
-// Makes turns until the mirror is drained, at most so many.
+// Makes turns until the mirror is drained, at most `turns` of them.
 fn tell_turns<G: Game>(
     mirror: &mut DeferredMirror<G>,
     number: MirrorId,

@@ -159,7 +159,7 @@ joiner_world rules s = world_of_run rules s (run_of s.inner (last_copy s.inner))
 abbrev pub joiner_head : ℕ → List (List ℕ)
 joiner_head length = codes "world joiner" ∷ decimal length ∷ []
 
--- what is told of both at the end of a match of so many ticks, where the two worlds are one or not
+-- what is told of both at the end of a match of this length, where the two worlds are one or not
 unfoldable pub ends_text : {W : Type 0} → Showing W → ℕ → ℕ → MirrorState W → JoinerState W → Bool
     → List ℕ
 ends_text show number ticks t s same =

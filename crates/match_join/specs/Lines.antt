@@ -47,7 +47,7 @@ pub record IsOfMatch {W : Type 0} (m : MatchData) (s : MirrorState W) : Type 0 w
   pub plans : s.plans ≡ all_plans m
   pub few : length s.accepted ≤ MOST_SCRIPT_LINES
 
--- why no joiner was opened at this clock in a match of so many ticks: memory ran out, or no tick was
+-- why no joiner was opened at this clock in a match of this length: memory ran out, or no tick was
 -- left
 abbrev pub IsFaultAt : ℕ → ℕ → JoinFault → Type 0
 IsFaultAt ticks clock e =

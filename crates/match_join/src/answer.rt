@@ -71,8 +71,8 @@ fn go_on(
     push_ends(out, m, number, mirror, joiner, same)
 }
 
-// The text of a mirror after its lines among the first so many of the script, and of the joiner that
-// opened from its snapshot.
+// The text of a mirror after its lines among the first `lines` of the script, and of the joiner
+// that opened from its snapshot.
 fn both(
     alloc: Global,
     m: &Match,
@@ -96,7 +96,7 @@ fn both(
     Ok(Seq::of(out))
 }
 
-// What is told of a mirror after its lines among the first so many of the script.
+// What is told of a mirror after its lines among the first `lines` of the script.
 fn told(
     alloc: Global,
     m: &Match,
@@ -127,7 +127,7 @@ fn told(
     }
 }
 
-/// Plays a match's mirror along those of the script's first so many lines that name it, takes its
+/// Plays a match's mirror along those of the script's first `lines` lines that name it, takes its
 /// snapshot, and opens a joiner from that. Both make the later lines that name the mirror, and are
 /// drained. The text says with what clock the joiner began, what each later arrival came to at the
 /// joiner, how both ended, and whether their last copies' worlds are one; where the clock was the

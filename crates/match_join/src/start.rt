@@ -20,7 +20,7 @@ use mirror_core::DeferredMirror;
 use std::alloc::Global;
 use tss_io::NoMemory;
 
-/// The first so many lines, all where there are fewer, and the others.
+/// The first `lines` lines, all where there are fewer, and the others.
 pub fn cut(script: &[ScriptLine], lines: u32) -> (&[ScriptLine], &[ScriptLine])
     ensures first { result.0.now ≡ take lines script.now }
     ensures later { result.1.now ≡ drop lines script.now }
@@ -32,7 +32,7 @@ pub fn cut(script: &[ScriptLine], lines: u32) -> (&[ScriptLine], &[ScriptLine])
     }
 }
 
-/// The mirror of this number after its lines among the first so many of the match's script. On
+/// The mirror of this number after its lines among the first `lines` of the match's script. On
 /// `NoMemory` nothing is created.
 pub fn begin<G: Game>(
     alloc: Global,

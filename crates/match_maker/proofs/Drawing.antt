@@ -22,7 +22,7 @@ command_at-new seed j (suc k) h =
     list_any-append (is_named (j % 8) (j / 8)) (each_below (command_at seed) k) (command_at seed k ∷ [])
     ∙ rw (command_at-new seed j k (omega (arith, h)), command_at-apart seed j k (omega (arith, h))) refl
 
--- so many rows
+-- n rows
 pub rows-long : {R : Type 0} → (items : R → List ℕ) (rows : List R) (seed n : ℕ)
     → map items rows ≡ each_below (λ j. each_below (lag seed j) 8) n → length rows ≡ n
 rows-long items rows seed n h =

@@ -16,7 +16,7 @@ pub joined_more : {X : Type 0} → (f : ℕ → List X) (n : ℕ) → joined_bel
 unfolding joined_below
 joined_more f n = let e : n + 1 ≡ suc n = omega arith in ap (joined_below f) e
 
--- so many elements
+-- n elements
 pub length_each : {X : Type 0} → (f : ℕ → X) (n : ℕ) → length (each_below f n) ≡ n
 unfolding joined_below
 length_each f zero = refl

@@ -5,12 +5,12 @@ use Rattle.std.specs.Prelude.{ℕ, zero, suc, ◌+◌, ◌*◌, ◌/◌, ◌%◌
 abbrev pub next_state : ℕ → ℕ
 next_state s = (1664525 * s + 1013904223) % (2 ^ 32)
 
--- the state that a seed leads to by so many draws
+-- the state that a seed leads to by n draws
 unfoldable pub state_by_draws : ℕ → ℕ → ℕ
 state_by_draws seed zero = seed
 state_by_draws seed (suc n) = next_state (state_by_draws seed n)
 
--- what is drawn below k, behind so many draws
+-- what is drawn below k, behind n draws
 unfoldable pub drawn : ℕ → ℕ → ℕ → ℕ
 drawn seed n k = (state_by_draws seed (n + 1) / 2 ^ 16) % k
 

@@ -19,7 +19,7 @@ use Rattle.match_maker.specs.Draws.{drawn}
 
 -- ---- the arena
 
--- the ground with the first so many walls: one in each cell with x mod 8 = 4 and y mod 8 = 4
+-- the ground with the first n walls: one in each cell with x mod 8 = 4 and y mod 8 = 4
 unfoldable pub walled_grid : ℕ → Grid
 walled_grid zero = open_grid 32 32
 walled_grid (suc i) = with_wall (walled_grid i) (8 * (i % 4) + 4) (8 * (i / 4) + 4)
@@ -72,7 +72,7 @@ command_at seed j = record {
 abbrev pub draws_before_lag : ℕ → ℕ → ℕ
 draws_before_lag j mirror = 9 * j + 2 + (if nat_lt (j % 8) mirror then mirror - 1 else mirror)
 
--- so many ticks behind its time command j arrives at this mirror
+-- how many ticks behind its time command j arrives at this mirror
 unfoldable pub lag : ℕ → ℕ → ℕ → ℕ
 lag seed j mirror = if mirror == j % 8 then 0 else drawn seed (draws_before_lag j mirror) 32
 

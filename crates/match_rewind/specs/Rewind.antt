@@ -15,7 +15,7 @@ looks_text show opening commands (t ∷ ts) =
     block_text show.lines show.names (at_head t) (time_ordered show.rules opening commands t)
     ++ looks_text show opening commands ts
 
--- the worlds at these ticks, and how many of them were cached where there is room for so many; how
+-- the worlds at these ticks, and how many of them were cached where there is room for `room` worlds; how
 -- far apart the kept worlds stand doesn't show
 unfoldable pub rewind_text : {W : Type 0} → Showing W → W → MatchData → ℕ → List ℕ → List ℕ
 rewind_text show opening m room ticks =

@@ -14,7 +14,7 @@ use Rattle.match_score.specs.Score.{standing, standings}
 some-is : {X : Type 0} (x y : X) → Some x ≡ Some y → x ≡ y
 some-is x y e = cc
 
--- what f tells of the first so many, and of one more
+-- what f tells of the first n, and of one more
 pub map-next : {X Y : Type 0} (f : X → Y) (xs : List X) (i : ℕ) (r : Y) (old new : List Y) → i < length xs
     → option_map f (slice_get xs i) ≡ Some r → old ≡ map f (take i xs) → new ≡ old ++ r ∷ [] → new ≡ map f (take (i + 1) xs)
 map-next {X} {Y} f [] i r old new below is so_far put = absurd (omega (arith, below))

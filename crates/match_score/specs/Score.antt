@@ -1,4 +1,4 @@
--- What is told of a match that is played to watchers.
+-- The answer to a match that is played to watchers.
 use Rattle.std.specs.Prelude.{ℕ, ◌+◌, ℤ, List, [], ◌∷◌, ◌++◌, map, length}
 use Rattle.game_trait.specs.Run.{world_of}
 use Rattle.tss_io.specs.Lines.{as_line}
@@ -41,7 +41,7 @@ scoreboard_line m mirrors = as_line (standings_text m.names (standings 0 mirrors
 abbrev pub ends_of : MatchData → List (MirrorState World)
 ends_of m = played (opening_world m.layout) m
 
--- the text that is told of a match to these watchers: the scoreboard, the watchers' lines of the
+-- the text of the answer to a match that is played to these watchers: the scoreboard, the watchers' lines of the
 -- notes of the mirrors' logs, and the last line
 unfoldable pub watched_text : List Behaviour → MatchData → List ℕ
 watched_text watchers m =

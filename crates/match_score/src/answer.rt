@@ -23,7 +23,7 @@ use std::alloc::Global;
 use tss_io::{NoMemory, Seq};
 use watch_board::{Board, Watcher};
 
-/// What is told of a match that is played to watchers: its text, and the logs of its mirrors,
+/// The answer to a match that is played to watchers: its text, and the logs of its mirrors,
 /// mirror 0 first.
 #[derive(Drop)]
 pub struct ScoreAnswer {

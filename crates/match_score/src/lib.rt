@@ -1,4 +1,4 @@
-//! What is told of a match of the arena that is played to watchers: the scoreboard, and what the
+//! The answer to a match of the arena that is played to watchers: the scoreboard, and what the
 //! watchers have to say.
 #![tactic(auto)]
 

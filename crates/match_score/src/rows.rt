@@ -17,7 +17,7 @@ use report_text::ScoreRow;
 use std::alloc::Global;
 use tss_io::NoMemory;
 
-// The scores in a world of so many players.
+// The scores in a world with this number of players.
 fn scores(world: &Arena, players: u8) -> ArrayVec<i32, 32>
     requires count { length world.now.players ≡ players }
     requires few { players ≤ 32 }
@@ -49,7 +49,7 @@ fn row(number: MirrorId, mirror: &DeferredMirror<Arena>, players: u8) -> ScoreRo
     }
 }
 
-/// The rows of so many mirrors, all drained, of a match that opened with a world of so many players,
+/// The rows of the mirrors, all drained, of a match that opened with a world of this many players,
 /// mirror 0 first.
 pub fn rows(
     alloc: Global,

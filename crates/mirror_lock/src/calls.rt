@@ -35,7 +35,7 @@ impl<G: Game> LockCall<G> {
         *self = LockCall::Event(*event);
     }
 
-    // Makes it that a draft of this copy is asked for so many times in a row.
+    // Makes it that a draft of this copy is asked for this many times in a row.
     #[cold]
     #[inline(never)]
     fn make_draft(&mut self, copy: u8, times: u64)
@@ -55,8 +55,8 @@ impl<G: Game> LockCall<G> {
         self.make_event(event);
     }
 
-    // Makes it that a draft of this copy is asked for so many times in a row, in the place of what
-    // was asked before.
+    // Makes it that a draft of this copy is asked for this many times in a row, in the place of
+    // what was asked before.
     pub(crate) fn put_draft(&mut self, of: u8, in_a_row: u64)
         ensures { self.new ≡ LockCall.Draft of in_a_row }
     {

@@ -87,7 +87,7 @@ few-owned counts owners b owner are long before now =
     (elim (b == owner) as (λ v. cond v (slice_index_or counts b 0 - 1) (slice_index_or counts owner 0) ≤ length owners)
     [ true ↦ omega (arith, cb, mb) | false ↦ omega (arith, co, mo) ])
 
--- nobody owns all of so many cells, and nobody else one
+-- nobody owns all of n cells, and nobody else one
 times-replicate : (p : ℕ → Bool) (n x : ℕ) → times p (replicate n x) ≡ cond (p x) n 0
 unfolding times
 times-replicate p zero x = elim (p x) as (λ v. 0 ≡ cond {A = ℕ} v 0 0) [ true ↦ refl | false ↦ refl ]

@@ -53,7 +53,7 @@ unfoldable pub moved : PaintWorld → ℕ → PaintWorld
 moved world number =
     by_player world number (λ spot. moved_to world number (open_ahead world.grid spot))
 
--- the owners after so many cells ahead of this spot, in order, become the player's, up to the first
+-- the owners after a number of cells ahead of this spot, in order, become the player's, up to the first
 -- that is outside or walled
 unfoldable pub painted_ahead : Grid → ℕ → ℕ → Spot → List ℕ → List ℕ
 painted_ahead grid number zero spot owners = owners

@@ -10,7 +10,7 @@ use arena_rules::{Ground, Roster, Spot};
 use arrayvec::ArrayVec;
 use tss_io::{NoMemory, Word, push_line};
 
-// Appends the line of a player of this name who owns so many cells. On `NoMemory` `out` is
+// Appends the line of a player of this name who owns this number of cells. On `NoMemory` `out` is
 // unchanged.
 #[tactic(auto, unfolding(crate::specs::Block::painter_line))]
 fn push_painter(name: &[u8], owned: u32, spot: Spot, out: &mut Vec<u8>) -> Result<(), NoMemory>

@@ -14,7 +14,7 @@ use Rattle.race_hall.specs.Crews.{IsPosted, IsTakenBack, last_feeder}
 use Rattle.race_hall.proofs.Lining.{front-more, front-left, off-front}
 use Rattle.race_hall.proofs.Numbered.{numbered-length, numbered-none, numbered-more}
 
--- the first so many jobs of a crew, over the first seats
+-- the first n jobs of a crew, over the first seats
 pub record Posted {T : Type 0} (feeder : FeederJob) (n : ℕ) (before jobs : List (JobOver T)) (seats left : List T) : Type 0 where
   pub crew : List (JobOver T)
   pub parts : jobs ≡ before ++ crew

@@ -153,7 +153,7 @@ last_feeder [] = None
 last_feeder (e ∷ []) = feeder_in e.end
 last_feeder (e ∷ f ∷ more) = last_feeder (f ∷ more)
 
--- the first so many ends were taken off: their seats, and what the last of them gave back
+-- the first n ends were taken off: their seats, and what the last of them gave back
 pub record IsTakenBack {T : Type 0} (count : ℕ) (before after : List (EndOver T)) (seats : List T)
     (given : Option FeederEnd) : Type 0 where
   pub gone : List (EndOver T)

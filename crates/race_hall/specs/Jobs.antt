@@ -70,7 +70,7 @@ abbrev pub feeder_in : WorkEnd → Option FeederEnd
 feeder_in (Copied end) = None
 feeder_in (Fed end) = Some end
 
--- the work ended so, with so many calls left of those that it had, and asked this with this trail: as
+-- the work ended so, with this number of calls left of those that it had, and asked this with this trail: as
 -- a copy's worker ends, or as a feeder ends
 abbrev pub WorkEnds : Work → WorkEnd → ℕ → ℕ → List Asked → List TrailMark → Type 0
 WorkEnds (Copy job) (Copied end) calls left asked trail = CopyEnds job end calls left [] asked [] trail

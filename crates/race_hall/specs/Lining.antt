@@ -17,13 +17,13 @@ pub record HasPlan (c : Course) (budget k : ℕ) (job : FeederJob) : Type 0 wher
   pub pace : job.pace ≡ c.pace
   pub foreign : job.foreign + length (plan_of c k) ≡ length c.commands
 
--- the first so many jobs have these links, and the others are left
+-- the first n jobs have these links, and the others are left
 pub record Lines (sends sends_left : List (Vec LinkSend Global))
     (rows rows_left : List (Vec LinkReceive Global)) (jobs : List FeederJob) : Type 0 where
   pub sends_are : map (λ job. job.sends) jobs ++ sends_left ≡ sends
   pub rows_are : map (λ job. job.receives) jobs ++ rows_left ≡ rows
 
--- the jobs of the first so many mirrors, which have links of these
+-- the jobs of the first n mirrors, which have links of these
 pub record AreLinedUp (c : Course) (budget : ℕ) (sends : List (Vec LinkSend Global))
     (rows : List (Vec LinkReceive Global)) (n : ℕ) (jobs : List FeederJob) : Type 0 where
   pub each : AllZip (HasPlan c budget) (count_from 0 n) jobs

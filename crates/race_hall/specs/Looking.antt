@@ -46,7 +46,7 @@ abbrev pub AllSent : (ℕ → List Message) → List (Vec LinkSend Global) → T
 AllSent sent sends = (k : ℕ) (v : Vec LinkSend Global) → k < length sends
     → v ≡ slice_index_or sends k v → AllByRecursion (λ s. sent_of s ≡ sent k) v.items
 
--- what was received and what is left is what was sent, for the first so many links of mirror m
+-- what was received and what is left is what was sent, for the first n links of mirror m
 abbrev pub IsWholeTo : (ℕ → List Message) → ℕ → ℕ → List LinkReceive → Type 0
 IsWholeTo sent m count row = (j : ℕ) (r : LinkReceive) → j < count → r ≡ slice_index_or row j r
     → received_of r ++ waiting_of r ≡ sent (sender_at m j)

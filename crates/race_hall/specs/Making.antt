@@ -66,7 +66,7 @@ pub record IsRow (m : ℕ) (rooms : List ℕ) (sends : List (Vec LinkSend Global
   pub linked : IsRowLinked m sends row
   pub new : AllByRecursion IsNewReceive row
 
--- the links to the first so many mirrors
+-- the links to the first n mirrors
 pub record AreLinksTo (mirrors : ℕ) (rooms : List ℕ) (sends : List (Vec LinkSend Global))
     (rows : List (Vec LinkReceive Global)) : Type 0 where
   pub sends_count : length sends ≡ length rooms
@@ -75,7 +75,7 @@ pub record AreLinksTo (mirrors : ℕ) (rooms : List ℕ) (sends : List (Vec Link
   pub each : (m : ℕ) (v : Vec LinkReceive Global) → m < mirrors → v ≡ slice_index_or rows m v
       → IsRow m rooms sends v.items
 
--- so many lists, all empty
+-- n lists, all empty
 pub record AreEmpty (count : ℕ) (sends : List (Vec LinkSend Global)) : Type 0 where
   pub count_of : length sends ≡ count
   pub empty : (k : ℕ) (v : Vec LinkSend Global) → k < length sends → v ≡ slice_index_or sends k v

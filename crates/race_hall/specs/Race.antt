@@ -48,7 +48,7 @@ pub record IsCourse (c : Course) : Type 0 where
 abbrev pub plan_of : Course → ℕ → List Command
 plan_of c m = in_key_order (filter (λ x. x.from == m) c.commands)
 
--- so many numbers, from this one on
+-- n numbers, from this one on
 unfoldable pub count_from : ℕ → ℕ → List ℕ
 count_from i zero = []
 count_from i (suc n) = i ∷ count_from (i + 1) n

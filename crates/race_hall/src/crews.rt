@@ -99,7 +99,7 @@ fn line_up(
     Ok(jobs)
 }
 
-/// The jobs of a match's feeders, mirror by mirror, each of at most so many turns: the mirror's
+/// The jobs of a match's feeders, mirror by mirror, each of at most `budget` turns: the mirror's
 /// plan, and new links from and to each other mirror, with room for all that may be sent.
 pub fn feeders(alloc: Global, m: &Match, budget: u64) -> Result<Vec<FeederJob>, NoMemory>
     ensures { IfOk result (λ jobs. AreFeeders (course_of m.now) budget jobs.items) }
@@ -219,7 +219,7 @@ pub fn crews<G: Game>(
     Ok((locks, jobs))
 }
 
-// Takes back the seats of a crew, which is the first so many of the ends, and what the last of
+// Takes back the seats of a crew, which is a front of the ends, and what the last of
 // these gave back.
 fn take_crew<T: Drop>(
     ends: &mut Vec<EndOver<T>>,

@@ -32,7 +32,7 @@ use tss_io::NoMemory;
 /// The most turns that a job of a race may make.
 pub const MOST_BUDGET: u64 = 1_048_576;
 
-// Empty lists with room for so many jobs.
+// Empty lists with room for this number of jobs.
 fn make_rooms<H: Drop, J: Drop, E: Drop>(
     alloc: Global,
     jobs: usize,
@@ -71,7 +71,8 @@ fn do_jobs<R: Threads + Wait + Sync, G: Game + Send, P: Gate + Sync>(
     Ok(do_all(rt, &doer, jobs, inline, rooms))
 }
 
-// For each mirror an empty list with room for the seats of its crew, which has so many copies.
+// For each mirror an empty list with room for the seats of its crew, which has this number of
+// copies.
 fn seat_lists<T: Drop>(alloc: Global, mirrors: usize, copies: u8) -> Result<Vec<Vec<T>>, NoMemory>
     ensures roomy { IfOk result (λ lists.
         AllByRecursion (λ v. IsRoomy copies v.items (vec_capacity v)) lists.items) }
@@ -96,7 +97,7 @@ struct Spaces<T, M> {
     senders: Vec<Sender>,
 }
 
-// Empty lists with room for so many mirrors, each with a crew of so many copies.
+// Empty lists with room for these numbers of mirrors and of copies in each mirror's crew.
 fn make_spaces<T: Drop, M: Drop>(
     alloc: Global,
     mirrors: usize,
@@ -171,7 +172,7 @@ fn end_race<G: Game>(
 }
 
 /// Races a match from this world: each mirror has a feeder and a worker for each of its copies, and
-/// each of these makes at most so many turns. Job number `mirror * (copies + 1) + worker` is done
+/// each of these makes at most `budget` turns. Job number `mirror * (copies + 1) + worker` is done
 /// by the caller where that bit of `inline` is set or where no thread can be made for it, and by a
 /// thread otherwise; the feeder is worker `copies`. The threads are started first, and beside them
 /// the caller does its own jobs, in rising number. When all have ended, it delivers what they left,

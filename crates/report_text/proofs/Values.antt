@@ -85,7 +85,7 @@ pub values-all : {X : Type 0} → (see : X → Data) (xs : List X) (i : ℕ) (va
     → map view values.items ≡ map see (take i xs) → view (Array values) ≡ array (items_of (map see xs))
 values-all see xs i values l h = array-all see (take i xs) xs values h (take_all i xs l)
 
--- what is told of a row, of its parts
+-- the entry of a row, by its parts
 pub row-of : (row : ScoreRow) (a m r s t : Data) → a ≡ count_data row.accepted → m ≡ count_data row.mirror → r ≡ count_data row.repairs
     → s ≡ scores_data row.scores.items → t ≡ count_data row.turned
     → object (member (codes "accepted") a (member (codes "mirror") m (member (codes "repairs") r (member (codes "scores") s

@@ -12,7 +12,7 @@ done_line = as_line (spaced (codes "done" ∷ []))
 unfoldable pub refused_text : Refused → List ℕ
 refused_text r = as_line (spaced (refused_words r))
 
--- the text for words that ask for nothing that is built
+-- the text for words that ask for nothing
 unfoldable pub usage_text : List ℕ
 usage_text =
     codes "usage: tss order|play|race|audit|score|lift|soak N|paint order|paint play|lossy|join M K|rewind E C T ..." ++ 10 ∷ []

@@ -1,4 +1,4 @@
--- What is told of a match in JSON: of each mirror how many commands it accepted, how many arrivals
+-- The scoreboard of a match in JSON: of each mirror how many commands it accepted, how many arrivals
 -- it turned away, how many copies it repaired and the players' scores, and the players' names. The
 -- members of an object stand in the order of their keys.
 use Rattle.std.specs.Prelude.{ℕ, ℤ, List, map, codes}
@@ -29,7 +29,7 @@ pub record Standing : Type 0 where
   pub repairs : ℕ
   pub scores : List ℤ
 
--- what is told of one mirror
+-- the entry of one mirror
 abbrev pub standing_data : Standing → Data
 standing_data s = object (
     member (codes "accepted") (count_data s.accepted) (
@@ -52,7 +52,7 @@ standing_of row = record {
 abbrev pub row_data : ScoreRow → Data
 row_data row = standing_data (standing_of row)
 
--- what is told of all mirrors
+-- the entries of all mirrors
 abbrev pub rows_data : List ScoreRow → Data
 rows_data rows = array (items_of (map row_data rows))
 

@@ -27,7 +27,7 @@ copy_block show mirror opening copy run =
     block_text show.lines show.names (copy_head mirror copy (beats run))
     (world_of show.rules opening run)
 
--- the words of the head of the block of the time-ordered execution after so many ticks
+-- the words of the head of the block of the time-ordered execution after a number of ticks
 abbrev pub order_head : ℕ → List (List ℕ)
 order_head length = codes "order" ∷ decimal length ∷ []
 

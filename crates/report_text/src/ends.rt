@@ -41,7 +41,7 @@ pub fn refused_line(out: &mut Vec<u8>, refused: &Refused) -> Result<(), NoMemory
     Ok(out.extend_from_slice(refusal_text(refused).as_bytes())?)
 }
 
-/// The line for words that ask for nothing that is built. It takes no memory.
+/// The line for words that ask for nothing. It takes no memory.
 #[tactic(auto, unfolding(crate::specs::Ends::usage_text))]
 pub fn usage_line() -> &'static str
     ensures { result.now ≡ usage_text }

@@ -216,7 +216,7 @@ abbrev verdict_at : ℕ → Option Fault → Verdict → Verdict
 verdict_at n None rest = rest
 verdict_at n (Some fault) rest = NotLegal n fault.place fault.why
 
--- the verdict on these mirrors, of which the first has this number, behind so many events
+-- the verdict on these mirrors, of which the first has this number, behind this number of events
 unfoldable verdict_from : {W : Type 0} → Showing W → W → MatchData → ℕ → ℕ → List MirrorLog → List (List (List ℕ)) → Verdict
 verdict_from show opening m n events [] worlds = Legal (events + 0)
 verdict_from show opening m n events (log ∷ logs) [] = Legal (events + (length log.events + event_count logs))

@@ -106,7 +106,7 @@ event_count (log ∷ logs) = length log.events + event_count logs
 abbrev pub IsLegalRecord : {W : Type 0} → Showing W → W → RaceRecord → Type 0
 IsLegalRecord show opening r = AllRight show opening r.game 0 r.logs r.worlds
 
--- what a verdict says of a record: it is legal and has so many events, or where its first fault is
+-- what a verdict says of a record: it is legal and has this number of events, or where its first fault is
 abbrev pub Tells : {W : Type 0} → Showing W → W → RaceRecord → Verdict → Type 0
 Tells show opening r (Legal events) = IsLegalRecord show opening r × (events ≡ event_count r.logs)
 Tells show opening r (NotLegal mirror place why) =

@@ -24,7 +24,7 @@ IsEventOf m (Arrive x) = command_named m.commands x.from x.number ≡ Some x
 IsEventOf m (Step copy) = copy < length m.delays
 IsEventOf m (Restagger plan) = plan ≤ length m.plans
 
--- a log of this mirror: it has at most so many events, each of the match
+-- a log of this mirror: it has no more events than a log may have, each of the match
 pub record IsLogOf (m : MatchData) (number : ℕ) (log : MirrorLog) : Type 0 where
   pub mirror : log.mirror ≡ number
   pub few : length log.events ≤ MOST_LOGGED_EVENTS

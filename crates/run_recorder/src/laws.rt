@@ -1,4 +1,4 @@
-//! What the words of a refused record text come to. Each is the contract of a function without
+//! What the words of a refused record text mean. Each is the contract of a function without
 //! parameters that does nothing.
 
 ghost use Rattle.std.specs.Prelude.{◌≡◌, ◌<◌, ◌≤◌, ◌⊎◌, ℕ, List, length};

@@ -63,7 +63,7 @@ times-fed p seed mirror = sym (
     ∙ weight_once (j / 8 + lag seed j mirror) (times p (command_at seed j ∷ [])) 544 (omega (arith, l, lag-below seed j mirror)))
     ∙ sym (times-joined p (λ j. command_at seed j ∷ []) 4096)))))
 
--- what arrives in the first so many ticks has different names
+-- what arrives in the first n ticks has different names
 NamesDiffer-back : (seed mirror ticks more : ℕ) → NamesDiffer (fed_until seed mirror (ticks + more)) → NamesDiffer (fed_until seed mirror ticks)
 NamesDiffer-back seed mirror ticks zero h = let e : ticks + 0 ≡ ticks = omega arith in subst NamesDiffer (ap (fed_until seed mirror) e) h
 NamesDiffer-back seed mirror ticks (suc more) h =

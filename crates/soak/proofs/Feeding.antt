@@ -29,7 +29,7 @@ use Rattle.soak.proofs.Arriving.{ComesInTime, fed-in_time, NamesDiffer-fed, new-
 abbrev pub the_delays : List ℕ
 the_delays = 0 ∷ 4 ∷ 8 ∷ 16 ∷ 32 ∷ []
 
--- a mirror after so many ticks, which accepted these commands and turned none away
+-- a mirror after a number of ticks, which accepted these commands and turned none away
 pub record IsFed {W : Type 0} (s : MirrorState W) (tick : ℕ) (fed : List Command) : Type 0 where
   pub staggered : IsStaggered s
   pub unchanged : IsUnchangedPlan s

@@ -1,4 +1,4 @@
--- What a mirror of the match comes to once it is drained.
+-- Where a mirror of the match stands once it is drained.
 use Rattle.std.proofs.Common.{◌≡◌, ℕ, true, [], ◌∷◌, length, sym, ap, subst, ◌∙◌, lit<, arith}
 use Rattle.game_trait.specs.Game.{Rules}
 use Rattle.game_trait.specs.Run.{world_of}

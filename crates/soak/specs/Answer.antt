@@ -1,4 +1,4 @@
--- What is told of the match of a number, once it is played.
+-- The answer to the number of a match, once that is played.
 use Rattle.std.specs.Prelude.{◌≡◌, ◌↔◌, ℕ, ◌+◌, Bool, true, IsTrue, List, [], ◌∷◌, ◌++◌}
 use Rattle.game_trait.specs.Game.{Rules}
 use Rattle.game_trait.specs.Ordered.{time_ordered}

@@ -1,4 +1,4 @@
--- What playing a match of a number comes to, at each of its mirrors.
+-- Where playing the match of a number leads, at each of its mirrors.
 use Rattle.std.specs.Prelude.{◌≡◌, ℕ, ◌+◌, ◌/◌, ◌==◌, if◌then◌else◌, List, [], ◌∷◌, ◌++◌, length, map}
 use Rattle.std.specs.List.{AllByRecursion}
 use Rattle.game_trait.specs.declared.command.Command.{Command}
@@ -21,7 +21,7 @@ arriving seed mirror tick j =
 abbrev pub fed_in : ℕ → ℕ → ℕ → List Command
 fed_in seed mirror tick = joined_below (arriving seed mirror tick) 4096
 
--- and in so many ticks
+-- and in a number of ticks
 abbrev pub fed_until : ℕ → ℕ → ℕ → List Command
 fed_until seed mirror ticks = joined_below (fed_in seed mirror) ticks
 
@@ -29,7 +29,7 @@ fed_until seed mirror ticks = joined_below (fed_in seed mirror) ticks
 abbrev pub events_in : ℕ → ℕ → ℕ → List Event
 events_in seed mirror tick = map Arrive (fed_in seed mirror tick) ++ turn_events 5
 
--- the events of so many ticks
+-- the events of a number of ticks
 abbrev pub events_until : ℕ → ℕ → ℕ → List Event
 events_until seed mirror ticks = joined_below (events_in seed mirror) ticks
 

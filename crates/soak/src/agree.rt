@@ -24,8 +24,9 @@ fn is_all_at(mirror: &DeferredMirror<Arena>, world: &Arena) -> bool
     true
 }
 
-/// Whether the live world of each copy of each mirror of the hall, which has so many, is this world.
-/// The mirrors are drained, so that each copy's live world is the world of its run.
+/// Whether the live world of each copy of each mirror of the hall, which has this number of
+/// mirrors, is this world. The mirrors are drained, so that each copy's live world is the world of
+/// its run.
 pub fn are_all_at(hall: &Hall<Arena>, mirrors: MirrorId, world: &Arena) -> bool
     requires count { length hall.now ≡ mirrors }
     requires drained { AllByRecursion (λ s. IsDrained s) hall.now }

@@ -24,7 +24,7 @@ use watch_board::Board;
 // How many commands the match of a number has.
 const COMMANDS: u32 = 4096;
 
-/// What is told of the match of a number: its text, and the logs of its mirrors, mirror 0 first.
+/// The answer to the number of a match: its text, and the logs of its mirrors, mirror 0 first.
 #[derive(Drop)]
 pub struct SoakAnswer {
     pub text: Seq<u8>,
@@ -55,8 +55,8 @@ fn in_order(alloc: Global, opening: &Arena, m: &Match) -> Result<Arena, NoMemory
     Ok(world)
 }
 
-// Appends whether each copy of each mirror of the hall, which has so many and is drained, has this
-// world.
+// Appends whether each copy of each mirror of the hall, which has this number of mirrors and is
+// drained, has this world.
 fn push_agreement(
     out: &mut Vec<u8>,
     hall: &Hall<Arena>,
@@ -93,7 +93,7 @@ fn text_of(
     Ok(Seq::of(text))
 }
 
-// What is told of a match that opens so, and that a number makes.
+// The answer to a number, with the match that it makes and its opening.
 fn answer(alloc: Global, number: u32, opening: &Arena, m: &Match) -> Result<SoakAnswer, NoMemory>
     ensures told { IfOk result (λ s. TellsOf arena_rules
         (time_ordered arena_rules opening.now m.now.commands m.now.length) number

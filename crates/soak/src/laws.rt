@@ -53,7 +53,7 @@ pub fn all_copies_agree<G: Game>()
     each_mirror_takes_every_command::<G>();
 }
 
-/// What is told of the match of a number says that all copies agree, whatever the number.
+/// The answer to the number of a match says that all copies agree, whatever the number.
 pub fn the_text_says_same_yes()
     ensures { (seed : ℕ) (text : List ℕ) → IsSoakText seed text → text ≡ soak_text seed }
 {

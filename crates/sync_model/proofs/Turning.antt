@@ -5,7 +5,7 @@ use Rattle.sync_model.specs.State.{MirrorState}
 use Rattle.sync_model.specs.Change.{next, after}
 use Rattle.sync_model.specs.Turns.{steps_from, turn, is_drained, drain_within}
 
--- so many steps from copy c on are a step of copy c and the others
+-- n steps from copy c on are a step of copy c and the others
 pub steps-more : (c end : ℕ) → c < end → steps_from c (end - c) ≡ Step c ∷ steps_from (c + 1) (end - (c + 1))
 unfolding steps_from
 steps-more c end h = (let e : end - c ≡ suc (end - (c + 1)) = omega arith in ap (steps_from c) e)

@@ -30,7 +30,7 @@ IsComplete accepted run =
     (test : Command → Bool)
     → times test (commands_of run) ≡ times (λ x. test x && nat_lt x.time (beats run)) accepted
 
--- after so many beats, each command of the rest of a run stands after at least as many beats as its
+-- after n beats, each command of the rest of a run stands after at least as many beats as its
 -- time
 unfoldable pub IsNeverEarly : ℕ → List Item → Type 0
 IsNeverEarly n [] = Unit {0}

@@ -9,7 +9,7 @@ use Rattle.sync_model.specs.Schedule.{clock_end}
 use Rattle.sync_model.specs.State.{MirrorState, schedule_of}
 use Rattle.sync_model.specs.Change.{after}
 
--- steps of so many copies, from copy c on
+-- steps of n copies, from copy c on
 unfoldable pub steps_from : ℕ → ℕ → List Event
 steps_from c zero = []
 steps_from c (suc n) = Step c ∷ steps_from (c + 1) n
@@ -18,7 +18,7 @@ steps_from c (suc n) = Step c ∷ steps_from (c + 1) n
 abbrev pub turn_events : ℕ → List Event
 turn_events copies = Tick ∷ steps_from 0 copies
 
--- the events of so many turns
+-- the events of n turns
 unfoldable pub turns_of : ℕ → ℕ → List Event
 turns_of copies zero = []
 turns_of copies (suc n) = turn_events copies ++ turns_of copies n
@@ -35,7 +35,7 @@ IsDrained s = AllByRecursion (λ run. beats run ≡ s.length) s.runs
 abbrev pub is_drained : {W : Type 0} → MirrorState W → Bool
 is_drained s = list_all (λ run. beats run == s.length) s.runs
 
--- turns until the mirror is drained, at most so many
+-- turns until the mirror is drained, at most n of them
 unfoldable pub drain_within : {W : Type 0} → ℕ → MirrorState W → MirrorState W
 drain_within zero s = s
 drain_within (suc n) s = if is_drained s then s else drain_within n (turn s)

@@ -129,11 +129,11 @@ outcome s es =
       runs = t.runs;
     }
 
--- so many beats
+-- n beats
 abbrev pub beat : ℕ → List Item
 beat n = replicate n Beat
 
--- a run of n beats with a command after so many of them
+-- a run of n beats with a command behind the first `at` of them
 abbrev pub run_with : Command → ℕ → ℕ → List Item
 run_with x at n = beat at ++ Cmd x ∷ beat (n - at)
 

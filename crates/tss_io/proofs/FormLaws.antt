@@ -79,7 +79,7 @@ decimal-some n small = decimal_by_steps (λ _ ds. 0 < length ds) (λ n lt. omega
 decimal_is_word : (n : ℕ) → n < 2 ^ 64 → is_word (decimal n) ≡ true
 decimal_is_word n small = is_word-some (decimal n) (decimal-some n small) (IsWord-decimal n small)
 
--- numbers in a range of at most so many digits
+-- numbers in a range of at most n digits
 pub number_exact : (least most digits : ℕ) → 0 < digits → most < 10 ^ digits → most < 2 ^ 64 → ExactField (number least most) (InRange least most) (λ _. digits)
 number_exact least most digits some small word = record {
   takes = λ w r n _ see e. let t = number_takes least most r n e in (ok_is w r see ∙ t.0, t.1);

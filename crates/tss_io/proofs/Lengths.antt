@@ -23,7 +23,7 @@ mul_le zero b c le = omega arith
 mul_le (suc a) zero c le = absurd (omega arith)
 mul_le (suc a) (suc b) c le = let h = mul_le a b c (omega (arith, le)) in omega (arith, suc-mul a c, suc-mul b c)
 
--- a section of so many lines, each so short
+-- a section of n lines, each within a length
 pub section_length : {A : Type 0} (f : A → List ℕ) (xs : List A) (k most : ℕ) → Short k (map f xs) → length xs ≤ most → length (lines_text (map f xs)) ≤ most * (k + 1)
 section_length f xs k most h few =
     let all = lines_length k (map f xs) h in

@@ -1,4 +1,4 @@
-//! What the words of sources, sinks and refusals come to, so that none can be read more weakly.
+//! What the words of sources, sinks and refusals mean, so that none can be read more weakly.
 //! Each is the contract of a function without parameters that does nothing.
 
 ghost use Rattle.std.specs.Prelude.{◌≡◌, ◌<◌, ◌+◌, ◌-◌, ◌^◌, ℕ, List, Option, Some, None, ◌++◌, length};

@@ -102,7 +102,7 @@ impl Source for MemSource {
     }
 }
 
-// Copies the first bytes, at most so many, to the front of `out`, and answers how many.
+// Copies the first bytes, at most a given number, to the front of `out`, and answers how many.
 fn copy_front(bytes: &[u8], most: usize, out: &mut [u8]) -> usize
     ensures count { result ≡ min (min (length out.old) most) (length bytes.now) }
     ensures copied { take result out.new ≡ take result bytes.now }

@@ -1,4 +1,4 @@
-//! What the words of a run's promise come to, so that none can be read more weakly. Each is the
+//! What the words of a run's promise mean, so that none can be read more weakly. Each is the
 //! contract of a function without parameters that does nothing.
 
 ghost use Rattle.std.specs.Prelude.{◌≡◌, ◌<◌, ◌≤◌, ◌⊎◌, ◌↔◌, ◌+◌, ℕ, true, false, Option, List, [], None, Some, ◌++◌, codes, drop, length, slice_get, take};

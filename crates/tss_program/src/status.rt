@@ -7,7 +7,7 @@ pub enum Status {
     Complete = 0,
     /// Memory ran out, and nothing was written.
     NoMemory = 1,
-    /// The words ask for nothing that is built; nothing was read, and the usage line was written.
+    /// The words ask for nothing; nothing was read, and the usage line was written.
     WrongWords = 2,
     /// A read failed, and nothing was written.
     ReadFault = 3,

@@ -18,7 +18,7 @@ last_lines-more xs one =
     flat_map-append (λ (w : Behaviour). as_line (w.line [])) xs (one ∷ [])
     ∙ ap (λ ls. flat_map (λ (w : Behaviour). as_line (w.line [])) xs ++ ls) (append-nil (as_line (one.line [])))
 
--- what the first so many do, and one more
+-- what the first n do, and one more
 seen-more : {B : Type 0} → (see : B → Behaviour) (items : List B) (i : ℕ) (x : B) → i < length items → x ≡ get_or items i x
     → map see (take (i + 1) items) ≡ map see (take i items) ++ see x ∷ []
 seen-more see items i x h e =

@@ -32,7 +32,7 @@ pub fn settled_chained()
         → IsChained (settle accepted proposed) }
 {}
 
-/// The copies that an arrival repairs are the first so many from copy 0 on.
+/// The copies that an arrival repairs are the first ones from copy 0 on.
 pub fn arrival_repairs_first()
     ensures { (accepted : List Command) (x : Command) (runs : List (List Item))
         → list_any (same_name x) accepted ≡ false
@@ -40,7 +40,7 @@ pub fn arrival_repairs_first()
         → AreFirst (which_repaired (accepted ++ x ∷ []) (proposed_by_arrival x runs)) }
 {}
 
-/// The copies that a step repairs are the first so many from copy 0 on.
+/// The copies that a step repairs are the first ones from copy 0 on.
 pub fn step_repairs_first()
     ensures { (accepted : List Command) (runs : List (List Item)) (c : ℕ)
         → IsChained runs → AllByRecursion (IsComplete accepted) runs

@@ -42,7 +42,7 @@ fn said_over(
     (said, code)
 }
 
-// A sink for a line that takes so many bytes a call, and none at some calls.
+// A sink for a line that takes a number of bytes a call, and none at some calls.
 fn sink(rt: &impl Abort, alloc: Global, put: usize, failing: &[u32]) -> MemSink {
     assert!(rt; put > 0);
     let failing = Vec::from_slice(alloc, failing).expect(rt, "memory");
@@ -84,7 +84,7 @@ fn each_status_is_the_exit_code(rt: HostRuntime) {
     }
 }
 
-// Where standard error takes nothing, or fails behind so many bytes, the exit code still tells.
+// Where standard error takes nothing, or fails behind a number of bytes, the exit code still tells.
 #[test]
 fn a_line_that_cannot_be_said_leaves_the_exit_code(rt: HostRuntime) {
     let alloc = rt.alloc();

@@ -26,9 +26,9 @@ const BEHIND_MIRRORS: &str = "delays 0\npace 0\nplayer ann 0 0 e\nend\n";
 
 const BEHIND_DELAYS: &str = "pace 0\nplayer ann 0 0 e\nend\n";
 
-// So many lines may stand in a text of a version between a front and a back, and so many more, or
-// as many past a limit, are refused. A line is in parts, between which its number stands, from 0
-// on.
+// A number of lines may stand in a text of a version between a front and a back, and another number
+// more, or as many past a limit, are refused. A line is in parts, between which its number stands,
+// from 0 on.
 #[derive(Clone, Copy)]
 struct Limit {
     name: &'static str,
@@ -293,7 +293,7 @@ fn push_line(rt: &impl Abort, alloc: Global, out: &mut String, line: &[&str], nu
     }
 }
 
-// A text of a version with so many lines.
+// A text of a version with this number of lines.
 fn text_of(
     rt: &impl Abort,
     alloc: Global,
@@ -365,7 +365,7 @@ const LONG_LOSSY: [(&str, &str, usize, &str); 2] = [
     ("lossy", "", 16_777_217, "refused line 0 cause 9 long\n"),
 ];
 
-// A front, and so many letters that it is this long.
+// A front, filled up with letters to this length.
 fn lengthened(rt: &impl Abort, alloc: Global, front: &str, length: usize) -> String {
     let mut text = joined(rt, alloc, &[front]);
     let letters = length.saturating_sub(front.len());

@@ -22,8 +22,8 @@ use std::thread::Threads;
 use tss_io::{MemSink, MemSource};
 use tss_program::{Done, asks_race, run, run_watched};
 
-// What a run is given, and how it has to end. Its text is a front that other rows may have, too, and
-// the rest.
+// What a run is given, and how it has to end. Its text is a front that other rows may have, too,
+// and the rest.
 #[derive(Clone, Copy)]
 pub(super) struct Row {
     pub name: &'static str,
@@ -129,8 +129,8 @@ pub(super) fn run_on<R: Threads + Wait + Sync + Abort>(
     }
 }
 
-// Asserts that a run of this row ends so over these streams, in which a call may fail, with so many
-// bytes of what is due: at a failed call a front of it, and else all.
+// Asserts that a run of this row ends so over these streams, in which a call may fail, with this
+// many bytes of what is due: at a failed call a front of it, and else all.
 fn assert_ends<R: Threads + Wait + Sync + Abort>(
     rt: &R,
     alloc: Global,
@@ -247,7 +247,7 @@ fn assert_reads<R: Threads + Wait + Sync + Abort>(rt: &R, alloc: Global, row: &R
     assert_ends(rt, alloc, row, streams, row.status, row.written);
 }
 
-// Asserts that a run whose sink takes so many bytes a call writes what the calls before took,
+// Asserts that a run whose sink takes this number of bytes a call writes what the calls before took,
 // where one of its calls fails, and all where none does.
 fn assert_puts<R: Threads + Wait + Sync + Abort>(rt: &R, alloc: Global, row: &Row, put: usize) {
     assert!(rt; put > 0);

@@ -87,7 +87,7 @@ fn assert_block(rt: &impl Abort, name: &str, lines: &str, block: &str) {
     assert!(rt; is_end, "{name}: behind a world stands {behind}");
 }
 
-// Asserts that a record states so many worlds, each with this block.
+// Asserts that a record states this number of worlds, each with this block.
 pub(super) fn assert_worlds(rt: &impl Abort, name: &str, record: &str, block: &str, worlds: usize) {
     let mut found = 0usize;
     for (place, stated) in record.split("\nworld ").enumerate() {

@@ -25,7 +25,7 @@ const SEVERAL_SCRIPT: &str =
     arrive 0 1 0\nturn 0\narrive 0 0 1\narrive 1 0 0\narrive 1 0 1\nturn 1\n\
     turn 0\nend\n";
 
-// Matches, and what painting comes to.
+// Matches, and what painting prints of them.
 pub const PAINTS: [Row; 10] = [
     PAINTED,
     Row {

@@ -47,7 +47,7 @@ const REFUSED_NET: Row = Row {
     ..REPEATED
 };
 
-// Lossy texts, and what each comes to.
+// Lossy texts, and what is printed of each.
 pub const NETS: [Row; 22] = [
     REPEATED,
     Row {
