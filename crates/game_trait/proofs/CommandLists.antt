@@ -1,14 +1,15 @@
 -- Commands with different names, and one more that is found by its name.
-use Rattle.std.proofs.Common.{◌≡◌, refl, subst, ℕ, Bool, true, false, cond, ◌||◌, List, [], ◌∷◌, ◌++◌, Some, arith}
+use Rattle.std.proofs.Common.{◌≡◌, refl, ap, subst, ℕ, zero, suc, Bool, true, false, cond, ◌||◌, List, [], ◌∷◌, ◌++◌, map, get_or, Some, None, arith}
 use Rattle.std.specs.Prelude.{find}
-use Rattle.std.specs.List.{list_any, Contains}
+use Rattle.std.specs.List.{list_any, slice_get, Contains, AllByRecursion}
 use Rattle.std.proofs.lemmas.List.Elements.{Contains-get_or, Contains-append_right}
 use Rattle.std.specs.Option.{is_some}
 use Rattle.std.proofs.lemmas.Bool.{or_parts}
 use Rattle.std.proofs.lemmas.Bool.Decides.{nat_tests}
 use Rattle.game_trait.specs.declared.command.Command.{Command}
 use Rattle.game_trait.specs.Keys.{is_named, same_name, NamesDiffer}
-use Rattle.game_trait.specs.CommandList.{command_named, has_command, same_pair}
+use Rattle.game_trait.specs.CommandList.{command_named, has_command, name_of}
+use Rattle.game_trait.specs.NameTree.{has_name}
 use Rattle.game_trait.proofs.KeyOrder.{same_name-sym}
 use Rattle.game_trait.proofs.Lists.{all-push, all-first}
 
@@ -33,28 +34,49 @@ find-Contains test (y ∷ ys) x e =
 pub command_named-Contains : (commands : List Command) (from number : ℕ) (x : Command) → command_named commands from number ≡ Some x → Contains commands x
 command_named-Contains commands from number x e = find-Contains (is_named from number) commands x e
 
-turned : (x : Command) (from number : ℕ) → same_pair (x.from, x.number) (from, number) ≡ is_named from number x
-turned x from number = grind (arith, nat_tests)
-
 -- two commands of different names aren't found under one
 other-name : (x y : Command) (from number : ℕ) → is_named x.from x.number y ≡ false → is_named from number y ≡ true → is_named from number x ≡ false
 other-name x y from number other here = grind (arith, nat_tests)
 
--- one more command, of a new name, is found under it, and the others as before
-pub found-push :
-    (commands : List Command) (x : Command) (from number : ℕ) → has_command commands x.from x.number ≡ false
-    → command_named (commands ++ x ∷ []) from number ≡ cond (same_pair (x.from, x.number) (from, number)) (Some x) (command_named commands from number)
-found-push [] x from number new = rw (turned x from number) refl
-found-push (y ∷ ys) x from number new =
-    let parts = or_parts (is_named x.from x.number y) (has_command ys x.from x.number) new in
-    elim (is_named from number y) as (λ v. is_named from number y ≡ v
-    → cond v (Some y) (command_named (ys ++ x ∷ []) from number)
-    ≡ cond (same_pair (x.from, x.number) (from, number)) (Some x)
-    (cond v (Some y) (command_named ys from number))) [
-      | true ↦ λ here. rw (turned x from number, other-name x y from number parts.0 here) refl
-      | false ↦ λ other. found-push ys x from number parts.1
-    ]
-    refl
+-- a command that has a name is found under it
+named-so : (y : Command) (from number : ℕ) → Some (name_of y) ≡ Some (from, number) → is_named from number y ≡ true
+named-so y from number e =
+    let same : name_of y ≡ (from, number) = cc in
+    let mirror : y.from ≡ from = ap (λ (p : ℕ × ℕ). p.0) same in
+    let named : y.number ≡ number = ap (λ (p : ℕ × ℕ). p.1) same in
+    grind (arith, nat_tests)
+
+-- and the others aren't
+other-named :
+    (y : Command) (zs : List Command) (from number at : ℕ) → AllByRecursion (λ z. same_name y z ≡ false) zs
+    → slice_get (map name_of zs) at ≡ Some (from, number) → is_named from number y ≡ false
+unfolding same_name
+other-named y [] from number at h e = absurd cc
+other-named y (z ∷ zs) from number zero h e = other-name y z from number h.0 (named-so z from number e)
+other-named y (z ∷ zs) from number (suc at) h e = other-named y zs from number at h.1 e
+
+-- the command of a name stands where the name does
+pub named-command :
+    (commands : List Command) (from number at : ℕ) (d : Command) → NamesDiffer commands
+    → slice_get (map name_of commands) at ≡ Some (from, number)
+    → command_named commands from number ≡ Some (get_or commands at d)
+unfolding NamesDiffer
+named-command [] from number at d differ e = absurd cc
+named-command (y ∷ ys) from number zero d differ e = rw (named-so y from number e) refl
+named-command (y ∷ ys) from number (suc at) d differ e =
+    rw (other-named y ys from number at differ.0 e) (named-command ys from number at d differ.1 e)
+
+-- no command is found under a name that none has
+pub unnamed : (commands : List Command) (from number : ℕ) → has_command commands from number ≡ false → command_named commands from number ≡ None
+unnamed [] from number none = refl
+unnamed (y ∷ ys) from number none =
+    let parts = or_parts (is_named from number y) (has_command ys from number) none in
+    rw (parts.0) (unnamed ys from number parts.1)
+
+-- the names tell which commands there are
+pub has-named : (commands : List Command) (from number : ℕ) → has_name (map name_of commands) from number ≡ has_command commands from number
+has-named [] from number = refl
+has-named (y ∷ ys) from number = ap (λ (b : Bool). is_named from number y || b) (has-named ys from number)
 
 -- one command more, of a new name
 pub NamesDiffer-push : (xs : List Command) (x : Command) → NamesDiffer xs → list_any (same_name x) xs ≡ false → NamesDiffer (xs ++ x ∷ [])

@@ -10,3 +10,5 @@ pub mod CommandLists
 pub mod Places
 pub mod Due
 pub mod Lengths
+pub mod NameTrees
+mod NameWalks

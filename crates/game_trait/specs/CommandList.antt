@@ -1,5 +1,5 @@
 -- A list of commands with different names, of which each is found at once.
-use Rattle.std.specs.Prelude.{◌≡◌, ℕ, ◌+◌, ◌≤◌, Bool, ◌==◌, ◌&&◌, Option, List, length, find}
+use Rattle.std.specs.Prelude.{◌≡◌, ℕ, ◌≤◌, Bool, ◌==◌, ◌&&◌, Option, List, map, find}
 use Rattle.std.specs.List.{list_any}
 use Rattle.game_trait.specs.declared.command.Command.{Command}
 use Rattle.game_trait.specs.Keys.{is_named, NamesDiffer}
@@ -21,15 +21,14 @@ has_command commands from number = list_any (is_named from number) commands
 abbrev pub same_pair : ℕ × ℕ → ℕ × ℕ → Bool
 same_pair a b = (a.0 == b.0) && (a.1 == b.1)
 
--- an index finds under each mirror and number the command that the list has
-abbrev pub IsIndex : (ℕ × ℕ → Option Command) → List Command → Type 0
-IsIndex found commands = (from number : ℕ)
-    → found (from, number) ≡ command_named commands from number
+-- what a command is found by
+abbrev pub name_of : Command → ℕ × ℕ
+name_of x = (x.from, x.number)
 
--- what is always true of a list with an index and of the memory that both have
-pub record IsCommandList (found : ℕ × ℕ → Option Command) (commands : List Command)
-    (room capacity spare : ℕ) : Type 0 where
-  pub index : IsIndex found commands
+-- what is always true of a list with its commands' names and of the room that both have
+pub record IsCommandList (named : List (ℕ × ℕ)) (commands : List Command)
+    (room capacity names_room : ℕ) : Type 0 where
+  pub named_each : named ≡ map name_of commands
   pub names : NamesDiffer commands
   pub in_list : room ≤ capacity
-  pub in_index : room ≤ length commands + spare
+  pub in_names : room ≤ names_room

@@ -6,3 +6,4 @@ pub mod Count
 pub mod Front
 pub mod Events
 pub mod CommandList
+pub mod NameTree

@@ -5,32 +5,31 @@ ghost use Rattle.game_trait.specs.Keys.{NamesDiffer};
 ghost use Rattle.game_trait.specs.CommandList.{command_named, has_command};
 
 use crate::command::{Command, MirrorId, Number};
+use crate::name_tree::NameTree;
 use std::alloc::{AllocError, Global};
-use std::collections::HashMap;
 use std::marker::Model;
 
 /// Commands in the order in which they were appended, no two with the same mirror and number, of
-/// which each is found at once by these. Contracts see the commands, and how many there is room for
-/// without taking memory.
+/// which each is found by these in at most 20 steps, whatever names strangers choose (this project's
+/// own). Contracts see the commands, and how many there is room for without taking memory.
 #[derive(Debug, Drop)]
 pub struct CommandList {
     commands: Vec<Command>,
-    by_name: HashMap<(MirrorId, Number), Command>,
+    names: NameTree,
     room: usize,
 }
 
 impl Model for CommandList {
     ghost use Rattle.std.specs.Prelude.{vec_capacity};
-    ghost use Rattle.std.specs.HashMap.{get, spare};
-    ghost use Rattle.game_trait.specs.CommandList.{CommandsInRoom, IsCommandList, same_pair};
+    ghost use Rattle.game_trait.specs.CommandList.{CommandsInRoom, IsCommandList};
 
     ghost Value = { CommandsInRoom };
 
     ghost view = { λ a. record { items = a.commands.items; room = a.room } };
 
     ghost invariant = { λ a.
-        IsCommandList (get same_pair a.by_name) a.commands.items a.room (vec_capacity a.commands)
-        (spare a.by_name) };
+        IsCommandList a.names.items a.commands.items a.room (vec_capacity a.commands)
+        a.names.room };
 }
 
 impl CommandList {
@@ -40,18 +39,19 @@ impl CommandList {
     {
         CommandList {
             commands: Vec::new(alloc),
-            by_name: HashMap::new(alloc),
+            names: NameTree::new(alloc),
             room: 0,
         }
     }
 
-    /// No commands yet, with room for `room` of them. On `NoMemory` nothing is created.
+    /// No commands yet, with room for `room` of them. On `NoMemory` nothing is created; room for
+    /// more than `u32::MAX` is always wanting.
     pub fn with_room(alloc: Global, room: usize) -> Result<CommandList, AllocError>
         ensures { IfOk result (λ list. list ≡ record { items = []; room = room }) }
     {
         Ok(CommandList {
             commands: Vec::with_capacity(alloc, room)?,
-            by_name: HashMap::with_capacity(alloc, room)?,
+            names: NameTree::with_room(alloc, room)?,
             room,
         })
     }
@@ -71,9 +71,7 @@ impl CommandList {
         if self.has(x.from, x.number) {
             return Ok(false);
         }
-        self.commands.reserve(1)?;
-        self.by_name.insert((x.from, x.number), *x)?;
-        self.commands.push_reserved(*x);
+        self.push(x)?;
         Ok(true)
     }
 
@@ -86,7 +84,8 @@ impl CommandList {
         ensures err { OnErr result (self.new ≡ self.old) }
     {
         self.commands.reserve(1)?;
-        self.by_name.insert((x.from, x.number), *x)?;
+        self.names.reserve()?;
+        self.names.push_reserved(x.from, x.number);
         self.commands.push_reserved(*x);
         Ok(())
     }
@@ -98,10 +97,7 @@ impl CommandList {
         requires room { length self.old.items < self.old.room }
         ensures { self.new ≡ record self.old { items = self.old.items ++ x.now ∷ [] } }
     {
-        match self.by_name.insert((x.from, x.number), *x) {
-            Ok(_) => {}
-            Err(_) => unreachable!(),
-        }
+        self.names.push_reserved(x.from, x.number);
         self.commands.push_reserved(*x);
     }
 
@@ -109,14 +105,17 @@ impl CommandList {
     pub fn get(&self, from: MirrorId, number: Number) -> Option<Command>
         ensures { result ≡ command_named self.now.items from number }
     {
-        self.by_name.get(&(from, number)).copied()
+        match self.names.find(from, number) {
+            Some(at) => Some(self.commands[at]),
+            None => None,
+        }
     }
 
     /// Whether one of the commands has this mirror and number.
     pub fn has(&self, from: MirrorId, number: Number) -> bool
         ensures { result ≡ has_command self.now.items from number }
     {
-        self.by_name.contains_key(&(from, number))
+        self.names.has(from, number)
     }
 
     /// The commands, in the order in which they were appended.
@@ -141,10 +140,10 @@ impl CommandList {
     {
         let CommandList {
             commands,
-            by_name,
+            names,
             ..
         } = self;
-        drop(by_name);
+        drop(names);
         commands
     }
 }

@@ -14,6 +14,7 @@ use Rattle.game_trait.specs.declared.command.Item.{Item}
 use Rattle.game_trait.specs.Run.{beats, world_of}
 use Rattle.game_trait.specs.Keys.{is_named}
 use Rattle.game_trait.specs.CommandList.{has_command, same_pair}
+use Rattle.game_trait.specs.NameTree.{has_name}
 use Rattle.sync_model.specs.Schedule.{Schedule, limit_at}
 use Rattle.sync_model.specs.State.{MirrorState, schedule_of, copy_clock, last_clock, step_limit}
 use Rattle.sync_model.specs.Change.{is_over, is_late, is_idle}
@@ -37,24 +38,22 @@ use Rattle.mirror_core.proofs.PlanLaws.{greatest-short, ticks-few}
 use Rattle.mirror_core.proofs.Clocks.{last_clock-at, drained-last}
 use Rattle.mirror_core.proofs.Kept.{some-copies, before-end}
 
--- one command more is found by its name, and the others as before
+-- one command more has its name there, and the others as before
 pub has-push :
-    (xs : List Command) (x : Command) (from number : ℕ)
-    → has_command (xs ++ x ∷ []) from number
-    ≡ cond (same_pair (x.from, x.number) (from, number)) true (has_command xs from number)
-has-push xs x from number =
-    list_any-append (is_named from number) xs (x ∷ []) ∙ either (has_command xs from number)
-  where
-    either :
-        (b : Bool)
-        → (b || (is_named from number x || false))
-        ≡ cond (same_pair (x.from, x.number) (from, number)) true b
-    either b = grind (arith, nat_tests)
+    (names : List (ℕ × ℕ)) (xs : List Command) (x : Command)
+    → ((from number : ℕ) → has_name names from number ≡ has_command xs from number)
+    → (from number : ℕ)
+    → has_name (names ++ (x.from, x.number) ∷ []) from number
+    ≡ has_command (xs ++ x ∷ []) from number
+has-push names xs x same from number =
+    list_any-append (same_pair (from, number)) names ((x.from, x.number) ∷ [])
+    ∙ ap (λ (b : Bool). b || (is_named from number x || false)) (same from number)
+    ∙ sym (list_any-append (is_named from number) xs (x ∷ []))
 
 le-false : (limit clock : ℕ) → clock < limit → leb limit clock ≡ false
 le-false limit clock below = grind (arith, nat_tests)
 
-module _ {W : Type 0} {s : MirrorState W} {plans : List Schedule} {is_taken : ℕ × ℕ → Bool}
+module _ {W : Type 0} {s : MirrorState W} {plans : List Schedule} {is_taken : ℕ → ℕ → Bool}
     {repairs_now : ℕ} {numbers : List ℕ} {room : Room}
     (h : IsKept s plans is_taken repairs_now numbers room) where
   -- a tick

@@ -35,7 +35,7 @@ use Rattle.mirror_core.proofs.Answered.{restagger_one, repaired-most}
 use Rattle.mirror_core.proofs.Clocks.{steps_left-ran}
 use Rattle.mirror_core.proofs.Renewed.{epochs-next, epochs-stay}
 
-module _ {W : Type 0} {s : MirrorState W} {plans : List Schedule} {is_taken : ℕ × ℕ → Bool}
+module _ {W : Type 0} {s : MirrorState W} {plans : List Schedule} {is_taken : ℕ → ℕ → Bool}
     {repairs_now : ℕ} {numbers : List ℕ} {room : Room}
     (h : IsKept s plans is_taken repairs_now numbers room) where
   -- there are 1 to 8 copies
@@ -66,11 +66,11 @@ module _ {W : Type 0} {s : MirrorState W} {plans : List Schedule} {is_taken : �
 
   -- what an event leaves that changes the state
   kept-by :
-      (e : Event) (t : MirrorState W) (n : ℕ) (ns : List ℕ) (left : Room) (still : ℕ × ℕ → Bool)
+      (e : Event) (t : MirrorState W) (n : ℕ) (ns : List ℕ) (left : Room) (still : ℕ → ℕ → Bool)
       → Fits s e → HasRoom s e
       → next s e ≡ t → n ≡ repairs_now + repaired_in (said s e)
       → repaired_in (said s e) ≤ MOST_COPIES → t.history ≡ s.history ++ e ∷ []
-      → ((from number : ℕ) → still (from, number) ≡ has_command t.accepted from number)
+      → ((from number : ℕ) → still from number ≡ has_command t.accepted from number)
       → AreEpochs (next s e) ns → HasRoomLeft t left
       → IsKept t plans still n ns left
   kept-by e t n ns left still fits there state count few grown names epochs room_left =
@@ -148,10 +148,10 @@ module _ {W : Type 0} {s : MirrorState W} {plans : List Schedule} {is_taken : �
       omega arith
 
   pub kept_taken :
-      (x : Command) (n names_left : ℕ) (ns : List ℕ) (still : ℕ × ℕ → Bool) → x.time < s.length
+      (x : Command) (n names_left : ℕ) (ns : List ℕ) (still : ℕ → ℕ → Bool) → x.time < s.length
       → 0 < s.spare → is_repeat s x ≡ false → is_late s x ≡ false
       → n ≡ repaired (s.accepted ++ x ∷ []) (proposed_by_arrival x s.runs)
-      → ((from number : ℕ) → still (from, number) ≡ has_command (s.accepted ++ x ∷ []) from number)
+      → ((from number : ℕ) → still from number ≡ has_command (s.accepted ++ x ∷ []) from number)
       → room.names ≤ names_left + 1
       → AreRenewed (λ c. leb x.time (copy_clock s.runs c)) numbers ns
       → IsKept (taken s x) plans still (repairs_now + n) ns

@@ -90,12 +90,12 @@ opened-epochs opening plans arrivals restaggers =
 
 pub kept_opened :
     {W : Type 0} (opening : W) (plans : List Schedule) (arrivals restaggers names_left : ℕ)
-    (is_taken : ℕ × ℕ → Bool)
+    (is_taken : ℕ → ℕ → Bool)
     → 0 < length plans → length plans ≤ MOST_PLANS → AllByRecursion IsSchedule plans
     → AllByRecursion (λ plan. plan.length ≡ ticks_of_first plans) plans
     → AllByRecursion (λ plan. length plan.delays ≡ copies_of_first plans) plans
     → arrivals ≤ MOST_ROOM → restaggers ≤ MOST_ROOM → arrivals ≤ names_left
-    → ((from number : ℕ) → is_taken (from, number) ≡ false)
+    → ((from number : ℕ) → is_taken from number ≡ false)
     → IsKept (opened opening plans arrivals restaggers) plans is_taken 0
     (replicate (copies_of_first plans) 0) (record {
       copies = arrivals;

@@ -41,12 +41,12 @@ pub record HasRoomLeft {W : Type 0} (s : MirrorState W) (room : Room) : Type 0 w
 
 -- what is always true of a mirror with these plans, this test of a mirror and a number, this number
 -- of repairs, these numbers of its copies, and this room
-pub record IsKept {W : Type 0} (s : MirrorState W) (plans : List Schedule) (is_taken : ℕ × ℕ → Bool)
+pub record IsKept {W : Type 0} (s : MirrorState W) (plans : List Schedule) (is_taken : ℕ → ℕ → Bool)
     (repaired : ℕ) (numbers : List ℕ) (room : Room) :
     Type 0 where
   pub consistent : IsConsistent s
   pub ticks_each : AllByRecursion (λ plan. plan.length ≡ s.length) plans
-  pub names : (from number : ℕ) → is_taken (from, number) ≡ has_command s.accepted from number
+  pub names : (from number : ℕ) → is_taken from number ≡ has_command s.accepted from number
   pub repairs_are : repaired ≡ repairs s
   pub few_repairs : repaired ≤ MOST_COPIES * length s.history
   pub epochs : AreEpochs s numbers

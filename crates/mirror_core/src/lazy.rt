@@ -19,10 +19,11 @@ use crate::plans::greatest;
 use crate::turns::turn_events;
 use arrayvec::ArrayVec;
 use game_trait::limits::{MOST_PLANS, MOST_ROOM};
-use game_trait::{Arrived, Command, Event, Game, MirrorId, Number, Reply, Stepped, Tick, Ticked};
+use game_trait::{
+    Arrived, Command, Event, Game, MirrorId, NameTree, Number, Reply, Stepped, Tick, Ticked,
+};
 use stagger_clock::Stagger;
 use std::alloc::Global;
-use std::collections::HashSet;
 use std::marker::Model;
 use sync_model::Turned;
 use trailing_copy::LazyStack;
@@ -40,7 +41,7 @@ pub struct LazyMirror<G: Game> {
     pub plan: u8,
     pub clock: Tick,
     // the mirror and the number of each accepted command
-    pub names: HashSet<(MirrorId, Number)>,
+    pub names: NameTree,
     pub turned: Vec<Turned>,
     pub history: Vec<Event>,
     // how many copies were repaired, in all
@@ -51,9 +52,8 @@ pub struct LazyMirror<G: Game> {
 }
 
 impl<G: Game> Model for LazyMirror<G> {
-    ghost use Rattle.std.specs.Prelude.{vec_capacity};
-    ghost use Rattle.std.specs.HashSet as set;
-    ghost use Rattle.game_trait.specs.CommandList.{same_pair};
+    ghost use Rattle.std.specs.Prelude.{◌-◌, length, vec_capacity};
+    ghost use Rattle.game_trait.specs.NameTree.{has_name};
     ghost use Rattle.sync_model.specs.State.{MirrorState};
     ghost use Rattle.mirror_core.specs.Kept.{delays_of_each, Room, IsKept, LazyState};
 
@@ -92,11 +92,11 @@ impl<G: Game> Model for LazyMirror<G> {
         } in
         let room : Room = record {
           copies = m.stack.spare;
-          names = set.spare m.names;
+          names = m.names.room - length m.names.items;
           turned = vec_capacity m.turned;
           history = vec_capacity m.history;
         } in
-        IsKept state m.plans.items (set.contains same_pair m.names) m.repairs m.epochs room };
+        IsKept state m.plans.items (has_name m.names.items) m.repairs m.epochs room };
 }
 
 impl<G: Game> LazyMirror<G> {
@@ -210,7 +210,7 @@ impl<G: Game> LazyMirror<G> {
         ensures stale { self.new.stale
             ≡ max self.old.stale (repaired_in (Reply.Arrive result)) }
     {
-        if self.names.contains(&(x.from, x.number)) {
+        if self.names.has(x.from, x.number) {
             return Arrived::Repeat;
         }
         let bound = self.last_clock();
@@ -224,10 +224,7 @@ impl<G: Game> LazyMirror<G> {
             });
             return Arrived::Late { bound };
         }
-        match self.names.insert((x.from, x.number)) {
-            Ok(_) => {}
-            Err(_) => unreachable!(),
-        }
+        self.names.push_reserved(x.from, x.number);
         self.epochs.renew_due(&self.stack, x.time);
         let repaired = self.stack.accept(x);
         self.repairs += u64::from(repaired);
@@ -239,7 +236,7 @@ impl<G: Game> LazyMirror<G> {
         ensures { result ≡ has_command self.now.state.accepted from number }
     {
         let _ = &self.stack;
-        self.names.contains(&(from, number))
+        self.names.has(from, number)
     }
 
     /// What `Mirror::step` does. Worlds may be left to be made.

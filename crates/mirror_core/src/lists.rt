@@ -1,12 +1,10 @@
 //! The lists of a mirror, as they are made.
 
-ghost use Rattle.std.specs.Prelude.{◌≡◌, ◌≤◌, IfOk, [], vec_capacity};
-ghost use Rattle.std.specs.HashSet.{IsEmpty, spare};
+ghost use Rattle.std.specs.Prelude.{◌≡◌, IfOk, [], vec_capacity};
 
-use game_trait::{Event, MirrorId, Number};
+use game_trait::{Event, NameTree};
 use stagger_clock::Stagger;
 use std::alloc::Global;
-use std::collections::HashSet;
 use sync_model::Turned;
 use tss_io::NoMemory;
 
@@ -14,7 +12,7 @@ use tss_io::NoMemory;
 #[derive(Drop)]
 pub struct Lists {
     pub plans: Vec<Stagger>,
-    pub names: HashSet<(MirrorId, Number)>,
+    pub names: NameTree,
     pub turned: Vec<Turned>,
     pub history: Vec<Event>,
 }
@@ -30,13 +28,13 @@ impl Lists {
     ) -> Result<Lists, NoMemory>
         ensures plans { IfOk result (λ l. l.plans.items ≡ plans.now) }
         ensures empty { IfOk result (λ l.
-            IsEmpty l.names × (l.turned.items ≡ []) × (l.history.items ≡ [])) }
-        ensures room { IfOk result (λ l. (arrivals ≤ spare l.names)
+            (l.names.items ≡ []) × (l.turned.items ≡ []) × (l.history.items ≡ [])) }
+        ensures room { IfOk result (λ l. (l.names.room ≡ arrivals)
             × (vec_capacity l.turned ≡ arrivals) × (vec_capacity l.history ≡ events)) }
     {
         Ok(Lists {
             plans: Vec::from_slice(alloc, plans)?,
-            names: HashSet::with_capacity(alloc, arrivals)?,
+            names: NameTree::with_room(alloc, arrivals)?,
             turned: Vec::with_capacity(alloc, arrivals)?,
             history: Vec::with_capacity(alloc, events)?,
         })

@@ -11,6 +11,7 @@ mod limits;
 mod links;
 mod locks;
 mod mirrors;
+mod names;
 mod office;
 mod orders;
 mod program;

@@ -1,4 +1,4 @@
-use Rattle.std.proofs.Common.{◌≡◌, ◌∙◌, ap, sym, ℕ, true, false}
+use Rattle.std.proofs.Common.{◌≡◌, ◌∙◌, ap, sym, ℕ, true, false, [], ◌∷◌, arith, length-append}
 use Rattle.std.specs.List.{list_any}
 use Rattle.game_trait.specs.Keys.{same_name}
 use Rattle.game_trait.specs.declared.event.Reply.TheVariants.{Arrive as ToArrive}
@@ -8,20 +8,20 @@ use Rattle.mirror_core.proofs.Calls.{late-at, on-time, has-push}
 use Rattle.mirror_core.proofs.Kept.{kept_away, kept_taken, small-numbers}
 use Rattle.mirror_core.proofs.lazy.LazyMirror.arrive.Goals as goal
 
-pub returns-then-contains-clause-state : goal.returns-then-contains-clause-state
+pub returns-then-has-clause-state : goal.returns-then-has-clause-state
 unfolding same_name
-returns-then-contains-clause-state g c =
+returns-then-has-clause-state g c =
     let x = c.args.x.now in
     let again : list_any (same_name x) c.self.inside.stack.accepted ≡ true =
-    sym (c.if-contains.ensures ∙ c.self.invariant.names x.from x.number) in
+    sym (c.if-has.ensures ∙ c.self.invariant.names x.from x.number) in
     rw (← c.self.view_is) (sym (arrive_repeat _ x again).0)
 
-pub returns-then-contains-clause-answer : goal.returns-then-contains-clause-answer
+pub returns-then-has-clause-answer : goal.returns-then-has-clause-answer
 unfolding same_name
-returns-then-contains-clause-answer g c =
+returns-then-has-clause-answer g c =
     let x = c.args.x.now in
     let again : list_any (same_name x) c.self.inside.stack.accepted ≡ true =
-    sym (c.if-contains.ensures ∙ c.self.invariant.names x.from x.number) in
+    sym (c.if-has.ensures ∙ c.self.invariant.names x.from x.number) in
     rw (← c.self.view_is) (arrive_repeat _ x again).1
 
 pub invariant_of-self : goal.invariant_of-self
@@ -29,7 +29,7 @@ unfolding same_name
 invariant_of-self g c =
     let x = c.args.x.now in
     let new : list_any (same_name x) c.self.inside.stack.accepted ≡ false =
-    sym (c.if-contains.ensures ∙ c.self.invariant.names x.from x.number) in
+    sym (c.if-has.ensures ∙ c.self.invariant.names x.from x.number) in
     let bound = rw (← c.self.view_is) at c.last_clock-bound.ensures in
     let within = rw (← c.self.view_is) at c.requires.within_match in
     let spare = rw (← c.self.view_is) at c.requires.room in
@@ -48,7 +48,7 @@ unfolding same_name
 returns-then-x-bound-clause-state g c =
     let x = c.args.x.now in
     let new : list_any (same_name x) c.self.inside.stack.accepted ≡ false =
-    sym (c.if-contains.ensures ∙ c.self.invariant.names x.from x.number) in
+    sym (c.if-has.ensures ∙ c.self.invariant.names x.from x.number) in
     let bound = rw (← c.self.view_is) at c.last_clock-bound.ensures in
     rw (
       ← c.self.view_is,
@@ -64,7 +64,7 @@ unfolding same_name
 returns-then-x-bound-clause-answer g c =
     let x = c.args.x.now in
     let new : list_any (same_name x) c.self.inside.stack.accepted ≡ false =
-    sym (c.if-contains.ensures ∙ c.self.invariant.names x.from x.number) in
+    sym (c.if-has.ensures ∙ c.self.invariant.names x.from x.number) in
     let bound = rw (← c.self.view_is) at c.last_clock-bound.ensures in
     rw (← c.self.view_is)
     ((arrive_late _ x new
@@ -81,36 +81,36 @@ pub accept-repaired-requires-clause-new_name : goal.accept-repaired-requires-cla
 unfolding same_name
 accept-repaired-requires-clause-new_name g c =
     let x = c.args.x.now in
-    sym (c.if-contains.ensures ∙ c.self.invariant.names x.from x.number)
+    sym (c.if-has.ensures ∙ c.self.invariant.names x.from x.number)
 
 pub invariant_of-self-2 : goal.invariant_of-self-2
 unfolding same_name
 invariant_of-self-2 g c =
     let x = c.args.x.now in
     let new : list_any (same_name x) c.self.inside.stack.accepted ≡ false =
-    sym (c.if-contains.ensures ∙ c.self.invariant.names x.from x.number) in
+    sym (c.if-has.ensures ∙ c.self.invariant.names x.from x.number) in
     let bound = rw (← c.self.view_is) at c.last_clock-bound.ensures in
     let within = rw (← c.self.view_is) at c.requires.within_match in
     let spare = rw (← c.self.view_is) at c.requires.room in
+    let longer = length-append c.self.inside.names.items ((x.from, x.number) ∷ []) in
     rw (
       c.accept-repaired.ensures.state,
       c.push_reserved.ensures.items,
       c.push_reserved.ensures.capacity,
+      c.push_reserved-2.ensures,
     )
     (kept_taken c.self.invariant x c.from.result _ _ _ within spare new
     (on-time c.self.invariant x c.last_clock-bound.result bound c.if-x-bound.false)
     (c.from.ensures ∙ c.accept-repaired.ensures.repaired)
-    (λ from number. c.in-Ok.ensures.updates.0 (from, number)
-    ∙ rw (c.self.invariant.names from number)
-    (sym (has-push c.self.inside.stack.accepted x from number))) c.insert.ensures.spare
-    c.renew_due.ensures)
+    (has-push c.self.inside.names.items c.self.inside.stack.accepted x c.self.invariant.names)
+    (omega arith) c.renew_due.ensures)
 
 pub returns-clause-state : goal.returns-clause-state
 unfolding same_name
 returns-clause-state g c =
     let x = c.args.x.now in
     let new : list_any (same_name x) c.self.inside.stack.accepted ≡ false =
-    sym (c.if-contains.ensures ∙ c.self.invariant.names x.from x.number) in
+    sym (c.if-has.ensures ∙ c.self.invariant.names x.from x.number) in
     let bound = rw (← c.self.view_is) at c.last_clock-bound.ensures in
     rw (← c.self.view_is, c.accept-repaired.ensures.state, c.push_reserved.ensures.items)
     (sym (arrive_taken _ x new
@@ -121,7 +121,7 @@ unfolding same_name
 returns-clause-answer g c =
     let x = c.args.x.now in
     let new : list_any (same_name x) c.self.inside.stack.accepted ≡ false =
-    sym (c.if-contains.ensures ∙ c.self.invariant.names x.from x.number) in
+    sym (c.if-has.ensures ∙ c.self.invariant.names x.from x.number) in
     let bound = rw (← c.self.view_is) at c.last_clock-bound.ensures in
     rw (← c.self.view_is, c.accept-repaired.ensures.repaired)
     (arrive_taken _ x new

@@ -3,4 +3,4 @@ use Rattle.mirror_core.proofs.lazy.LazyMirror.has.Goals as goal
 
 pub returns : goal.returns
 returns g c =
-    rw (← c.self.view_is) (c.contains.ensures ∙ c.self.invariant.names c.args.from c.args.number)
+    rw (← c.self.view_is) (c.has.ensures ∙ c.self.invariant.names c.args.from c.args.number)

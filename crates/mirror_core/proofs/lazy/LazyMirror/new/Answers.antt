@@ -1,4 +1,4 @@
-use Rattle.std.proofs.Common.{◌≡◌, ◌∙◌, ap, sym, refl, length}
+use Rattle.std.proofs.Common.{◌≡◌, ◌∙◌, ap, sym, refl, length, arith}
 use Rattle.sync_model.specs.Schedule.{Schedule}
 use Rattle.sync_model.specs.State.{MirrorState}
 use Rattle.mirror_core.specs.Kept.{ticks_of_first, copies_of_first}
@@ -22,8 +22,10 @@ invariant_of-result g c =
       c.in_ok-new.ensures,
       c.in_ok-new-2.ensures,
       c.in_ok-lists.ensures.plans,
+      empty.0,
       empty.1,
       empty.2,
+      room.0,
       room.1,
       room.2,
       ticks,
@@ -32,8 +34,8 @@ invariant_of-result g c =
     )
     (kept_opened c.args.opening.now c.args.plans.now c.args.room c.args.restaggers _ _
     c.requires.some_plan c.requires.few_plans c.greatest.ensures.schedules
-    c.requires.equal_ticks c.requires.equal_copies c.requires.room c.requires.restaggers room.0
-    (λ from number. rw empty.0 refl))
+    c.requires.equal_ticks c.requires.equal_copies c.requires.room c.requires.restaggers (omega arith)
+    (λ from number. refl))
 
 pub returns : goal.returns
 returns g c =
