@@ -13,7 +13,7 @@ ghost use Rattle.divergence_check.specs.Divergence.{DiffersFirstAt};
 
 use executed_list::Segments;
 use game_trait::{Item, Tick};
-use pending_list::Buckets;
+use pending_list::InOrder;
 
 // Whether this item stands at a place of the list, or right behind its end.
 fn stands_at(run: &Segments, place: u32, item: &Item) -> bool
@@ -30,7 +30,7 @@ fn stands_at(run: &Segments, place: u32, item: &Item) -> bool
 /// commands in key order and their beat have, or none; `None` exactly where the whole tick stands
 /// there (this project's own form of the comparison of the paper of 2002). The given place is one
 /// of the list, or its end. The tick's commands begin at `start` in key order.
-pub fn diverges(run: &Segments, place: u32, list: &Buckets, start: u32, t: Tick) -> Option<u32>
+pub fn diverges(run: &Segments, place: u32, list: &InOrder, start: u32, t: Tick) -> Option<u32>
     requires place { place ≤ length run.now.items }
     requires start { start ≡ start_of list.now.all t }
     ensures none { (result ≡ None) ↔ IsPrefix (tick_of list.now.all t) (drop place run.now.items) }

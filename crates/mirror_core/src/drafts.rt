@@ -42,17 +42,18 @@ impl<G> Model for Draft<G> {
 
 impl<G: Game> Draft<G> {
     // The due tick of a copy of these, which is there and has so many commands at most.
-    fn of(copy: u8, epoch: u64, stack: &LazyStack<G>) -> Draft<G>
-        requires there { copy < length stack.now.runs }
-        requires fresh { stack.now.stale ≤ copy }
-        requires few { length (due_at stack.now.accepted (copy_clock stack.now.runs copy)) ≤ 64 }
-        ensures { result ≡ record {
+    fn of(copy: u8, epoch: u64, stack: &mut LazyStack<G>) -> Draft<G>
+        requires there { copy < length stack.old.runs }
+        requires fresh { stack.old.stale ≤ copy }
+        requires few { length (due_at stack.old.accepted (copy_clock stack.old.runs copy)) ≤ 64 }
+        ensures draft { result ≡ record {
           copy = copy;
           epoch = epoch;
-          clock = copy_clock stack.now.runs copy;
-          world = world_of G.rules stack.now.opening (slice_index_or stack.now.runs copy []);
-          commands = due_at stack.now.accepted (copy_clock stack.now.runs copy);
+          clock = copy_clock stack.old.runs copy;
+          world = world_of G.rules stack.old.opening (slice_index_or stack.old.runs copy []);
+          commands = due_at stack.old.accepted (copy_clock stack.old.runs copy);
         } }
+        ensures same { stack.new ≡ stack.old }
     {
         let mut commands = ArrayVec::new();
         stack.due_into(copy, &mut commands);
@@ -66,17 +67,18 @@ impl<G: Game> Draft<G> {
     }
 
     // Makes it such a tick, in its place.
-    fn set(&mut self, copy: u8, epoch: u64, stack: &LazyStack<G>)
-        requires there { copy < length stack.now.runs }
-        requires fresh { stack.now.stale ≤ copy }
-        requires few { length (due_at stack.now.accepted (copy_clock stack.now.runs copy)) ≤ 64 }
-        ensures { self.new ≡ record {
+    fn set(&mut self, copy: u8, epoch: u64, stack: &mut LazyStack<G>)
+        requires there { copy < length stack.old.runs }
+        requires fresh { stack.old.stale ≤ copy }
+        requires few { length (due_at stack.old.accepted (copy_clock stack.old.runs copy)) ≤ 64 }
+        ensures draft { self.new ≡ record {
           copy = copy;
           epoch = epoch;
-          clock = copy_clock stack.now.runs copy;
-          world = world_of G.rules stack.now.opening (slice_index_or stack.now.runs copy []);
-          commands = due_at stack.now.accepted (copy_clock stack.now.runs copy);
+          clock = copy_clock stack.old.runs copy;
+          world = world_of G.rules stack.old.opening (slice_index_or stack.old.runs copy []);
+          commands = due_at stack.old.accepted (copy_clock stack.old.runs copy);
         } }
+        ensures same { stack.new ≡ stack.old }
     {
         self.copy = copy;
         self.epoch = epoch;
@@ -233,17 +235,18 @@ impl<G: Game> Drafted<G> {
 
     // Makes it the due tick of a copy of these, which is there and has so many commands at most.
     // Where it was a draft before, the new one takes its place.
-    pub(crate) fn put(&mut self, copy: u8, epoch: u64, stack: &LazyStack<G>)
-        requires there { copy < length stack.now.runs }
-        requires fresh { stack.now.stale ≤ copy }
-        requires few { length (due_at stack.now.accepted (copy_clock stack.now.runs copy)) ≤ 64 }
-        ensures { self.new ≡ Drafted.Draft (record {
+    pub(crate) fn put(&mut self, copy: u8, epoch: u64, stack: &mut LazyStack<G>)
+        requires there { copy < length stack.old.runs }
+        requires fresh { stack.old.stale ≤ copy }
+        requires few { length (due_at stack.old.accepted (copy_clock stack.old.runs copy)) ≤ 64 }
+        ensures draft { self.new ≡ Drafted.Draft (record {
           copy = copy;
           epoch = epoch;
-          clock = copy_clock stack.now.runs copy;
-          world = world_of G.rules stack.now.opening (slice_index_or stack.now.runs copy []);
-          commands = due_at stack.now.accepted (copy_clock stack.now.runs copy);
+          clock = copy_clock stack.old.runs copy;
+          world = world_of G.rules stack.old.opening (slice_index_or stack.old.runs copy []);
+          commands = due_at stack.old.accepted (copy_clock stack.old.runs copy);
         }) }
+        ensures same { stack.new ≡ stack.old }
     {
         if let Drafted::Draft(draft) = self {
             draft.set(copy, epoch, stack);

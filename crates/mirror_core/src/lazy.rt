@@ -257,12 +257,13 @@ impl<G: Game> LazyMirror<G> {
 
     /// What `Mirror::draft_into` does, where no world is still to be made.
     #[inline(always)]
-    pub fn draft_into(&self, copy: u8, drafted: &mut Drafted<G>)
-        requires there { copy < length self.now.state.runs }
-        requires fresh { self.now.stale ≡ 0 }
-        ensures answer { drafted.new ≡ drafted_by G.rules self.now.state copy }
+    pub fn draft_into(&mut self, copy: u8, drafted: &mut Drafted<G>)
+        requires there { copy < length self.old.state.runs }
+        requires fresh { self.old.stale ≡ 0 }
+        ensures answer { drafted.new ≡ drafted_by G.rules self.old.state copy }
         ensures fits { IfDraft drafted.new
-            (λ d. FitsReady G.rules self.now.state (ready_of G.rules d)) }
+            (λ d. FitsReady G.rules self.old.state (ready_of G.rules d)) }
+        ensures same { self.new ≡ self.old }
     {
         if self.stack.clock(copy) >= self.limit(copy) {
             drafted.put_idle();
@@ -273,7 +274,7 @@ impl<G: Game> LazyMirror<G> {
             *drafted = Drafted::Wide { commands };
             return;
         }
-        drafted.put(copy, self.epochs.of(copy), &self.stack);
+        drafted.put(copy, self.epochs.of(copy), &mut self.stack);
     }
 
     /// What `Mirror::commit` does. Worlds may be left to be made.

@@ -166,12 +166,14 @@ impl<G: Game> Mirror<G> {
     /// The copy's due tick, to be executed away from the mirror and then committed. The copy is
     /// there. Where it stands at its limit the answer is Idle; else, where more than 64 commands
     /// are due at its clock, Wide, with how many; else the draft, which fits, once it is run, what
-    /// the mirror is now and whatever it becomes.
+    /// the mirror is now and whatever it becomes. Contracts see no change of the mirror: commands that
+    /// came since the last step are put in key order.
     #[inline(always)]
-    pub fn draft(&self, copy: u8) -> Drafted<G>
-        requires { copy < length self.now.runs }
-        ensures answer { result ≡ drafted_by G.rules self.now copy }
-        ensures fits { IfDraft result (λ d. FitsReady G.rules self.now (ready_of G.rules d)) }
+    pub fn draft(&mut self, copy: u8) -> Drafted<G>
+        requires { copy < length self.old.runs }
+        ensures answer { result ≡ drafted_by G.rules self.old copy }
+        ensures fits { IfDraft result (λ d. FitsReady G.rules self.old (ready_of G.rules d)) }
+        ensures same { self.new ≡ self.old }
     {
         let mut drafted = Drafted::Idle;
         self.inner.draft_into(copy, &mut drafted);
@@ -181,10 +183,11 @@ impl<G: Game> Mirror<G> {
     /// Puts what `draft` answers in the place of what was answered before. Where both are drafts,
     /// the new one's world and commands are written over the old one's, and nothing is moved.
     #[inline(always)]
-    pub fn draft_into(&self, copy: u8, drafted: &mut Drafted<G>)
-        requires { copy < length self.now.runs }
-        ensures answer { drafted.new ≡ drafted_by G.rules self.now copy }
-        ensures fits { IfDraft drafted.new (λ d. FitsReady G.rules self.now (ready_of G.rules d)) }
+    pub fn draft_into(&mut self, copy: u8, drafted: &mut Drafted<G>)
+        requires { copy < length self.old.runs }
+        ensures answer { drafted.new ≡ drafted_by G.rules self.old copy }
+        ensures fits { IfDraft drafted.new (λ d. FitsReady G.rules self.old (ready_of G.rules d)) }
+        ensures same { self.new ≡ self.old }
     {
         self.inner.draft_into(copy, drafted);
     }

@@ -106,9 +106,10 @@ impl<G: Game> LockReply<G> {
 
     // Makes it what the mirror answers where a draft of this copy, which is there, is asked for, in
     // the place of the answer before.
-    pub(crate) fn put_draft(&mut self, mirror: &Mirror<G>, copy: u8)
-        requires { copy < length mirror.now.runs }
-        ensures { self.new ≡ LockReply.Draft (drafted G.rules mirror.now copy) }
+    pub(crate) fn put_draft(&mut self, mirror: &mut Mirror<G>, copy: u8)
+        requires { copy < length mirror.old.runs }
+        ensures draft { self.new ≡ LockReply.Draft (drafted G.rules mirror.old copy) }
+        ensures same { mirror.new ≡ mirror.old }
     {
         if let LockReply::Draft(place) = self {
             mirror.draft_into(copy, place);

@@ -61,7 +61,7 @@ impl<G: Game> Held for HeldMirror<G> {
     fn answer(&mut self, call: &LockCall<G>, reply: &mut LockReply<G>) {
         match call {
             LockCall::Event(event) => reply.put_event(self.mirror.make(event)),
-            LockCall::Draft { copy, times: _ } => reply.put_draft(&self.mirror, *copy),
+            LockCall::Draft { copy, times: _ } => reply.put_draft(&mut self.mirror, *copy),
             LockCall::Commit(ready) => reply.put_commit(self.mirror.commit(ready)),
         }
     }

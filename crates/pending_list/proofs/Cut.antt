@@ -22,7 +22,7 @@ get-drop (suc n) i [] d = nothing i
     nothing (suc i) = refl
 get-drop (suc n) i (x ∷ xs) d = (let e : suc n + i ≡ suc (n + i) = omega arith in rw e (get-drop n i xs d))
 
-get-take : {X : Type 0} (n i : ℕ) (xs : List X) (d : X) → i < n → get_or (take n xs) i d ≡ get_or xs i d
+pub get-take : {X : Type 0} (n i : ℕ) (xs : List X) (d : X) → i < n → get_or (take n xs) i d ≡ get_or xs i d
 get-take zero i xs d below = absurd (omega arith)
 get-take (suc n) i [] d below = refl
 get-take (suc n) zero (x ∷ xs) d below = refl
@@ -144,7 +144,9 @@ pub record IsPutUpto (xs ys : List Placed) (buckets : List (List Placed)) (i : �
   pub over_is : over ≡ slice_get ys (2048 * i + 2048)
 
 -- a bucket among others
-get-set : (buckets : List (List Placed)) (i k : ℕ) (bucket other : List Placed) → i < length buckets → (k ≡ i → bucket ≡ other) → ((k ≡ i → ⊥) → get_or buckets k [] ≡ other) → get_or (set buckets i bucket) k [] ≡ other
+pub get-set :
+    (buckets : List (List Placed)) (i k : ℕ) (bucket other : List Placed) → i < length buckets → (k ≡ i → bucket ≡ other)
+    → ((k ≡ i → ⊥) → get_or buckets k [] ≡ other) → get_or (set buckets i bucket) k [] ≡ other
 get-set buckets i k bucket other there same apart =
     ⊎_elim
     (λ (e : k ≡ i). ap (λ (n : ℕ). get_or (set buckets i bucket) n []) e ∙ get_or-set_same buckets i bucket [] there ∙ same e)

@@ -3,3 +3,5 @@ mod Puts
 mod Slots
 pub mod Walks
 mod Kept
+mod Sorting
+mod Filled

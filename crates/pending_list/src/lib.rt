@@ -2,7 +2,10 @@
 #![tactic(auto)]
 
 mod buckets;
+mod in_order;
+mod keyed;
 mod order;
 mod sized;
 
 pub use buckets::Buckets;
+pub use in_order::InOrder;

@@ -15,11 +15,14 @@ use std::marker::Model;
 // How often the step of the exponential search grows.
 const STRIDE: usize = 64;
 
-/// Commands in key order, as buckets of their slots. Contracts see the commands in that order.
+/// Some of the commands, in key order, as buckets of their slots. Contracts see the commands in that
+/// order.
 #[derive(Drop)]
 pub struct KeyOrder<'a> {
     commands: &'a Vec<Command>,
     buckets: &'a Vec<VecDeque<Placed>>,
+    // how many stand there
+    len: usize,
 }
 
 impl<'a> Model for KeyOrder<'a> {
@@ -32,17 +35,25 @@ impl<'a> Model for KeyOrder<'a> {
 
     ghost view = { λ k. commands_at k.commands.now.items (joined (map (λ b. b.items) k.buckets.now.items)) };
 
-    ghost invariant = { λ k. AreSlots k.commands.now.items (map (λ b. b.items) k.buckets.now.items) };
+    ghost invariant = { λ k. AreSlots k.commands.now.items (map (λ b. b.items) k.buckets.now.items) k.len };
 }
 
 impl<'a> KeyOrder<'a> {
-    /// The commands in the order in which their slots stand.
+    /// The commands in the order in which their slots stand, so many.
     #[inline(always)]
-    pub fn new(commands: &'a Vec<Command>, buckets: &'a Vec<VecDeque<Placed>>) -> KeyOrder<'a>
-        requires { AreSlots commands.now.items (map (λ b. b.items) buckets.now.items) }
+    pub fn new(
+        commands: &'a Vec<Command>,
+        buckets: &'a Vec<VecDeque<Placed>>,
+        len: usize,
+    ) -> KeyOrder<'a>
+        requires { AreSlots commands.now.items (map (λ b. b.items) buckets.now.items) len }
         ensures { result ≡ commands_at commands.now.items (joined (map (λ b. b.items) buckets.now.items)) }
     {
-        KeyOrder { commands, buckets }
+        KeyOrder {
+            commands,
+            buckets,
+            len,
+        }
     }
 
     /// How many commands there are.
@@ -50,7 +61,7 @@ impl<'a> KeyOrder<'a> {
     pub fn len(&self) -> usize
         ensures { result ≡ length self.now }
     {
-        self.commands.len()
+        self.len
     }
 
     /// Whether the command at a place in the order stands before another.

@@ -6,7 +6,9 @@ ghost use Rattle.std.specs.Prelude.{slice_index_or, IfOk, vec_len};
 ghost use Rattle.std.specs.List.{AllByRecursion, insert};
 ghost use Rattle.std.specs.VecDeque.{deque_len, deque_capacity};
 ghost use Rattle.pending_list.specs.Sized.{joined, AreBuckets};
+ghost use Rattle.pending_list.specs.Keyed.{placed_of};
 
+use crate::keyed::Keyed;
 use game_trait::Tick;
 use std::alloc::Global;
 use std::collections::VecDeque;
@@ -136,5 +138,40 @@ pub fn put_at(buckets: &mut Vec<VecDeque<Placed>>, place: usize, placed: Placed)
     while let Some(next) = over {
         i += 1;
         over = put_first(&mut buckets[i], next);
+    }
+}
+
+// Takes out all that the buckets hold.
+fn empty(buckets: &mut Vec<VecDeque<Placed>>)
+    requires { AllByRecursion (λ b. 2048 ≤ deque_capacity b) buckets.old.items }
+    ensures items { joined (map (λ b. b.items) buckets.new.items) ≡ [] }
+    ensures cut { AreBuckets [] (map (λ b. b.items) buckets.new.items) }
+    ensures len { length buckets.new.items ≡ length buckets.old.items }
+    ensures capacities { AllByRecursion (λ b. 2048 ≤ deque_capacity b) buckets.new.items }
+{
+    for i in 0..buckets.len() {
+        buckets[i].clear();
+    }
+}
+
+/// Puts the slots of sorted commands in the place of all that the buckets hold, where there is room
+/// for them.
+pub fn fill(buckets: &mut Vec<VecDeque<Placed>>, keyed: &[Keyed])
+    requires room { length keyed.now < 2048 * length buckets.old.items }
+    requires capacities { AllByRecursion (λ b. 2048 ≤ deque_capacity b) buckets.old.items }
+    ensures items { joined (map (λ b. b.items) buckets.new.items) ≡ map placed_of keyed.now }
+    ensures cut { AreBuckets (joined (map (λ b. b.items) buckets.new.items)) (map (λ b. b.items) buckets.new.items) }
+    ensures len { length buckets.new.items ≡ length buckets.old.items }
+    ensures capacities { AllByRecursion (λ b. 2048 ≤ deque_capacity b) buckets.new.items }
+{
+    empty(buckets);
+    let mut place = 0;
+    for y in keyed {
+        let placed = Placed {
+            time: y.time,
+            slot: y.slot,
+        };
+        put_at(buckets, place, placed);
+        place += 1;
     }
 }

@@ -9,13 +9,13 @@ ghost use Rattle.pending_list.specs.Buckets.{start_of};
 
 use executed_list::Segments;
 use game_trait::{Game, Item, Tick};
-use pending_list::Buckets;
+use pending_list::InOrder;
 
 // Executes a tick's commands in key order, from their start on, and appends them. Answers where the
 // next tick's begin.
 fn replay_commands<G: Game>(
     world: &mut G,
-    list: &Buckets,
+    list: &InOrder,
     start: u32,
     t: Tick,
     run: &mut Segments,
@@ -40,7 +40,7 @@ fn replay_commands<G: Game>(
 // next tick's begin.
 fn replay_tick<G: Game>(
     world: &mut G,
-    list: &Buckets,
+    list: &InOrder,
     start: u32,
     t: Tick,
     run: &mut Segments,
@@ -60,7 +60,7 @@ fn replay_tick<G: Game>(
 /// Executes the ticks from `start` up to `stop` in time order, and appends each item, for which
 /// there is room, to the list. One search finds the first tick's commands; those of the ticks
 /// behind follow them.
-pub fn replay<G: Game>(world: &mut G, list: &Buckets, start: Tick, stop: Tick, run: &mut Segments)
+pub fn replay<G: Game>(world: &mut G, list: &InOrder, start: Tick, stop: Tick, run: &mut Segments)
     requires order { start ≤ stop }
     requires room { length (ordered list.now.all start stop) ≤ run.old.spare }
     ensures run { run.new ≡ run_grown run.old (ordered list.now.all start stop) }

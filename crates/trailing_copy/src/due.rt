@@ -6,12 +6,12 @@ ghost use Rattle.pending_list.specs.Buckets.{start_of};
 
 use arrayvec::ArrayVec;
 use game_trait::{Command, Tick};
-use pending_list::Buckets;
+use pending_list::InOrder;
 
 /// Puts a tick's commands, which begin at `start` in key order, in the place of others. They are no
 /// more than the list holds.
 pub fn due_into<const N: usize>(
-    list: &Buckets,
+    list: &InOrder,
     start: u32,
     t: Tick,
     commands: &mut ArrayVec<Command, N>,

@@ -154,21 +154,15 @@ impl<G: Game> LazyStack<G> {
         let t = self.run.beats(copy);
         let start = self.due_start(copy);
         let clocks = kept_with(self.run.clocks(), copy, t + 1);
+        self.list.settle();
+        let list = self.list.in_order();
         self.run.cut(copy);
         let from = self.run.len();
-        append_tick(&self.list, start, t, &mut self.run);
+        append_tick(&list, start, t, &mut self.run);
         let _ = self.run.len();
-        execute_or_put(
-            &mut self.worlds,
-            self.stale,
-            copy,
-            &self.list,
-            start,
-            t,
-            given,
-        );
+        execute_or_put(&mut self.worlds, self.stale, copy, &list, start, t, given);
         bring_to_list_end(&mut self.run, copy, from);
-        remake_runs_ahead(&mut self.run, &self.list, &clocks, copy);
+        remake_runs_ahead(&mut self.run, &list, &clocks, copy);
         let stale = self.stale.max(copy);
         let settled = settled_by(copy, self.settled);
         self.stale = stale;
@@ -196,31 +190,27 @@ impl<G: Game> LazyStack<G> {
         let _ = self.run.len();
         let t = self.run.beats(copy);
         let start = self.due_start(copy);
-        let by = execute_or_put(
-            &mut self.worlds,
-            self.stale,
-            copy,
-            &self.list,
-            start,
-            t,
-            given,
-        );
+        self.list.settle();
+        let list = self.list.in_order();
+        let by = execute_or_put(&mut self.worlds, self.stale, copy, &list, start, t, given);
         self.run.pass(copy, by);
     }
 
-    // Whether the run ahead begins with the copy's run and its due tick.
-    fn is_front(&self, copy: u8) -> bool
-        requires copy { (0 < copy) × (copy < length self.now.runs) }
-        requires behind { copy_clock self.now.runs copy < copy_clock self.now.runs (copy - 1) }
-        ensures { result
-            ≡ begins_with (slice_index_or self.now.runs (copy - 1) [])
-            (with_tick self.now.accepted (slice_index_or self.now.runs copy [])) }
+    // Whether the run ahead begins with the copy's run and its due tick. Contracts see no change.
+    fn is_front(&mut self, copy: u8) -> bool
+        requires copy { (0 < copy) × (copy < length self.old.runs) }
+        requires behind { copy_clock self.old.runs copy < copy_clock self.old.runs (copy - 1) }
+        ensures front { result
+            ≡ begins_with (slice_index_or self.old.runs (copy - 1) [])
+            (with_tick self.old.accepted (slice_index_or self.old.runs copy [])) }
+        ensures same { self.new ≡ self.old }
     {
         let _ = self.run.len();
         let t = self.run.beats(copy);
         let start = self.due_start(copy);
         let place = self.run.end(copy);
-        diverges(&self.run, place, &self.list, start, t).is_none()
+        self.list.settle();
+        diverges(&self.run, place, &self.list.in_order(), start, t).is_none()
     }
 
     // The due tick of a copy, as `run_tick` says it, or where the copy's world after it is given, as
@@ -333,7 +323,8 @@ impl<G: Game> LazyStack<G> {
         let from = self.run.len();
         self.run.push(&Item::Cmd(*x));
         bring_to_list_end(&mut self.run, last, from);
-        remake_runs_ahead(&mut self.run, &self.list, &clocks, first);
+        self.list.settle();
+        remake_runs_ahead(&mut self.run, &self.list.in_order(), &clocks, first);
     }
 
     // The arrival of a command that is late at no copy.
@@ -427,27 +418,34 @@ impl<G: Game> LazyStack<G> {
     }
 
     /// How many of the accepted commands are due at the copy's clock. The copy is there, and hasn't
-    /// run all ticks.
-    pub fn due_len(&self, copy: u8) -> u32
-        requires there { copy < length self.now.runs }
-        requires below { copy_clock self.now.runs copy < self.now.ticks }
-        ensures { result ≡ length (due_at self.now.accepted (copy_clock self.now.runs copy)) }
+    /// run all ticks. Commands that came since the last tick are put in key order; contracts see no
+    /// change.
+    pub fn due_len(&mut self, copy: u8) -> u32
+        requires there { copy < length self.old.runs }
+        requires below { copy_clock self.old.runs copy < self.old.ticks }
+        ensures len { result ≡ length (due_at self.old.accepted (copy_clock self.old.runs copy)) }
+        ensures same { self.new ≡ self.old }
     {
         let _ = self.run.len();
         let start = self.due_start(copy);
-        self.list.end(start, self.run.beats(copy)) - start
+        self.list.settle();
+        self.list.in_order().end(start, self.run.beats(copy)) - start
     }
 
     /// Puts the accepted commands that are due at the copy's clock, in key order, in the place of
-    /// others. The copy is there, and they are no more than the list holds.
-    pub fn due_into<const N: usize>(&self, copy: u8, commands: &mut ArrayVec<Command, N>)
-        requires there { copy < length self.now.runs }
-        requires few { length (due_at self.now.accepted (copy_clock self.now.runs copy)) ≤ N }
-        ensures { commands.new.items ≡ due_at self.now.accepted (copy_clock self.now.runs copy) }
+    /// others. The copy is there, and they are no more than the list holds. Commands that came since
+    /// the last tick are put in key order; contracts see no change.
+    pub fn due_into<const N: usize>(&mut self, copy: u8, commands: &mut ArrayVec<Command, N>)
+        requires there { copy < length self.old.runs }
+        requires few { length (due_at self.old.accepted (copy_clock self.old.runs copy)) ≤ N }
+        ensures due { commands.new.items
+            ≡ due_at self.old.accepted (copy_clock self.old.runs copy) }
+        ensures same { self.new ≡ self.old }
     {
         let _ = self.run.len();
         let start = self.due_start(copy);
-        due_into(&self.list, start, self.run.beats(copy), commands);
+        self.list.settle();
+        due_into(&self.list.in_order(), start, self.run.beats(copy), commands);
     }
 
     /// The copy's clock: how many ticks it has run. The copy is there.

@@ -174,21 +174,24 @@ impl<G: Game> CopyStack<G> {
     }
 
     /// How many of the accepted commands are due at the copy's clock. The copy is there, and hasn't
-    /// run all ticks.
-    pub fn due_len(&self, copy: u8) -> u32
-        requires there { copy < length self.now.runs }
-        requires below { copy_clock self.now.runs copy < self.now.ticks }
-        ensures { result ≡ length (due_at self.now.accepted (copy_clock self.now.runs copy)) }
+    /// run all ticks. Contracts see no change.
+    pub fn due_len(&mut self, copy: u8) -> u32
+        requires there { copy < length self.old.runs }
+        requires below { copy_clock self.old.runs copy < self.old.ticks }
+        ensures len { result ≡ length (due_at self.old.accepted (copy_clock self.old.runs copy)) }
+        ensures same { self.new ≡ self.old }
     {
         self.inner.due_len(copy)
     }
 
     /// Puts the accepted commands that are due at the copy's clock, in key order, in the place of
-    /// others. The copy is there, and they are no more than the list holds.
-    pub fn due_into<const N: usize>(&self, copy: u8, commands: &mut ArrayVec<Command, N>)
-        requires there { copy < length self.now.runs }
-        requires few { length (due_at self.now.accepted (copy_clock self.now.runs copy)) ≤ N }
-        ensures { commands.new.items ≡ due_at self.now.accepted (copy_clock self.now.runs copy) }
+    /// others. The copy is there, and they are no more than the list holds. Contracts see no change.
+    pub fn due_into<const N: usize>(&mut self, copy: u8, commands: &mut ArrayVec<Command, N>)
+        requires there { copy < length self.old.runs }
+        requires few { length (due_at self.old.accepted (copy_clock self.old.runs copy)) ≤ N }
+        ensures due { commands.new.items
+            ≡ due_at self.old.accepted (copy_clock self.old.runs copy) }
+        ensures same { self.new ≡ self.old }
     {
         self.inner.due_into(copy, commands);
     }

@@ -8,7 +8,7 @@ ghost use Rattle.pending_list.specs.Buckets.{start_of};
 ghost use Rattle.trailing_copy.specs.Stack.{put_unless_stale, world_after};
 
 use game_trait::{Game, Tick};
-use pending_list::Buckets;
+use pending_list::InOrder;
 use repair_copy::{execute_tick, tick_len};
 
 // Executes a tick on the copy's world, unless that is one of the first `stale`, which are still to
@@ -17,7 +17,7 @@ fn execute_at<G: Game>(
     worlds: &mut Vec<G>,
     stale: u8,
     copy: u8,
-    list: &Buckets,
+    list: &InOrder,
     start: u32,
     t: Tick,
 ) -> u32
@@ -56,7 +56,7 @@ pub fn execute_or_put<G: Game>(
     worlds: &mut Vec<G>,
     stale: u8,
     copy: u8,
-    list: &Buckets,
+    list: &InOrder,
     start: u32,
     t: Tick,
     given: Option<&G>,

@@ -17,4 +17,4 @@ returns-clause-fits g c =
     c.clock.ensures (rw (← c.self.view_is) at c.limit.ensures) c.if-clock-limit.false in
     rw (← c.self.view_is)
     (put-fits c.self.invariant g.G.Game.rules c.put.new.self c.args.copy _
-    c.of.result there more c.put.ensures refl c.of.ensures)
+    c.of.result there more (rw c.due_len-commands.ensures.same at c.put.ensures.draft) refl c.of.ensures)

@@ -74,7 +74,8 @@ remake_runs_ahead-requires-clause-room g c =
     (rw (← c.self.view_is) at c.requires.new_name) (rw (← c.self.view_is) at c.requires.due)
     late c.requires.order (rw (← c.self.view_is) at c.requires.level) in
     let grown = c.push.ensures ∙ grown-push c.cut.new.self _ in
-    rw (c.deref.ensures.0, c.kept-clocks.ensures, c.clocks.ensures, c.insert.ensures) (given c.self.invariant.0 c.len.ensures.falls c.len.ensures.first change c.cut.ensures grown
+    rw (c.deref.ensures.0, c.kept-clocks.ensures, c.clocks.ensures, c.in_order.ensures, c.settle.ensures, c.insert.ensures)
+    (given c.self.invariant.0 c.len.ensures.falls c.len.ensures.first change c.cut.ensures grown
     c.bring_to_list_end.ensures).room
 
 pub insert-requires-then-last-settled-clause-room : goal.insert-requires-then-last-settled-clause-room
@@ -148,9 +149,9 @@ invariant_of-self-2 g c =
     c.max-stale.result c.args.last c.apply_to_each.new.worlds.items (omega arith) change.there
     (λ i from upto. (rw (← c.self.view_is) at c.requires.level) i (omega arith) upto)
     c.apply_to_each.ensures.each c.apply_to_each.ensures.behind (omega arith) in
-    let items = rw (c.deref.ensures.0, c.kept-clocks.ensures, c.clocks.ensures, c.insert.ensures) at c.remake_runs_ahead.ensures.items in
-    let ends = rw (c.deref.ensures.0, c.kept-clocks.ensures, c.clocks.ensures, c.insert.ensures) at c.remake_runs_ahead.ensures.ends in
-    rw c.insert.ensures (kept-own
+    let items = rw (c.deref.ensures.0, c.kept-clocks.ensures, c.clocks.ensures, c.in_order.ensures, c.settle.ensures, c.insert.ensures) at c.remake_runs_ahead.ensures.items in
+    let ends = rw (c.deref.ensures.0, c.kept-clocks.ensures, c.clocks.ensures, c.in_order.ensures, c.settle.ensures, c.insert.ensures) at c.remake_runs_ahead.ensures.ends in
+    rw (c.settle.ensures, c.insert.ensures) (kept-own
     (kept-stale c.self.invariant.0 c.len.ensures.falls c.len.ensures.first change
     c.cut.ensures grown c.bring_to_list_end.ensures c.remake_runs_ahead.new.run items ends
     c.remake_runs_ahead.ensures.spare c.max-stale.result (omega arith) (omega arith) (omega arith) put)
@@ -166,9 +167,9 @@ returns g c =
     (rw (← c.self.view_is) at c.requires.new_name) (rw (← c.self.view_is) at c.requires.due)
     late c.requires.order (rw (← c.self.view_is) at c.requires.level) in
     let grown = c.push.ensures ∙ grown-push c.cut.new.self _ in
-    rw (← c.self.view_is, c.insert.ensures, c.max-stale.ensures) (same-state _ _ _ _ _ _ _
+    rw (← c.self.view_is, c.settle.ensures, c.insert.ensures, c.max-stale.ensures) (same-state _ _ _ _ _ _ _
     (runs-remade c.self.invariant.0 c.len.ensures.falls c.len.ensures.first change c.cut.ensures
     grown c.bring_to_list_end.ensures c.remake_runs_ahead.new.run
-    (rw (c.deref.ensures.0, c.kept-clocks.ensures, c.clocks.ensures, c.insert.ensures) at c.remake_runs_ahead.ensures.items)
-    (rw (c.deref.ensures.0, c.kept-clocks.ensures, c.clocks.ensures, c.insert.ensures) at c.remake_runs_ahead.ensures.ends)
+    (rw (c.deref.ensures.0, c.kept-clocks.ensures, c.clocks.ensures, c.in_order.ensures, c.settle.ensures, c.insert.ensures) at c.remake_runs_ahead.ensures.items)
+    (rw (c.deref.ensures.0, c.kept-clocks.ensures, c.clocks.ensures, c.in_order.ensures, c.settle.ensures, c.insert.ensures) at c.remake_runs_ahead.ensures.ends)
     c.remake_runs_ahead.ensures.spare))

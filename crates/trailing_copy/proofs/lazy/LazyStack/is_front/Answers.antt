@@ -16,16 +16,19 @@ diverges-requires-clause-place g c =
 pub diverges-requires-clause-start : goal.diverges-requires-clause-start
 diverges-requires-clause-start g c =
     let there = (rw (← c.self.view_is) at c.requires.copy).1 in
-    start-at c.self.invariant.0 c.len.ensures.falls c.len.ensures.first c.args.copy c.beats-t.result _ there
+    rw (c.in_order.ensures, c.settle.ensures) (start-at c.self.invariant.0 c.len.ensures.falls c.len.ensures.first c.args.copy c.beats-t.result _ there
     (clock-own _ _ c.args.copy c.beats-t.result there c.beats-t.ensures)
-    (rw (← c.self.view_is) at c.due_start-start.ensures)
+    (rw (← c.self.view_is) at c.due_start-start.ensures))
 
-pub returns : goal.returns
-returns g c =
+pub invariant_of-self : goal.invariant_of-self
+invariant_of-self g c = rw c.settle.ensures c.self.invariant
+
+pub returns-clause-front : goal.returns-clause-front
+returns-clause-front g c =
     let there = rw (← c.self.view_is) at c.requires.copy in
     rw (← c.self.view_is)
     (none-told c.is_none.result c.diverges.result c.is_none.ensures
-    ∙ none-stands c.diverges.result _ _ (rw c.end-place.ensures at c.diverges.ensures.none)
+    ∙ none-stands c.diverges.result _ _ (rw (c.end-place.ensures, c.in_order.ensures, c.settle.ensures) at c.diverges.ensures.none)
     ∙ test-same c.self.invariant.0 c.len.ensures.falls c.len.ensures.first c.args.copy
     c.beats-t.result there.0 there.1 (clock-own _ _ c.args.copy c.beats-t.result there.1 c.beats-t.ensures)
     (rw (← c.self.view_is) at c.requires.behind))

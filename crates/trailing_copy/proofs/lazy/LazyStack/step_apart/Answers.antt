@@ -16,81 +16,89 @@ append_tick-requires-clause-room g c =
     apart-change c.self.invariant.0 c.len.ensures.falls c.len.ensures.first c.args.copy
     c.beats-t.result there at (rw (← c.self.view_is) at c.requires.below)
     (rw (← c.self.view_is) at c.requires.behind) (rw (← c.self.view_is) at c.requires.apart) in
-    room-before c.self.invariant.0 c.len.ensures.falls c.len.ensures.first change c.cut.ensures
+    rw (c.in_order-list.ensures, c.settle.ensures)
+    (room-before c.self.invariant.0 c.len.ensures.falls c.len.ensures.first change c.cut.ensures)
 
 pub append_tick-requires-clause-start : goal.append_tick-requires-clause-start
 append_tick-requires-clause-start g c =
     let there = rw (← c.self.view_is) at c.requires.copy in
-    start-at c.self.invariant.0 c.len.ensures.falls c.len.ensures.first c.args.copy c.beats-t.result _ there
+    rw (c.in_order-list.ensures, c.settle.ensures)
+    (start-at c.self.invariant.0 c.len.ensures.falls c.len.ensures.first c.args.copy c.beats-t.result _ there
     (clock-own _ _ c.args.copy c.beats-t.result there c.beats-t.ensures)
-    (rw (← c.self.view_is) at c.due_start-start.ensures)
+    (rw (← c.self.view_is) at c.due_start-start.ensures))
 
 pub execute_or_put-requires-clause-start : goal.execute_or_put-requires-clause-start
 execute_or_put-requires-clause-start g c =
     let there = rw (← c.self.view_is) at c.requires.copy in
-    start-at c.self.invariant.0 c.len.ensures.falls c.len.ensures.first c.args.copy c.beats-t.result _ there
+    rw (c.in_order-list.ensures, c.settle.ensures)
+    (start-at c.self.invariant.0 c.len.ensures.falls c.len.ensures.first c.args.copy c.beats-t.result _ there
     (clock-own _ _ c.args.copy c.beats-t.result there c.beats-t.ensures)
-    (rw (← c.self.view_is) at c.due_start-start.ensures)
+    (rw (← c.self.view_is) at c.due_start-start.ensures))
 
 pub execute_or_put-requires-clause-few : goal.execute_or_put-requires-clause-few
 execute_or_put-requires-clause-few g c =
-    let grown = ap (λ (l : OneList). length l.items) c.append_tick.ensures in
+    let grown = ap (λ (l : OneList). length l.items) (rw (c.in_order-list.ensures, c.settle.ensures) at c.append_tick.ensures) in
     let both = length-append c.cut.new.self.items (tick_of c.self.inside.list.all c.beats-t.result) in
     let len = c.len-2.ensures.len in
     let small = c.len-2.type_inv in
-    omega arith
+    rw (c.in_order-list.ensures, c.settle.ensures) (omega arith)
 
 pub bring_to_list_end-requires-clause-at : goal.bring_to_list_end-requires-clause-at
 bring_to_list_end-requires-clause-at g c =
     let there = rw (← c.self.view_is) at c.requires.copy in
     let at = clock-own _ _ c.args.copy c.beats-t.result there c.beats-t.ensures in
+    let appended = rw (c.in_order-list.ensures, c.settle.ensures) at c.append_tick.ensures in
     let change =
     apart-change c.self.invariant.0 c.len.ensures.falls c.len.ensures.first c.args.copy
     c.beats-t.result there at (rw (← c.self.view_is) at c.requires.below)
     (rw (← c.self.view_is) at c.requires.behind) (rw (← c.self.view_is) at c.requires.apart) in
     λ j some upto. ends-at c.self.invariant.0 c.len.ensures.falls c.len.ensures.first change
-    c.cut.ensures c.append_tick.ensures j some upto ∙ sym c.len-from.ensures.len
+    c.cut.ensures appended j some upto ∙ sym c.len-from.ensures.len
 
 pub remake_runs_ahead-requires-clause-clock : goal.remake_runs_ahead-requires-clause-clock
 remake_runs_ahead-requires-clause-clock g c =
     let there = rw (← c.self.view_is) at c.requires.copy in
     let at = clock-own _ _ c.args.copy c.beats-t.result there c.beats-t.ensures in
+    let appended = rw (c.in_order-list.ensures, c.settle.ensures) at c.append_tick.ensures in
     let change =
     apart-change c.self.invariant.0 c.len.ensures.falls c.len.ensures.first c.args.copy
     c.beats-t.result there at (rw (← c.self.view_is) at c.requires.below)
     (rw (← c.self.view_is) at c.requires.behind) (rw (← c.self.view_is) at c.requires.apart) in
     rw (c.deref.ensures.0, c.kept_with-clocks.ensures, c.clocks.ensures) (given c.self.invariant.0 c.len.ensures.falls c.len.ensures.first change
     c.cut.ensures
-    c.append_tick.ensures c.bring_to_list_end.ensures).clock
+    appended c.bring_to_list_end.ensures).clock
 
 pub remake_runs_ahead-requires-clause-falls : goal.remake_runs_ahead-requires-clause-falls
 remake_runs_ahead-requires-clause-falls g c =
     let there = rw (← c.self.view_is) at c.requires.copy in
     let at = clock-own _ _ c.args.copy c.beats-t.result there c.beats-t.ensures in
+    let appended = rw (c.in_order-list.ensures, c.settle.ensures) at c.append_tick.ensures in
     let change =
     apart-change c.self.invariant.0 c.len.ensures.falls c.len.ensures.first c.args.copy
     c.beats-t.result there at (rw (← c.self.view_is) at c.requires.below)
     (rw (← c.self.view_is) at c.requires.behind) (rw (← c.self.view_is) at c.requires.apart) in
     rw (c.deref.ensures.0, c.kept_with-clocks.ensures, c.clocks.ensures) (given c.self.invariant.0 c.len.ensures.falls c.len.ensures.first change
     c.cut.ensures
-    c.append_tick.ensures c.bring_to_list_end.ensures).falls
+    appended c.bring_to_list_end.ensures).falls
 
 pub remake_runs_ahead-requires-clause-room : goal.remake_runs_ahead-requires-clause-room
 remake_runs_ahead-requires-clause-room g c =
     let there = rw (← c.self.view_is) at c.requires.copy in
     let at = clock-own _ _ c.args.copy c.beats-t.result there c.beats-t.ensures in
+    let appended = rw (c.in_order-list.ensures, c.settle.ensures) at c.append_tick.ensures in
     let change =
     apart-change c.self.invariant.0 c.len.ensures.falls c.len.ensures.first c.args.copy
     c.beats-t.result there at (rw (← c.self.view_is) at c.requires.below)
     (rw (← c.self.view_is) at c.requires.behind) (rw (← c.self.view_is) at c.requires.apart) in
-    rw (c.deref.ensures.0, c.kept_with-clocks.ensures, c.clocks.ensures) (given c.self.invariant.0 c.len.ensures.falls c.len.ensures.first change
+    rw (c.deref.ensures.0, c.kept_with-clocks.ensures, c.clocks.ensures, c.in_order-list.ensures, c.settle.ensures) (given c.self.invariant.0 c.len.ensures.falls c.len.ensures.first change
     c.cut.ensures
-    c.append_tick.ensures c.bring_to_list_end.ensures).room
+    appended c.bring_to_list_end.ensures).room
 
 pub invariant_of-self : goal.invariant_of-self
 invariant_of-self g c =
     let there = rw (← c.self.view_is) at c.requires.copy in
     let at = clock-own _ _ c.args.copy c.beats-t.result there c.beats-t.ensures in
+    let appended = rw (c.in_order-list.ensures, c.settle.ensures) at c.append_tick.ensures in
     let change =
     apart-change c.self.invariant.0 c.len.ensures.falls c.len.ensures.first c.args.copy
     c.beats-t.result there at (rw (← c.self.view_is) at c.requires.below)
@@ -98,20 +106,20 @@ invariant_of-self g c =
     let inside = change.there in
     let few = c.self.invariant.0.few_stale in
     let d = c.self.inside.opening in
-    let items = rw (c.deref.ensures.0, c.kept_with-clocks.ensures, c.clocks.ensures) at c.remake_runs_ahead.ensures.items in
-    let ends = rw (c.deref.ensures.0, c.kept_with-clocks.ensures, c.clocks.ensures) at c.remake_runs_ahead.ensures.ends in
+    let items = rw (c.deref.ensures.0, c.kept_with-clocks.ensures, c.clocks.ensures, c.in_order-list.ensures, c.settle.ensures) at c.remake_runs_ahead.ensures.items in
+    let ends = rw (c.deref.ensures.0, c.kept_with-clocks.ensures, c.clocks.ensures, c.in_order-list.ensures, c.settle.ensures) at c.remake_runs_ahead.ensures.ends in
     let put =
     apart-put c.self.invariant.0 c.len.ensures.falls c.len.ensures.first c.args.copy
     c.beats-t.result _ change.there
     (after-world c.self.invariant.0 c.len.ensures.falls c.len.ensures.first c.args.copy
     c.beats-t.result d (option_copied c.args.given) change.there at (rw (← c.self.view_is) at c.requires.given)) in
-    rw (c.execute_or_put.ensures.worlds d, c.max-stale.ensures) (kept-own
+    rw (c.execute_or_put.ensures.worlds d, c.max-stale.ensures, c.in_order-list.ensures, c.settle.ensures) (kept-own
     (kept-stale c.self.invariant.0 c.len.ensures.falls c.len.ensures.first change c.cut.ensures
-    c.append_tick.ensures c.bring_to_list_end.ensures
+    appended c.bring_to_list_end.ensures
     c.remake_runs_ahead.new.run items ends c.remake_runs_ahead.ensures.spare _ (omega arith) (omega arith)
     (omega arith) put)
     (settled-apart c.self.invariant.0 c.len.ensures.falls c.len.ensures.first change c.cut.ensures
-    c.append_tick.ensures c.bring_to_list_end.ensures
+    appended c.bring_to_list_end.ensures
     c.remake_runs_ahead.new.run items ends c.beats-t.result at refl refl refl _
     c.settled_by-settled.result c.self.invariant.1 c.settled_by-settled.ensures.front
     c.settled_by-settled.ensures.other))
@@ -120,15 +128,16 @@ pub returns-clause-runs : goal.returns-clause-runs
 returns-clause-runs g c =
     let there = rw (← c.self.view_is) at c.requires.copy in
     let at = clock-own _ _ c.args.copy c.beats-t.result there c.beats-t.ensures in
+    let appended = rw (c.in_order-list.ensures, c.settle.ensures) at c.append_tick.ensures in
     let change =
     apart-change c.self.invariant.0 c.len.ensures.falls c.len.ensures.first c.args.copy
     c.beats-t.result there at (rw (← c.self.view_is) at c.requires.below)
     (rw (← c.self.view_is) at c.requires.behind) (rw (← c.self.view_is) at c.requires.apart) in
-    rw (← c.self.view_is, c.max-stale.ensures) (same-state _ _ _ _ _ _ _
+    rw (← c.self.view_is, c.max-stale.ensures, c.settle.ensures) (same-state _ _ _ _ _ _ _
     (runs-remade c.self.invariant.0 c.len.ensures.falls c.len.ensures.first change c.cut.ensures
-    c.append_tick.ensures c.bring_to_list_end.ensures
-    c.remake_runs_ahead.new.run (rw (c.deref.ensures.0, c.kept_with-clocks.ensures, c.clocks.ensures) at c.remake_runs_ahead.ensures.items)
-    (rw (c.deref.ensures.0, c.kept_with-clocks.ensures, c.clocks.ensures) at c.remake_runs_ahead.ensures.ends) c.remake_runs_ahead.ensures.spare))
+    appended c.bring_to_list_end.ensures
+    c.remake_runs_ahead.new.run (rw (c.deref.ensures.0, c.kept_with-clocks.ensures, c.clocks.ensures, c.in_order-list.ensures, c.settle.ensures) at c.remake_runs_ahead.ensures.items)
+    (rw (c.deref.ensures.0, c.kept_with-clocks.ensures, c.clocks.ensures, c.in_order-list.ensures, c.settle.ensures) at c.remake_runs_ahead.ensures.ends) c.remake_runs_ahead.ensures.spare))
 
 pub returns-clause-repaired : goal.returns-clause-repaired
 returns-clause-repaired g c =

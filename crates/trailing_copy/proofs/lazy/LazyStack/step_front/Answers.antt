@@ -11,7 +11,7 @@ pub pass-requires-clause-upto : goal.pass-requires-clause-upto
 pass-requires-clause-upto g c =
     let there = rw (← c.self.view_is) at c.requires.copy in
     let at = clock-own _ _ c.args.copy c.beats-t.result there.1 c.beats-t.ensures in
-    rw c.execute_or_put-by.ensures.count (front-fits c.self.invariant.0 c.len.ensures.falls c.len.ensures.first c.beats-t.result
+    rw (c.execute_or_put-by.ensures.count, c.in_order-list.ensures, c.settle.ensures) (front-fits c.self.invariant.0 c.len.ensures.falls c.len.ensures.first c.beats-t.result
     c.args.copy there.0 there.1 at
     (rw (← c.self.view_is) at c.requires.below)
     (rw (← c.self.view_is) at c.requires.behind) (rw (← c.self.view_is) at c.requires.front))
@@ -24,7 +24,7 @@ execute_or_put-by-requires-clause-few g c =
     front-fits c.self.invariant.0 c.len.ensures.falls c.len.ensures.first c.beats-t.result c.args.copy there.0 there.1 at
     (rw (← c.self.view_is) at c.requires.below)
     (rw (← c.self.view_is) at c.requires.behind) (rw (← c.self.view_is) at c.requires.front) in
-    (let some = there.0 in
+    rw (c.in_order-list.ensures, c.settle.ensures) (let some = there.0 in
     let within = there.1 in
     let many = run-many c.self.invariant.0 c.len.ensures.falls c.len.ensures.first in
     let inside = end-inside c.self.invariant.0 c.len.ensures.falls c.len.ensures.first (c.args.copy - 1) (omega arith) in
@@ -35,9 +35,10 @@ execute_or_put-by-requires-clause-few g c =
 pub execute_or_put-by-requires-clause-start : goal.execute_or_put-by-requires-clause-start
 execute_or_put-by-requires-clause-start g c =
     let there = (rw (← c.self.view_is) at c.requires.copy).1 in
-    start-at c.self.invariant.0 c.len.ensures.falls c.len.ensures.first c.args.copy c.beats-t.result _ there
+    rw (c.in_order-list.ensures, c.settle.ensures)
+    (start-at c.self.invariant.0 c.len.ensures.falls c.len.ensures.first c.args.copy c.beats-t.result _ there
     (clock-own _ _ c.args.copy c.beats-t.result there c.beats-t.ensures)
-    (rw (← c.self.view_is) at c.due_start-start.ensures)
+    (rw (← c.self.view_is) at c.due_start-start.ensures))
 
 pub invariant_of-self : goal.invariant_of-self
 invariant_of-self g c =
@@ -46,7 +47,7 @@ invariant_of-self g c =
     let many = run-many c.self.invariant.0 c.len.ensures.falls c.len.ensures.first in
     let inside = there.1 in
     let d = c.self.inside.opening in
-    rw (c.pass.ensures, c.execute_or_put-by.ensures.count, c.execute_or_put-by.ensures.worlds d) (kept-own
+    rw (c.pass.ensures, c.execute_or_put-by.ensures.count, c.execute_or_put-by.ensures.worlds d, c.in_order-list.ensures, c.settle.ensures) (kept-own
     (front-kept c.self.invariant.0 c.len.ensures.falls c.len.ensures.first c.beats-t.result c.args.copy _ there.0 there.1 at
     (rw (← c.self.view_is) at c.requires.below)
     (rw (← c.self.view_is) at c.requires.behind) (rw (← c.self.view_is) at c.requires.front)
@@ -60,7 +61,7 @@ pub returns-clause-runs : goal.returns-clause-runs
 returns-clause-runs g c =
     let there = rw (← c.self.view_is) at c.requires.copy in
     let at = clock-own _ _ c.args.copy c.beats-t.result there.1 c.beats-t.ensures in
-    rw (← c.self.view_is, c.pass.ensures, c.execute_or_put-by.ensures.count)
+    rw (← c.self.view_is, c.pass.ensures, c.execute_or_put-by.ensures.count, c.in_order-list.ensures, c.settle.ensures)
     (same-state _ _ _ _ _ _ _ (front-runs c.self.invariant.0 c.len.ensures.falls c.len.ensures.first c.beats-t.result
     c.args.copy there.0 there.1 at
     (rw (← c.self.view_is) at c.requires.below)

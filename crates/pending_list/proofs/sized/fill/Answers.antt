@@ -1,0 +1,19 @@
+use Rattle.std.proofs.Common.{◌∙◌, map, arith}
+use Rattle.pending_list.specs.Sized.{joined}
+use Rattle.pending_list.proofs.Filled.{items-more}
+use Rattle.pending_list.proofs.sized.fill.Goals as goal
+
+pub loop-y-preserved : goal.loop-y-preserved
+loop-y-preserved c =
+    let inv = c.loop-y.invariant in
+    let more =
+    items-more (joined (map (λ b. b.items) c.loop-y.buckets.items)) (joined (map (λ b. b.items) c.put_at.new.buckets.items))
+    c.args.keyed.now c.loop-y.y-index c.loop-y.place _ c.loop-y-test.true inv.items inv.place c.put_at.ensures.items in
+    record {
+      items = more.0;
+      at = (let same = inv.at in omega arith);
+      place = more.1;
+      cut = c.put_at.ensures.cut;
+      len = c.put_at.ensures.len ∙ inv.len;
+      capacities = c.put_at.ensures.capacities;
+    }
