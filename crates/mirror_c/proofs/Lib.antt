@@ -1,4 +1,5 @@
 pub mod AsBox
 pub mod Following
 pub mod Plans
+pub mod Spelled
 pub mod Worlds
