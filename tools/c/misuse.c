@@ -21,6 +21,18 @@ static void not_legal(tss_handle *t) {
            tss_new(t, d, 2, 2, 5, 1048577, 0).kind, tss_new(t, d, 2, 2, 5, 1, 1048577).kind, tss_new(t, d, 9, 1, 5, 1, 0).kind);
 }
 
+/* no tick is left, twice; no such plan; no room for what was accepted, or for the change of the plan; then one that is made */
+static void joiners(tss_handle *t) {
+    uint32_t d[2] = {0, 1};
+    tss_command accepted[2] = {{0, 0, 3}, {0, 1, 4}};
+    tss_snapshot at_end = {5, 0, accepted, 2}, past = {6, 0, accepted, 2}, other = {1, 1, accepted, 2}, early = {1, 0, accepted, 2}, late = {4, 0, accepted, 2};
+    printf("no joiner: %u %u %u %u %u", tss_join(t, d, 2, 2, 5, 2, 1, &at_end).kind, tss_join(t, d, 2, 2, 5, 2, 1, &past).kind,
+           tss_join(t, d, 2, 2, 5, 2, 1, &other).kind, tss_join(t, d, 2, 2, 5, 1, 1, &early).kind, tss_join(t, d, 2, 2, 5, 2, 0, &early).kind);
+    printf(", and no engine: %u\n", tss_clock(t).kind);
+    printf("joiner: %u", tss_join(t, d, 2, 2, 5, 2, 1, &late).kind);
+    printf(", room %u\n", tss_spare(t).value);
+}
+
 int main(void) {
     tss_handle t = TSS_NONE;
     uint32_t two[4] = {0, 5, 1, 2};
@@ -30,6 +42,7 @@ int main(void) {
     tss_history_item events[64];
     without_an_engine(&t);
     not_legal(&t);
+    joiners(&t);
     printf("made: %u\n", tss_new(&t, two, 4, 2, 5, 2, 1).kind);
     printf("not there: %u %u %u %u %u %u %u %u; room 0: %u\n", tss_step(&t, 2).kind, tss_step(&t, 255).kind, tss_items(&t, 0, 1, item, 1).kind,
            tss_copy_clock(&t, 2).kind, tss_restagger(&t, 2).kind, tss_accepted(&t, 1, commands, 2).kind, tss_turned(&t, 1, turned, 2).kind,

@@ -19,6 +19,8 @@ SOURCES = os.path.join(TOP, "crates", "mirror_c", "src")
 SAID_BY_MISUSE = """\
 no engine: 16 16 16 16 16 16 16 16 16 16 16 16 16 16
 not legal: 20 20 20 20 20 20 20 20 20 20 20
+no joiner: 20 20 17 19 19, and no engine: 16
+joiner: 9, room 1
 made: 9
 not there: 17 17 17 17 17 17 17 17; room 0: 0
 beyond: 18 18
