@@ -84,13 +84,35 @@ made-plans delays copies ticks plans left h none some few =
       schedules = all_map (λ (ds : List ℕ). IsSchedule (record { delays = ds; length = ticks })) (λ (p : Schedule). p.delays) plans h.schedules;
     }
 
--- plans with one length, as a mirror takes them
-pub first-ticks : (plans : List Schedule) (n : ℕ) → 0 < length plans → AllByRecursion (λ plan. plan.length ≡ n) plans → ticks_of_first plans ≡ n
+-- plans with one length and as many copies, as a mirror takes them
+first-ticks : (plans : List Schedule) (n : ℕ) → 0 < length plans → AllByRecursion (λ plan. plan.length ≡ n) plans → ticks_of_first plans ≡ n
 first-ticks [] n some all = absurd (omega (arith, some))
 first-ticks (p ∷ plans) n some all = all.0
 
-pub first-copies : (plans : List Schedule) (n : ℕ) → 0 < length plans → AllByRecursion (λ plan. length plan.delays ≡ n) plans → copies_of_first plans ≡ n
+first-copies : (plans : List Schedule) (n : ℕ) → 0 < length plans → AllByRecursion (λ plan. length plan.delays ≡ n) plans → copies_of_first plans ≡ n
 first-copies [] n some all = absurd (omega (arith, some))
 first-copies (p ∷ plans) n some all = all.0
 
-pub ruleset opened = (first-ticks, first-copies)
+some-plans : (plans : List Schedule) → 0 < length (delays_of_each plans) → 0 < length plans
+some-plans [] some = some
+some-plans (p ∷ plans) some = omega arith
+
+pub equal-ticks : (delays : List ℕ) (copies ticks : ℕ) (plans given : List Schedule) → ArePlans delays copies ticks (delays_of_each plans)
+    → AllByRecursion (λ plan. plan.length ≡ ticks) plans → given ≡ plans → AllByRecursion (λ plan. plan.length ≡ ticks_of_first given) given
+equal-ticks delays copies ticks plans given are all same =
+    subst (λ (ps : List Schedule). AllByRecursion (λ plan. plan.length ≡ ticks_of_first ps) ps) (sym same)
+    (subst (λ (n : ℕ). AllByRecursion (λ plan. plan.length ≡ n) plans) (sym (first-ticks plans ticks (some-plans plans are.some_plan) all)) all)
+
+pub equal-copies : (delays : List ℕ) (copies ticks : ℕ) (plans given : List Schedule) → ArePlans delays copies ticks (delays_of_each plans)
+    → AllByRecursion (λ plan. length plan.delays ≡ copies) plans → given ≡ plans → AllByRecursion (λ plan. length plan.delays ≡ copies_of_first given) given
+equal-copies delays copies ticks plans given are all same =
+    subst (λ (ps : List Schedule). AllByRecursion (λ plan. length plan.delays ≡ copies_of_first ps) ps) (sym same)
+    (subst (λ (n : ℕ). AllByRecursion (λ plan. length plan.delays ≡ n) plans) (sym (first-copies plans copies (some-plans plans are.some_plan) all)) all)
+
+-- and the length of the state that it opens with
+pub opens-with : (delays : List ℕ) (copies ticks : ℕ) (plans given : List Schedule) → ArePlans delays copies ticks (delays_of_each plans)
+    → AllByRecursion (λ plan. plan.length ≡ ticks) plans → given ≡ plans → ticks_of_first given ≡ ticks
+opens-with delays copies ticks plans given are all same =
+    ap (λ (ps : List Schedule). ticks_of_first ps) same ∙ first-ticks plans ticks (some-plans plans are.some_plan) all
+
+pub ruleset opened = (opens-with)
