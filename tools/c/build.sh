@@ -21,7 +21,7 @@ rm -rf "$out/parts" && mkdir "$out/parts"
 rm -f "$out/libtss_mirror.a"
 ar rcs "$out/libtss_mirror.a" "$out"/parts/*
 rm -rf "$out/parts"
-for name in sample misuse bench; do
+for name in sample join misuse bench; do
     cc -O2 -std=gnu11 -Wall -Wextra -I "$here" "$here/$name.c" "$out/libtss_mirror.a" -o "$out/$name"
 done
 cc -shared -o "$out/libtss_mirror.so" -Wl,--whole-archive "$out/libtss_mirror.a" -Wl,--no-whole-archive \

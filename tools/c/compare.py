@@ -1,10 +1,11 @@
 #!/usr/bin/env python3
-"""Compares a Python host over libtss_mirror.so with `tss play`, `tss paint play` and `tss audit`, on drawn scripts.
+"""Compares a Python host over libtss_mirror.so with `tss play`, `tss paint play`, `tss join` and `tss audit`, on drawn scripts.
 
     python3 compare.py LIBRARY PROGRAM [SEED] [COUNT]
 
 The host executes what the library tells it, and prints what play prints; every line is compared, also `run` lines. A second
 host makes each turn by one call, and must have the same worlds and the same history; that history, as a record, must be legal.
+A third joins each mirror late.
 """
 
 import os
@@ -14,7 +15,7 @@ import sys
 
 sys.path.insert(0, os.path.join(os.path.dirname(os.path.abspath(__file__)), ".."))
 import tss_mirror as tss
-from slow_model import Arena, Paint
+from slow_model import Arena, Paint, vars_of
 from slow_words import match_of, script_of, text
 
 
@@ -22,7 +23,7 @@ class Host:
     """A mirror of a match, line by line."""
 
     def __init__(self, lib, match, opening):
-        self.match, self.accepted, self.repairs = match, 0, 0
+        self.match, self.length, self.accepted, self.repairs = match, match.length, 0, 0
         payloads = {x[1:3]: x for x in match.commands}
         room = len(match.script)
         self.mirror = tss.Mirror(lib, match.plans, match.length, room, room, opening, payloads)
@@ -39,7 +40,7 @@ class Host:
 
     def drain(self):
         repaired = []
-        while any(self.mirror.copy_clock(c) < self.match.length for c in range(self.mirror.copies)):
+        while any(self.mirror.copy_clock(c) < self.length for c in range(self.mirror.copies)):
             repaired += self.turn()
         return repaired
 
@@ -92,6 +93,60 @@ class Turning(Host):
         return [answer.value] if answer.value else []
 
 
+class Late(Host):
+    """A mirror that joins late."""
+
+    def __init__(self, lib, other):
+        self.match, self.repairs = other.match, 0
+        self.start, _, _, accepted = snapshot = other.mirror.snapshot()
+        self.length, self.passed = other.length - self.start, {x[:2] for x in accepted if x[2] < self.start}
+        self.accepted, room = len(accepted) - len(self.passed), len(self.match.script)
+        self.mirror = tss.join(lib, self.match.plans, other.length, room, room + 1, snapshot, other.mirror.payloads)
+
+    def arrive(self, _, sender, number):
+        time = self.match.command(sender, number)[0]
+        if (sender, number) in self.passed:
+            return [f"repeat {sender} {number}"]
+        if time < self.start:
+            return [f"before {sender} {number} {time} {self.start}"]
+        answer = self.mirror.arrive(time - self.start, sender, number)
+        if answer.kind == tss.TAKEN:
+            self.accepted, self.repairs = self.accepted + 1, self.repairs + answer.value
+            return []
+        return [f"repeat {sender} {number}"] if answer.kind == tss.REPEAT else [f"late {sender} {number} {answer.value + self.start}"]
+
+    def along(self, words):
+        """What `join` prints of a line."""
+        lines = self.line(words)
+        return lines if words[0] == "arrive" else []
+
+
+def counts(head, host):
+    turned = sum(1 for _ in host.mirror.turned())
+    return f"{head} accepted {host.accepted} turned {turned} repairs {host.repairs}"
+
+
+def joined(lib, match, number, first):
+    """The status and the lines of a mirror and one that joins late from it."""
+    host, mine = Host(lib, match, lambda: Arena(match)), [words for words in match.script[:first] if words[1] == number]
+    for words in mine:
+        host.line(words)
+    start, last = host.mirror.copy_clock(host.mirror.copies - 1), host.mirror.copies - 1
+    if start == match.length:
+        return 7, [f"too late {start} {match.length}"]
+    late, lines = Late(lib, host), [f"join {number} {first} clock {start}"]
+    for words in match.script[first:]:
+        if words[1] == number:
+            host.line(words)
+            lines += late.along(words)
+    host.drain()
+    late.drain()
+    worlds = [one.mirror.worlds[last] for one in (host, late)]
+    lines += [counts(f"mirror {number}", host), f"world {number} {last} {match.length}", *worlds[0].lines()]
+    lines += [counts("joiner", late), f"world joiner {match.length}", *worlds[1].lines()]
+    return 0, [*lines, "same " + ("yes" if vars_of(worlds[0]) == vars_of(worlds[1]) else "no"), "done"]
+
+
 def hosts_of(kind, lib, match, opening):
     """The mirrors of a match behind its script, and what the script printed."""
     hosts, lines = [kind(lib, match, opening) for _ in range(match.mirrors)], []
@@ -107,7 +162,8 @@ def ends(hosts):
     for m, host in enumerate(hosts):
         turned = sum(1 for _ in host.mirror.turned())
         assert host.mirror.spare() == len(host.match.script) - host.accepted - turned
-        lines += [f"mirror {m} accepted {host.accepted} turned {turned} repairs {host.repairs}", *host.blocks(m)]
+        assert host.accepted == sum(1 for _ in host.mirror.accepted())
+        lines += [counts(f"mirror {m}", host), *host.blocks(m)]
     return lines + ["done"]
 
 
@@ -149,17 +205,31 @@ def compared(lib, program, match, words, world, tally):
         tally[word] += sum(line.startswith(word.encode() + b" ") for line in found.splitlines())
 
 
+def compared_joins(lib, program, draw, match, tally):
+    given = text(match.lines())
+    for m in range(match.mirrors):
+        first = draw.randint(0, len(match.script) + 1)
+        words = ["join", str(m), str(first)]
+        status, lines = joined(lib, match, m, first)
+        found = (status, text(lines))
+        wanted = ran(program, words, given)
+        if found != wanted:
+            differs(" ".join(words), given, found[1], wanted[1])
+        tally["joins"] += 1
+
+
 def main():
     library, program = sys.argv[1:3]
     seed, count = (int(sys.argv[3]) if len(sys.argv) > 3 else 1), (int(sys.argv[4]) if len(sys.argv) > 4 else 200)
     lib, draw = tss.load(os.path.abspath(library)), random.Random(seed)
-    tally = dict.fromkeys(("runs", "lines", "records", "repair", "late", "repeat", "restagger"), 0)
+    tally = dict.fromkeys(("runs", "lines", "records", "joins", "repair", "late", "repeat", "restagger"), 0)
     for _ in range(count):
         match = match_of(draw)
         match.script = script_of(draw, match)
         tally["restagger"] += sum(words[0] == "restagger" for words in match.script)
         compared(lib, program, match, ["play"], Arena, tally)
         compared(lib, program, match, ["paint", "play"], Paint, tally)
+        compared_joins(lib, program, draw, match, tally)
     print(f"{count} matches of seed {seed}, no difference: " + ", ".join(f"{name} {n}" for name, n in tally.items()))
 
 

@@ -53,6 +53,7 @@ enum {
 
 typedef struct { uint32_t kind, value; } tss_answer;
 typedef struct { uint32_t is_beat, from, number, time; } tss_item;
+typedef struct { uint32_t from, number, time; } tss_command;
 typedef struct { uint32_t from, number, bound; } tss_turned_item;
 typedef struct { uint32_t what, which, time, from, number; } tss_history_item;
 
@@ -77,10 +78,14 @@ tss_answer tss_copy_clock(tss_handle *, uint8_t copy);
 tss_answer tss_run_len(tss_handle *, uint8_t copy);
 /* For how many more arrivals there is room. */
 tss_answer tss_spare(tss_handle *);
+/* The number of the plan that is in force. */
+tss_answer tss_plan(tss_handle *);
 
 /* Each puts what stands in a list from a place on into out, as many as there are and fit; value: how
- * many. The lists are a copy's run, what was turned away, and the events that changed the mirror. */
+ * many. The lists are a copy's run, what was accepted and what was turned away, in order of arrival, and
+ * the events that changed the mirror. */
 tss_answer tss_items(tss_handle *, uint8_t copy, uint32_t place, tss_item *out, size_t room);
+tss_answer tss_accepted(tss_handle *, uint32_t place, tss_command *out, size_t room);
 tss_answer tss_turned(tss_handle *, uint32_t place, tss_turned_item *out, size_t room);
 tss_answer tss_history(tss_handle *, uint32_t place, tss_history_item *out, size_t room);
 
@@ -108,6 +113,32 @@ static inline void tss_follow(tss_handle *t, uint8_t copies, uint32_t repaired, 
             executed[k] += n;
         }
     }
+}
+
+/* What a host hands to one that joins late, beside the world of its last copy: that copy's clock, the plan in
+ * force, and what was accepted. Nothing happens at the mirror between these looks. */
+typedef struct {
+    uint32_t clock;
+    uint8_t plan;
+    const tss_command *accepted;
+    size_t count;
+} tss_snapshot;
+
+/* Makes the engine of a host that joins late, over the ticks that are left: all its times and clocks are
+ * counted from the snapshot's clock. It has the match's plans, moves to the one in force, and takes what was
+ * accepted and is due from the clock on; it needs room for that, and for one change of the plan. Each of its
+ * worlds begins as the one that was handed over, with nothing executed. What comes later arrives at its time
+ * less the clock; what is due before the clock is in that world, or is missed. By turns it catches up: as many as
+ * the other's clock is ahead of the snapshot's. TSS_NOT_LEGAL also where no tick is left. */
+static inline tss_answer tss_join(tss_handle *t, const uint32_t *delays, size_t count, size_t copies, uint32_t length, uint32_t room, uint32_t restaggers, const tss_snapshot *s) {
+    tss_answer made = tss_new(t, delays, count, copies, length < s->clock ? 0 : length - s->clock, room, restaggers);
+    tss_answer a = made.kind == TSS_MADE ? tss_restagger(t, s->plan) : made;
+    for (size_t i = 0; i < s->count && a.kind < TSS_NO_ENGINE; i++)
+        if (s->accepted[i].time >= s->clock)
+            a = tss_arrive(t, s->accepted[i].time - s->clock, (uint8_t)s->accepted[i].from, s->accepted[i].number);
+    if (a.kind < TSS_NO_ENGINE) return made;
+    tss_free(t);
+    return a;
 }
 
 #ifdef __cplusplus

@@ -28,6 +28,10 @@ class Item(ctypes.Structure):
     _fields_ = numbers("is_beat", "from_", "number", "time")
 
 
+class Command(ctypes.Structure):
+    _fields_ = numbers("from_", "number", "time")
+
+
 class TurnedItem(ctypes.Structure):
     _fields_ = numbers("from_", "number", "bound")
 
@@ -41,8 +45,9 @@ def load(path):
     calls = {
         "new": [ctypes.POINTER(u32), size, size, u32, u32, u32], "free": [],
         "tick": [], "arrive": [u32, u8, u32], "step": [u8], "restagger": [u8], "turn": [],
-        "clock": [], "copy_clock": [u8], "run_len": [u8], "spare": [],
+        "clock": [], "copy_clock": [u8], "run_len": [u8], "spare": [], "plan": [],
         "items": [u8, u32, ctypes.POINTER(Item), size],
+        "accepted": [u32, ctypes.POINTER(Command), size],
         "turned": [u32, ctypes.POINTER(TurnedItem), size],
         "history": [u32, ctypes.POINTER(HistoryItem), size],
     }
@@ -75,6 +80,9 @@ class Mirror:
 
     def items(self, of, place=0):
         return self.each(self.lib.tss_items, Item, of, place=place)
+
+    def accepted(self):
+        return self.each(self.lib.tss_accepted, Command)
 
     def turned(self):
         return self.each(self.lib.tss_turned, TurnedItem)
@@ -120,5 +128,24 @@ class Mirror:
     def spare(self):
         return self.lib.tss_spare(self.handle).value
 
+    def plan(self):
+        return self.lib.tss_plan(self.handle).value
+
     def copy_clock(self, of):
         return self.lib.tss_copy_clock(self.handle, of).value
+
+    def snapshot(self):
+        """What is handed to a host that joins late: the last copy's clock and world, the plan, and what was accepted."""
+        last = self.copies - 1
+        return self.copy_clock(last), copy.deepcopy(self.worlds[last]), self.plan(), [(x.from_, x.number, x.time) for x in self.accepted()]
+
+
+def join(lib, plans, length, room, restaggers, snapshot, payloads):
+    """A mirror that joins late: see tss_mirror.h. Its times and clocks are counted from the snapshot's clock."""
+    clock, world, plan, accepted = snapshot
+    late = Mirror(lib, plans, length - clock, room, restaggers, lambda: copy.deepcopy(world), payloads)
+    late.restagger(plan)
+    for sender, number, time in accepted:
+        if time >= clock:
+            late.arrive(time - clock, sender, number)
+    return late

@@ -17,15 +17,18 @@ from common import PROGRAM, TOOLS, TOP, read
 C = os.path.join(TOOLS, "c")
 SOURCES = os.path.join(TOP, "crates", "mirror_c", "src")
 SAID_BY_MISUSE = """\
-no engine: 16 16 16 16 16 16 16 16 16 16 16 16
+no engine: 16 16 16 16 16 16 16 16 16 16 16 16 16 16
 not legal: 20 20 20 20 20 20 20 20 20 20 20
+no joiner: 20 20 17 19 19, and no engine: 16
+joiner: 9, room 1
 made: 9
-not there: 17 17 17 17 17 17 17; room 0: 0
+not there: 17 17 17 17 17 17 17 17; room 0: 0
 beyond: 18 18
 room 2, taken: 2, again: 3, room 1
-restaggered: 7, no room: 19
+restaggered: 7, no room: 19, plan 1
 clocks: 4 3 2
 late: 4, bound 2, then no room: 19
+accepted 1: 0.0 for 4
 turned away 1: 3.9, bound 2
 """
 
@@ -52,7 +55,7 @@ def source(name):
 # how a parameter or a field of the crate is passed to C
 PASSED = {"u8": ["uint8_t"], "u32": ["uint32_t"], "Tick": ["uint32_t"], "usize": ["size_t"], "Answer": ["tss_answer"], "&mut Tss": ["tss_handle *"],
           "&[Tick]": ["const uint32_t *", "size_t"], "Global": []}
-LISTS = {"RunItem": "tss_item", "TurnedItem": "tss_turned_item", "HistoryItem": "tss_history_item"}
+LISTS = {"RunItem": "tss_item", "CommandItem": "tss_command", "TurnedItem": "tss_turned_item", "HistoryItem": "tss_history_item"}
 
 
 def passed(kind):
@@ -99,7 +102,7 @@ def fields_in_c(of):
 class Header(unittest.TestCase):
     def test_the_prototypes_are_the_exports(self):
         self.assertEqual(prototypes(), exports())
-        self.assertEqual(len(exports()), 14)
+        self.assertEqual(len(exports()), 16)
 
     def test_the_constants_are_the_crates(self):
         ours, theirs = constants()
@@ -116,7 +119,7 @@ class Header(unittest.TestCase):
         import tss_mirror
         ours, _ = constants()
         self.assertEqual({name: getattr(tss_mirror, name[4:]) for name in ours}, ours)
-        for ours, theirs in {"Answer": "Answer", "RunItem": "Item", "TurnedItem": "TurnedItem", "HistoryItem": "HistoryItem"}.items():
+        for ours, theirs in {"Answer": "Answer", "RunItem": "Item", "CommandItem": "Command", "TurnedItem": "TurnedItem", "HistoryItem": "HistoryItem"}.items():
             names = [name.rstrip("_") for name, _ in getattr(tss_mirror, theirs)._fields_]
             self.assertEqual(names, fields(ours, source("answer.rt")))
 
@@ -145,6 +148,11 @@ class Library(unittest.TestCase):
         self.assertTrue(any(": kind 4 " in line for line in lines), "a command is late")
         self.assertTrue(any(": kind 2 value 1" in line for line in lines), "a copy is repaired")
 
+    def test_a_joiner_ends_at_the_same_worlds(self):
+        lines = self.said(self.path("join")).splitlines()
+        self.assertRegex(lines[0], "^joins at 8 under plan 1, of [0-9]+ accepted$")
+        self.assertEqual(lines[-1], "equal")
+
     def test_misuse_is_answered(self):
         said = self.said(self.path("misuse"))
         self.assertEqual(said[:len(SAID_BY_MISUSE)], SAID_BY_MISUSE)
@@ -165,11 +173,11 @@ class Library(unittest.TestCase):
     @unittest.skipUnless(os.path.exists(PROGRAM), "the program isn't built")
     def test_a_host_plays_as_the_program(self):
         said = self.said(sys.executable, os.path.join(C, "compare.py"), self.path("libtss_mirror.so"), PROGRAM, "1", "40")
-        self.assertRegex(said, "^40 matches of seed 1, no difference: ")
+        self.assertRegex(said, "^40 matches of seed 1, no difference: .*, joins [1-9]")
 
     @unittest.skipUnless(shutil.which("valgrind"), "no valgrind is here")
     def test_no_memory_is_lost(self):
-        for name in ("sample", "misuse"):
+        for name in ("sample", "join", "misuse"):
             self.said("valgrind", "-q", "--leak-check=full", "--error-exitcode=9", self.path(name))
 
 

@@ -1,77 +1,13 @@
--- The test of a plan decides what a schedule is.
-use Rattle.std.proofs.Common.{true≢false, sym, ap, subst, ◌∙◌, ◌++◌, append-nil, append_assoc, ◌≡◌, ℕ, zero, suc, take, drop, ◌<◌, ◌≤◌, true, ltb, leb, ◌&&◌, List, [], ◌∷◌, length, refl, arith}
+-- Plans that are taken from the front of delays, one after another.
+use Rattle.std.proofs.Common.{sym, ap, subst, ◌∙◌, ◌≡◌, refl, ℕ, zero, suc, ◌+◌, ◌<◌, ◌≤◌, arith}
+use Rattle.std.proofs.Common.{List, [], ◌∷◌, ◌++◌, length, take, drop, append-nil, append_assoc}
 use Rattle.std.specs.List.{AllByRecursion}
 use Rattle.std.proofs.lemmas.List.{length-map}
-use Rattle.std.proofs.lemmas.Bool.{ltb-true, lt-ltb, leb-true, le-leb, and_parts}
-use Rattle.game_trait.specs.declared.limits.TheConstants.{LONGEST_MATCH, MOST_COPIES, LONGEST_DELAY, MOST_PLANS}
-use Rattle.sync_model.specs.Schedule.{Schedule, IsSchedule, DelaysRise, delays_of_each, ticks_of_first, copies_of_first}
-use Rattle.tss_io.proofs.EachLaws.{all_to, all_push, all_map}
-use Rattle.mirror_c.specs.Rising.{plan_from, is_plan, is_length, is_schedule, ArePlans}
+use Rattle.game_trait.specs.declared.limits.TheConstants.{MOST_PLANS}
+use Rattle.sync_model.specs.Schedule.{Schedule, IsSchedule, delays_of_each, ticks_of_first, copies_of_first}
+use Rattle.tss_io.proofs.EachLaws.{all_push, all_map}
+use Rattle.mirror_c.specs.Rising.{ArePlans}
 use Rattle.mirror_c.specs.Lists.{joined}
-
--- a test that passed
-rises_all : (d : ℕ) (ds : List ℕ) → plan_from d ds ≡ true
-    → AllByRecursion (λ e. d < e) ds × (DelaysRise ds × AllByRecursion (λ e. e ≤ LONGEST_DELAY) ds)
-unfolding DelaysRise
-rises_all d [] h = (tt, (tt, tt))
-rises_all d (e ∷ ds) h =
-    let parts = and_parts (ltb d e && leb e LONGEST_DELAY) (plan_from e ds) h in
-    let front = and_parts (ltb d e) (leb e LONGEST_DELAY) parts.0 in
-    let less = ltb-true _ _ front.0 in
-    let short = leb-true _ _ front.1 in
-    let rest = rises_all e ds parts.1 in
-    ((less, all_to (λ f. e < f) (λ f. d < f) (λ f lt. omega arith) ds rest.0), ((rest.0, rest.1.0), (short, rest.1.1)))
-
-plan-schedule : (ds : List ℕ) (n : ℕ) → is_plan ds ≡ true → length ds ≤ MOST_COPIES → 0 < n → n ≤ LONGEST_MATCH
-    → IsSchedule (record { delays = ds; length = n })
-unfolding DelaysRise
-plan-schedule [] n h few some most = absurd (true≢false (sym h))
-plan-schedule (d ∷ ds) n h few some most =
-    let parts = and_parts (leb d LONGEST_DELAY) (plan_from d ds) h in
-    let rest = rises_all d ds parts.1 in
-    record {
-      some_copy = omega arith;
-      few_copies = few;
-      delays_rise = (rest.0, rest.1.0);
-      short_delays = (leb-true _ _ parts.0, rest.1.1);
-      some_tick = some;
-      few_ticks = most;
-    }
-
--- a plan passes
-plan_from-of : (d : ℕ) (ds : List ℕ) → AllByRecursion (λ e. d < e) ds → DelaysRise ds → AllByRecursion (λ e. e ≤ LONGEST_DELAY) ds → plan_from d ds ≡ true
-unfolding DelaysRise
-plan_from-of d [] above rise short = refl
-plan_from-of d (e ∷ ds) above rise short =
-    let t : ltb d e ≡ true = lt-ltb _ _ above.0 in
-    let u : leb e LONGEST_DELAY ≡ true = le-leb _ _ short.0 in
-    rw (t, u, plan_from-of e ds rise.0 rise.1 short.1) refl
-
-schedule-plan : (ds : List ℕ) (n : ℕ) → IsSchedule (record { delays = ds; length = n }) → is_plan ds ≡ true
-unfolding DelaysRise
-schedule-plan [] n is = absurd (omega (arith, is.some_copy))
-schedule-plan (d ∷ ds) n is =
-    let u : leb d LONGEST_DELAY ≡ true = le-leb _ _ is.short_delays.0 in
-    rw (u, plan_from-of d ds is.delays_rise.0 is.delays_rise.1 is.short_delays.1) refl
-
--- the test decides what a schedule is
-pub is_schedule-true : (ds : List ℕ) (n : ℕ) → is_schedule ds n ≡ true → IsSchedule (record { delays = ds; length = n })
-unfolding is_schedule
-is_schedule-true ds n h =
-    let front = and_parts (leb (length ds) MOST_COPIES) (is_plan ds && is_length n) h in
-    let back = and_parts (is_plan ds) (is_length n) front.1 in
-    let long = and_parts (ltb 0 n) (leb n LONGEST_MATCH) back.1 in
-    plan-schedule ds n back.0 (leb-true _ _ front.0) (ltb-true _ _ long.0) (leb-true _ _ long.1)
-
-pub is_schedule-of : (ds : List ℕ) (n : ℕ) → IsSchedule (record { delays = ds; length = n }) → is_schedule ds n ≡ true
-unfolding is_schedule
-is_schedule-of ds n is =
-    let a : leb (length ds) MOST_COPIES ≡ true = le-leb _ _ is.few_copies in
-    let b : ltb 0 n ≡ true = lt-ltb _ _ is.some_tick in
-    let c : leb n LONGEST_MATCH ≡ true = le-leb _ _ is.few_ticks in
-    rw (a, schedule-plan ds n is, b, c) refl
-
-pub ruleset plans = (is_schedule-true, is_schedule-of)
 
 -- one plan more
 pub joined-push : (plans : List Schedule) (plan : Schedule) → joined (delays_of_each (plans ++ plan ∷ [])) ≡ joined (delays_of_each plans) ++ plan.delays
@@ -113,14 +49,26 @@ length-front zero xs h = refl
 length-front (suc n) [] h = absurd (omega arith)
 length-front (suc n) (x ∷ xs) h = ap suc (length-front n xs (omega arith))
 
-pub made-on : (delays : List ℕ) (copies ticks : ℕ) (plans new : List Schedule) (left plan more : List ℕ) (last : Schedule) → AreMade delays copies ticks plans left
-    → plan ≡ take copies left → more ≡ drop copies left → copies ≤ length left → IsSchedule (record { delays = plan; length = ticks })
-    → last ≡ record { delays = plan; length = ticks } → new ≡ plans ++ last ∷ [] → AreMade delays copies ticks new more
-made-on delays copies ticks plans new left plan more last h front back room is this put =
-    let cut : left ≡ plan ++ more = sym (take-drop copies left) ∙ ap (λ (p : List ℕ). p ++ drop copies left) (sym front) ∙ ap (λ (m : List ℕ). plan ++ m) (sym back) in
-    let many : length plan ≡ copies = ap (λ (p : List ℕ). length p) front ∙ length-front copies left room in
+pub length-push : (plans : List Schedule) (plan : Schedule) → length (plans ++ plan ∷ []) ≡ length plans + 1
+length-push [] plan = omega arith
+length-push (p ∷ plans) plan = let rest = length-push plans plan in omega (arith, rest)
+
+-- with the plan in front of what is left
+pub made-next : (delays : List ℕ) (copies ticks : ℕ) (plans new : List Schedule) (left more : List ℕ) (last : Schedule) → AreMade delays copies ticks plans left
+    → last ≡ record { delays = take copies left; length = ticks } → copies ≤ length left → IsSchedule last → new ≡ plans ++ last ∷ [] → more ≡ drop copies left
+    → AreMade delays copies ticks new more
+made-next delays copies ticks plans new left more last h this room is put back =
+    let plan : List ℕ = take copies left in
+    let cut : left ≡ plan ++ more = sym (take-drop copies left) ∙ ap (λ (m : List ℕ). plan ++ m) (sym back) in
     subst (λ (ns : List Schedule). AreMade delays copies ticks ns more) (sym (put ∙ ap (λ (l : Schedule). plans ++ l ∷ []) this))
-    (made-push delays copies ticks plans left plan more h cut many is)
+    (made-push delays copies ticks plans left plan more h cut (length-front copies left room) (subst IsSchedule this is))
+
+-- with the plan in front of all
+pub made-first : (delays : List ℕ) (copies ticks : ℕ) (new : List Schedule) (more : List ℕ) (first : Schedule)
+    → first ≡ record { delays = take copies delays; length = ticks } → copies ≤ length delays → IsSchedule first → new ≡ first ∷ [] → more ≡ drop copies delays
+    → AreMade delays copies ticks new more
+made-first delays copies ticks new more first this room is put back =
+    made-next delays copies ticks [] new delays more first (made-none delays copies ticks) this room is put back
 
 none-of : (xs : List ℕ) → length xs ≡ 0 → xs ≡ []
 none-of [] h = refl
@@ -137,15 +85,35 @@ made-plans delays copies ticks plans left h none some few =
       schedules = all_map (λ (ds : List ℕ). IsSchedule (record { delays = ds; length = ticks })) (λ (p : Schedule). p.delays) plans h.schedules;
     }
 
-pub ruleset pushed = (is_schedule-true)
-
--- plans with one length, as a mirror takes them
-pub first-ticks : (plans : List Schedule) (n : ℕ) → 0 < length plans → AllByRecursion (λ plan. plan.length ≡ n) plans → ticks_of_first plans ≡ n
+-- plans with one length and as many copies, as a mirror takes them
+first-ticks : (plans : List Schedule) (n : ℕ) → 0 < length plans → AllByRecursion (λ plan. plan.length ≡ n) plans → ticks_of_first plans ≡ n
 first-ticks [] n some all = absurd (omega (arith, some))
 first-ticks (p ∷ plans) n some all = all.0
 
-pub first-copies : (plans : List Schedule) (n : ℕ) → 0 < length plans → AllByRecursion (λ plan. length plan.delays ≡ n) plans → copies_of_first plans ≡ n
+first-copies : (plans : List Schedule) (n : ℕ) → 0 < length plans → AllByRecursion (λ plan. length plan.delays ≡ n) plans → copies_of_first plans ≡ n
 first-copies [] n some all = absurd (omega (arith, some))
 first-copies (p ∷ plans) n some all = all.0
 
-pub ruleset opened = (first-ticks, first-copies)
+some-plans : (plans : List Schedule) → 0 < length (delays_of_each plans) → 0 < length plans
+some-plans [] some = some
+some-plans (p ∷ plans) some = omega arith
+
+pub equal-ticks : (delays : List ℕ) (copies ticks : ℕ) (plans given : List Schedule) → ArePlans delays copies ticks (delays_of_each plans)
+    → AllByRecursion (λ plan. plan.length ≡ ticks) plans → given ≡ plans → AllByRecursion (λ plan. plan.length ≡ ticks_of_first given) given
+equal-ticks delays copies ticks plans given are all same =
+    subst (λ (ps : List Schedule). AllByRecursion (λ plan. plan.length ≡ ticks_of_first ps) ps) (sym same)
+    (subst (λ (n : ℕ). AllByRecursion (λ plan. plan.length ≡ n) plans) (sym (first-ticks plans ticks (some-plans plans are.some_plan) all)) all)
+
+pub equal-copies : (delays : List ℕ) (copies ticks : ℕ) (plans given : List Schedule) → ArePlans delays copies ticks (delays_of_each plans)
+    → AllByRecursion (λ plan. length plan.delays ≡ copies) plans → given ≡ plans → AllByRecursion (λ plan. length plan.delays ≡ copies_of_first given) given
+equal-copies delays copies ticks plans given are all same =
+    subst (λ (ps : List Schedule). AllByRecursion (λ plan. length plan.delays ≡ copies_of_first ps) ps) (sym same)
+    (subst (λ (n : ℕ). AllByRecursion (λ plan. length plan.delays ≡ n) plans) (sym (first-copies plans copies (some-plans plans are.some_plan) all)) all)
+
+-- and the length of the state that it opens with
+pub opens-with : (delays : List ℕ) (copies ticks : ℕ) (plans given : List Schedule) → ArePlans delays copies ticks (delays_of_each plans)
+    → AllByRecursion (λ plan. plan.length ≡ ticks) plans → given ≡ plans → ticks_of_first given ≡ ticks
+opens-with delays copies ticks plans given are all same =
+    ap (λ (ps : List Schedule). ticks_of_first ps) same ∙ first-ticks plans ticks (some-plans plans are.some_plan) all
+
+pub ruleset opened = (opens-with)

@@ -19,6 +19,7 @@ use Rattle.sync_model.specs.declared.turned.Turned.{Turned}
 use Rattle.mirror_c.specs.Worlds.{most_repaired}
 use Rattle.mirror_c.specs.declared.answer.Answer.{Answer}
 use Rattle.mirror_c.specs.declared.answer.RunItem.{RunItem}
+use Rattle.mirror_c.specs.declared.answer.CommandItem.{CommandItem}
 use Rattle.mirror_c.specs.declared.answer.TurnedItem.{TurnedItem}
 use Rattle.mirror_c.specs.declared.answer.HistoryItem.{HistoryItem}
 use Rattle.mirror_c.specs.declared.blank.Blank.{Blank}
@@ -124,6 +125,10 @@ turned_answer s = told_turn (answers s (turn_events (length s.runs)))
 abbrev pub after_turn : Option Engine → Option Engine
 after_turn None = None
 after_turn (Some engine) = Some (record { mirror = turn engine.mirror })
+
+-- a command that was accepted, as C sees it
+abbrev pub told_command : Command → CommandItem
+told_command x = record { from = x.from; number = x.number; time = x.time }
 
 -- a command that was turned away, as C sees it
 abbrev pub told_turned : Turned → TurnedItem

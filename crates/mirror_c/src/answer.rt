@@ -3,13 +3,13 @@
 ghost use Rattle.std.specs.Prelude.{◌≡◌};
 ghost use Rattle.game_trait.specs.declared.event.Reply.TheVariants.{Tick as ToTick, Arrive as ToArrive, Step as ToStep};
 ghost use Rattle.sync_model.specs.History.{repaired_in};
-ghost use Rattle.mirror_c.specs.Answers.{told, told_item, told_turned, told_event, refused};
+ghost use Rattle.mirror_c.specs.Answers.{told, told_item, told_command, told_turned, told_event, refused};
 
 use crate::codes::{
     A_RESTAGGER, A_STEP, A_TICK, AN_ARRIVAL, IDLE, LATE, MOVED, OVER, RAN, REPEAT, RESTAGGERED,
     TAKEN, VALUE,
 };
-use game_trait::{Arrived, Event, Item, Reply, Stepped, Ticked};
+use game_trait::{Arrived, Command, Event, Item, Reply, Stepped, Ticked};
 use sync_model::Turned;
 
 /// An answer: its kind, and a number that goes with it, else 0.
@@ -25,6 +25,15 @@ pub struct Answer {
 #[derive(Clone, Copy, Debug)]
 pub struct RunItem {
     pub is_beat: u32,
+    pub from: u32,
+    pub number: u32,
+    pub time: u32,
+}
+
+/// A command that was accepted.
+#[repr(C)]
+#[derive(Clone, Copy, Debug)]
+pub struct CommandItem {
     pub from: u32,
     pub number: u32,
     pub time: u32,
@@ -145,6 +154,17 @@ pub fn repaired_in(reply: Reply) -> u32
         Reply::Arrive(Arrived::Taken { repaired }) => u32::from(repaired),
         Reply::Step(Stepped::Ran { repaired }) => u32::from(repaired),
         _ => 0,
+    }
+}
+
+/// A command as C sees it.
+pub fn command_for_c(x: &Command) -> CommandItem
+    ensures { result ≡ told_command x.now }
+{
+    CommandItem {
+        from: u32::from(x.from),
+        number: x.number,
+        time: x.time,
     }
 }
 

@@ -1,20 +1,20 @@
 //! A mirror whose host keeps the worlds.
 
-ghost use Rattle.std.specs.Prelude.{◌≡◌, ℕ, ◌+◌, ◌-◌, ◌<◌, ◌≤◌, ◌⊎◌, length, slice_get, option_map, IfOk, IfErr};
+ghost use Rattle.std.specs.Prelude.{◌≡◌, ℕ, ◌+◌, ◌-◌, ◌<◌, ◌≤◌, ◌⊎◌, ◌↔◌, Err, length, slice_get, option_map, IfOk, IfErr};
 ghost use Rattle.game_trait.specs.Run.{beats};
 ghost use Rattle.sync_model.specs.State.{opening_state};
 ghost use Rattle.sync_model.specs.Drafts.{run_of};
-ghost use Rattle.mirror_c.specs.Rising.{ArePlans};
+ghost use Rattle.mirror_c.specs.Rising.{ArePlans, IsLegal};
 ghost use Rattle.sync_model.specs.Turns.{turn};
-ghost use Rattle.mirror_c.specs.Answers.{made, answered, turned_answer, of_copy, valued, told_item, told_turned, told_event, items_answer, items_put, put_answer, put_of};
+ghost use Rattle.mirror_c.specs.Answers.{made, answered, turned_answer, of_copy, valued, told_item, told_command, told_turned, told_event, items_answer, items_put, put_answer, put_of};
 
 use crate::answer::{
-    Answer, HistoryItem, RunItem, TurnedItem, bare, item_for_c, told_arrival, told_step, told_tick,
-    value,
+    Answer, CommandItem, HistoryItem, RunItem, TurnedItem, bare, item_for_c, told_arrival,
+    told_step, told_tick, value,
 };
 use crate::blank::Blank;
 use crate::codes::{BEYOND, NO_MEMORY, NO_ROOM, NOT_LEGAL, NOT_THERE, RESTAGGERED};
-use crate::listed::{events_from, fitting, turned_from};
+use crate::listed::{accepted_from, events_from, fitting, turned_from};
 use crate::plan::plans_of;
 use crate::turns::told_turn;
 use game_trait::limits::MOST_ROOM;
@@ -30,8 +30,8 @@ pub struct Engine {
 
 impl Engine {
     /// An engine before any event. The delays are those of 1 to 8 plans, one plan after another, each
-    /// of so many copies, and each must be with the length a schedule; the rooms are at most
-    /// 1,048,576.
+    /// of so many copies, and each with the length a schedule; the rooms are at most 1,048,576. Else
+    /// the answer is `NOT_LEGAL`.
     #[tactic(auto, using(crate::proofs::Plans::opened))]
     pub fn new(
         alloc: Global,
@@ -45,12 +45,16 @@ impl Engine {
             × (engine.mirror
             ≡ opening_state engine.mirror.opening length engine.mirror.plans room restaggers)) }
         ensures refused { IfErr result (λ why. (why ≡ NO_MEMORY) ⊎ (why ≡ NOT_LEGAL)) }
+        ensures legal { (result ≡ Err NOT_LEGAL)
+            ↔ (IsLegal delays.now copies length room restaggers → ⊥) }
     {
         if room > MOST_ROOM || restaggers > MOST_ROOM {
             return Err(NOT_LEGAL);
         }
-        let plans = plans_of(alloc, delays, copies, length)?;
-        match Mirror::new(alloc, &Blank, &plans, room, restaggers) {
+        let Some(plans) = plans_of(delays, copies, length) else {
+            return Err(NOT_LEGAL);
+        };
+        match Mirror::new(alloc, &Blank, plans.as_slice(), room, restaggers) {
             Ok(mirror) => Ok(Engine { mirror }),
             Err(_) => Err(NO_MEMORY),
         }
@@ -119,6 +123,27 @@ impl Engine {
         ensures { result ≡ valued self.now.mirror.spare }
     {
         value(self.mirror.spare())
+    }
+
+    /// The number of the plan in force.
+    pub fn plan(&self) -> Answer
+        ensures { result ≡ valued self.now.mirror.plan }
+    {
+        value(u32::from(self.mirror.plan()))
+    }
+
+    /// Puts the commands that were accepted, from a place on, into the front of `out`, as many as
+    /// there are and it holds, and tells how many.
+    pub fn accepted(&self, place: u32, out: &mut [CommandItem]) -> Answer
+        ensures answer { result
+            ≡ put_answer (length self.now.mirror.accepted) place (length out.old) }
+        ensures length { length out.new ≡ length out.old }
+        ensures items { (j : ℕ)
+            → j < put_of (length self.now.mirror.accepted) place (length out.old)
+            → slice_get out.new j
+            ≡ option_map told_command (slice_get self.now.mirror.accepted (place + j)) }
+    {
+        accepted_from(self.mirror.accepted(), place, out)
     }
 
     /// Puts the commands that were turned away, from a place on, into the front of `out`, as many

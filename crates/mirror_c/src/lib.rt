@@ -3,12 +3,12 @@
 //! repaired, as `mirror_core` proves it. `tss_mirror.h` declares the calls and says what a host does.
 #![tactic(auto)]
 
-ghost use Rattle.std.specs.Prelude.{◌≡◌, ◌==◌, ◌⊎◌, ℕ, ◌+◌, ◌<◌, None, Some, is_some, length, slice_get, option_map, IfSome};
+ghost use Rattle.std.specs.Prelude.{◌≡◌, ◌==◌, ◌⊎◌, ◌↔◌, ℕ, ◌+◌, ◌<◌, None, Some, is_some, length, slice_get, option_map, IfSome};
 ghost use Rattle.game_trait.specs.Run.{beats};
 ghost use Rattle.sync_model.specs.State.{opening_state};
 ghost use Rattle.sync_model.specs.Drafts.{run_of};
-ghost use Rattle.mirror_c.specs.Rising.{ArePlans};
-ghost use Rattle.mirror_c.specs.Answers.{after_call, after_turn, answer_to, answer_from, command, turned_answer, of_copy, valued, told_item, told_turned, told_event, items_answer, items_put, put_answer, put_of};
+ghost use Rattle.mirror_c.specs.Rising.{ArePlans, IsLegal};
+ghost use Rattle.mirror_c.specs.Answers.{after_call, after_turn, answer_to, answer_from, command, turned_answer, of_copy, valued, told_item, told_command, told_turned, told_event, items_answer, items_put, put_answer, put_of};
 
 mod answer;
 mod blank;
@@ -21,7 +21,7 @@ mod listed;
 mod plan;
 mod turns;
 
-use answer::{Answer, HistoryItem, RunItem, TurnedItem, bare};
+use answer::{Answer, CommandItem, HistoryItem, RunItem, TurnedItem, bare};
 use codes::{MADE, NO_ENGINE, NO_MEMORY, NOT_LEGAL};
 use engine::Engine;
 use game_trait::{Act, Command, Event, Tick};
@@ -45,6 +45,8 @@ pub extern "C" fn tss_new(
         ≡ opening_state engine.mirror.opening length engine.mirror.plans room restaggers)) }
     ensures told { is_some tss.new.held.engine ≡ (result.kind == MADE) }
     ensures refused { (result.kind ≡ MADE) ⊎ ((result.kind ≡ NO_MEMORY) ⊎ (result.kind ≡ NOT_LEGAL)) }
+    ensures legal { (result.kind ≡ NOT_LEGAL)
+        ↔ (IsLegal delays.now copies length room restaggers → ⊥) }
 {
     drop(tss.take(alloc));
     let engine = match Engine::new(alloc, delays, copies, length, room, restaggers) {
@@ -168,6 +170,20 @@ pub extern "C" fn tss_spare(alloc: Global, tss: &mut Tss) -> Answer
     answer
 }
 
+/// The number of the plan in force.
+#[unsafe(no_mangle)]
+pub extern "C" fn tss_plan(alloc: Global, tss: &mut Tss) -> Answer
+    ensures state { tss.new.held.engine ≡ tss.old.held.engine }
+    ensures answer { result ≡ answer_from tss.old.held.engine (λ s. valued s.plan) }
+{
+    let Some(engine) = tss.take(alloc) else {
+        return bare(NO_ENGINE);
+    };
+    let answer = engine.plan();
+    *tss = Tss::of(engine);
+    answer
+}
+
 /// The mirror's clock.
 #[unsafe(no_mangle)]
 pub extern "C" fn tss_clock(alloc: Global, tss: &mut Tss) -> Answer
@@ -232,6 +248,31 @@ pub extern "C" fn tss_items(
         return bare(NO_ENGINE);
     };
     let answer = engine.items(copy, place, out);
+    *tss = Tss::of(engine);
+    answer
+}
+
+/// Puts the commands that were accepted, in order of arrival and from a place on, into `out`, as many
+/// as there are and it holds, and tells how many.
+#[unsafe(no_mangle)]
+pub extern "C" fn tss_accepted(
+    alloc: Global,
+    tss: &mut Tss,
+    place: u32,
+    out: &mut [CommandItem],
+) -> Answer
+    ensures state { tss.new.held.engine ≡ tss.old.held.engine }
+    ensures answer { result ≡ answer_from tss.old.held.engine
+        (λ s. put_answer (length s.accepted) place (length out.old)) }
+    ensures length { length out.new ≡ length out.old }
+    ensures items { IfSome tss.old.held.engine (λ engine. (j : ℕ)
+        → j < put_of (length engine.mirror.accepted) place (length out.old) → slice_get out.new j
+        ≡ option_map told_command (slice_get engine.mirror.accepted (place + j))) }
+{
+    let Some(engine) = tss.take(alloc) else {
+        return bare(NO_ENGINE);
+    };
+    let answer = engine.accepted(place, out);
     *tss = Tss::of(engine);
     answer
 }

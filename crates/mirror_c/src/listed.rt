@@ -1,11 +1,14 @@
 //! Lists of a mirror, put into what C gives.
 
 ghost use Rattle.std.specs.Prelude.{◌≡◌, ℕ, ◌+◌, ◌-◌, ◌^◌, ◌<◌, ◌≤◌, min, length, slice_get, option_map};
-ghost use Rattle.mirror_c.specs.Answers.{told_turned, told_event, put_of, put_answer};
+ghost use Rattle.mirror_c.specs.Answers.{told_command, told_turned, told_event, put_of, put_answer};
 
-use crate::answer::{Answer, HistoryItem, TurnedItem, bare, event_for_c, turned_for_c, value};
+use crate::answer::{
+    Answer, CommandItem, HistoryItem, TurnedItem, bare, command_for_c, event_for_c, turned_for_c,
+    value,
+};
 use crate::codes::NOT_THERE;
-use game_trait::Event;
+use game_trait::{Command, Event};
 use sync_model::Turned;
 
 /// A length as a number of items, at most the greatest `u32`.
@@ -25,6 +28,36 @@ fn count_of(len: usize, place: u32, room: usize) -> u32
     ensures { result ≡ put_of len place room }
 {
     fitting((len - place as usize).min(fitting(room) as usize))
+}
+
+/// Puts the commands that were accepted, from a place on, into the front of `out`, as many as there
+/// are and it holds, and tells how many.
+pub fn accepted_from(all: &[Command], place: u32, out: &mut [CommandItem]) -> Answer
+    ensures answer { result ≡ put_answer (length all.now) place (length out.old) }
+    ensures length { length out.new ≡ length out.old }
+    ensures items { (j : ℕ) → j < put_of (length all.now) place (length out.old)
+        → slice_get out.new j ≡ option_map told_command (slice_get all.now (place + j)) }
+{
+    if place as usize > all.len() {
+        return bare(NOT_THERE);
+    }
+    let count = count_of(all.len(), place, out.len());
+    put_accepted(all, place as usize, count as usize, out);
+    value(count)
+}
+
+// Puts so many from a place on, which are there, into the front of `out`.
+fn put_accepted(all: &[Command], place: usize, count: usize, out: &mut [CommandItem])
+    requires there { place + count ≤ length all.now }
+    requires fits { count ≤ length out.old }
+    ensures length { length out.new ≡ length out.old }
+    ensures items { (j : ℕ) → j < count
+        → slice_get out.new j ≡ option_map told_command (slice_get all.now (place + j)) }
+    ensures rest { (j : ℕ) → count ≤ j → slice_get out.new j ≡ slice_get out.old j }
+{
+    for i in 0..count {
+        out[i] = command_for_c(&all[place + i]);
+    }
 }
 
 /// Puts the commands that were turned away, from a place on, into the front of `out`, as many as

@@ -10,3 +10,4 @@ mod Along
 mod Executed
 mod Deferring
 pub mod WholeTurns
+mod Drained

@@ -1,4 +1,5 @@
 pub mod Deferred
+pub mod Drained
 pub mod Epochs
 pub mod Kept
 pub mod Drafts

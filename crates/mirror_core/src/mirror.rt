@@ -11,6 +11,7 @@ ghost use Rattle.sync_model.specs.History.{HasRoom, HasRoomAlong, repairs as rep
 ghost use Rattle.sync_model.specs.Turns.{turn, turn_events, is_drained, drain, drain_bound};
 ghost use Rattle.sync_model.specs.Drafts.{epoch as epoch_of, ready_of, FitsReady};
 ghost use Rattle.mirror_core.specs.Kept.{delays_of_each, ticks_of_first, copies_of_first};
+ghost use Rattle.mirror_core.specs.Drained.{AreInOrder};
 ghost use Rattle.mirror_core.specs.Drafts.{drafted as drafted_by, committed_to, committed, IfDraft};
 
 use crate::drafts::{Committed, Drafted, Ready};
@@ -245,8 +246,18 @@ impl<G: Game> Mirror<G> {
         replies
     }
 
-    /// Makes turns until every copy has run the whole match.
+    /// Makes turns until every copy has run the whole match. Each copy's world is then the
+    /// time-ordered execution of what was accepted.
     pub fn drain(&mut self)
+        ensures state { self.new ≡ drain self.old }
+        ensures worlds { AreInOrder G.rules self.new }
+    {
+        self.always();
+        self.run_to_the_end();
+    }
+
+    // Makes turns until every copy has run the whole match.
+    fn run_to_the_end(&mut self)
         ensures { self.new ≡ drain self.old }
     {
         let turns = self.turns_to_drain();

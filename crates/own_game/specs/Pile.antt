@@ -1,12 +1,8 @@
 -- A pile of stones, of which four players take: the rules.
-use Rattle.std.specs.Prelude.{◌≡◌, ℕ, ◌+◌, ◌-◌, min, nat_lt, if◌then◌else◌, slice_index_or, slice_set}
-use Rattle.std.specs.List.{AllByRecursion}
+use Rattle.std.specs.Prelude.{ℕ, ◌+◌, ◌-◌, min, nat_lt, if◌then◌else◌, slice_index_or, slice_set}
 use Rattle.game_trait.specs.Game.{Rules}
-use Rattle.game_trait.specs.Ordered.{time_ordered}
-use Rattle.game_trait.specs.Run.{world_of}
 use Rattle.game_trait.specs.declared.command.Act.{Act}
 use Rattle.game_trait.specs.declared.command.Act.TheVariants.{Go, Left, Right, Shoot, Dash}
-use Rattle.sync_model.specs.State.{MirrorState}
 use Rattle.own_game.specs.declared.pile.Pile.{Pile}
 
 -- the pile after a player takes so many stones, or all that there are
@@ -34,9 +30,3 @@ pile_rules = record {
   apply = λ pile x. acted pile x.player x.act;
   beat = λ pile. record pile { stones = min (pile.stones + 1) 100 };
 }
-
--- every copy's pile is the time-ordered execution of what was accepted
-abbrev pub AreInOrder : MirrorState Pile → Type 0
-AreInOrder s = AllByRecursion
-    (λ run. world_of pile_rules s.opening run
-    ≡ time_ordered pile_rules s.opening s.accepted s.length) s.runs

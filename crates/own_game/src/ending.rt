@@ -3,7 +3,8 @@
 ghost use Rattle.std.specs.Prelude.{◌≡◌, IfOk};
 ghost use Rattle.game_trait.specs.Ordered.{time_ordered};
 ghost use Rattle.sync_model.specs.Turns.{drain};
-ghost use Rattle.own_game.specs.Pile.{pile_rules, AreInOrder};
+ghost use Rattle.mirror_core.specs.Drained.{AreInOrder};
+ghost use Rattle.own_game.specs.Pile.{pile_rules};
 
 use crate::pile::Pile;
 use game_trait::{Game, execute_in_order};
@@ -15,9 +16,8 @@ use tss_io::NoMemory;
 /// was accepted.
 pub fn end(mirror: &mut Mirror<Pile>)
     ensures drained { mirror.new ≡ drain mirror.old }
-    ensures piles { AreInOrder mirror.new }
+    ensures piles { AreInOrder pile_rules mirror.new }
 {
-    mirror.always();
     mirror.drain();
 }
 

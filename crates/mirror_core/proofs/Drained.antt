@@ -1,14 +1,14 @@
--- A mirror of the game that is drained has the time-ordered execution in every copy.
+-- A mirror that is drained has the time-ordered execution in every copy.
 use Rattle.std.proofs.Common.{ℕ, zero, suc, List, [], ◌∷◌}
 use Rattle.std.specs.Prelude.{slice_index_or}
 use Rattle.std.specs.List.{AllByRecursion}
+use Rattle.game_trait.specs.Game.{Rules}
 use Rattle.sync_model.specs.Consistent.{IsConsistent}
 use Rattle.sync_model.specs.Schedule.{DelaysRise, IsSchedule}
 use Rattle.sync_model.specs.State.{MirrorState}
 use Rattle.sync_model.specs.Turns.{drain}
 use Rattle.sync_model.proofs.Drain.{draining_ends, drained_worlds, staggered-drain}
-use Rattle.own_game.specs.declared.pile.Pile.{Pile}
-use Rattle.own_game.specs.Pile.{pile_rules, AreInOrder}
+use Rattle.mirror_core.specs.Drained.{AreInOrder}
 
 -- the delays of the plan in force rise, as those of every plan do
 rising : (ticks : ℕ) (plans : List (List ℕ)) (p : ℕ)
@@ -19,7 +19,7 @@ rising ticks [] p h = tt
 rising ticks (delays ∷ plans) zero h = h.0.delays_rise
 rising ticks (delays ∷ plans) (suc p) h = rising ticks plans p h.1
 
-pub in-order : (s : MirrorState Pile) → IsConsistent s → AreInOrder (drain s)
-in-order s is =
+pub in-order : {W : Type 0} (rules : Rules W) (s : MirrorState W) → IsConsistent s → AreInOrder rules (drain s)
+in-order rules s is =
     let rise = rising s.length s.plans s.plan is.well_formed.plans.schedules in
-    drained_worlds pile_rules (drain s) (staggered-drain s is.staggered) (draining_ends s rise is.staggered)
+    drained_worlds rules (drain s) (staggered-drain s is.staggered) (draining_ends s rise is.staggered)
