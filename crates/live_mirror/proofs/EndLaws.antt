@@ -45,6 +45,7 @@ record ClosesWithItsPart (number : ℕ) (told : List ℕ) (s : SessionState Worl
   pub setup : IsOfSetup game s
   pub arrived : AllByRecursion (IsOfMatch game) s.mirror.history
   pub is_end : (commands : List Command) → AllByRecursion (IsAmong commands) s.mirror.history → IsEnd (opening_world game.layout) game commands number s
+  pub numbered : s.number ≡ number
   pub front : List ℕ
   pub told_is : told ≡ front ++ (record_part (arena_shown game) number s.mirror ++ done_line)
 
@@ -74,6 +75,7 @@ end_told number t is =
       setup = of_setup number ended led;
       arrived = led.arrived;
       is_end = λ commands among. record { line = is.line; asked = is.asked; fit = led.fit; ended = led.led; among = among };
+      numbered = numbered;
       front = told.0;
       told_is = ap (λ (text : List ℕ). text ++ done_line) told.1
           ∙ append_assoc told.0 (record_part (show_of arena_rules block_of t) t.number ended.mirror) done_line
@@ -168,6 +170,7 @@ told-before number a b s part = record {
   setup = part.setup;
   arrived = part.arrived;
   is_end = part.is_end;
+  numbered = part.numbered;
   front = a ++ part.front;
   told_is = ap (λ (text : List ℕ). a ++ text) part.told_is ∙ sym (append_assoc a part.front (record_part (arena_shown part.game) number s.mirror ++ done_line));
 }
@@ -209,11 +212,12 @@ module _ (m : MatchData) (number : ℕ) (t : EndedTalk) (talk : IsTalkOf m numbe
   part = closes number t.bytes t.state talk.heard talk.ended
 
   -- what was told closes with a record's part, and `done`
-  pub talk_closes : (front : List ℕ) × (told_of live_way (fresh (opening_live number)) (lines_of t.bytes) ≡ front ++ (record_part (arena_shown m) number t.state.mirror ++ done_line))
+  pub talk_closes : (front : List ℕ) × (t.state.number ≡ number)
+      × (told_of live_way (fresh (opening_live number)) (lines_of t.bytes) ≡ front ++ (record_part (arena_shown m) number t.state.mirror ++ done_line))
   talk_closes =
       let names : part.game.names ≡ m.names = sym part.setup.names ∙ talk.setup.names in
       let shown : arena_shown part.game ≡ arena_shown m = λ i. record { rules = arena_rules; lines = block_of; names = names i } in
-      (part.front, part.told_is ∙ ap (λ (show : Showing World). part.front ++ (record_part show number t.state.mirror ++ done_line)) shown)
+      (part.front, part.numbered, part.told_is ∙ ap (λ (show : Showing World). part.front ++ (record_part show number t.state.mirror ++ done_line)) shown)
 
   same-opening : (due : ℕ) → begun part.game number due ≡ begun m number due
   same-opening due =
