@@ -3,11 +3,10 @@ use Rattle.std.proofs.Common.{◌≡◌, ℕ, ◌<◌, true, false, cond, ltb, L
 use Rattle.std.proofs.lemmas.Bool.{ltb-true}
 use Rattle.arena_rules.specs.World.{World, opening_world}
 use Rattle.tss_io.specs.declared.cause.Cause.{Cause}
-use Rattle.tss_io.specs.declared.cause.Cause.TheVariants.{Number, Shape, Long}
+use Rattle.tss_io.specs.declared.cause.Cause.TheVariants.{Number, Long}
 use Rattle.tss_io.specs.Kinds.{is_long}
 use Rattle.tss_io.specs.Lines.{Lines, torn, line, lines_of}
 use Rattle.tss_io.specs.Results.{◌>>=◌}
-use Rattle.tss_io.proofs.MachineLaws.{ExactText}
 use Rattle.line_talk.specs.Hearing.{Hearing, hear, fresh, led_on, kept}
 use Rattle.match_file.specs.Around.{Around, first_due, in_match, behind}
 use Rattle.match_file.specs.Data.{MatchData, IsMatch}
@@ -15,22 +14,25 @@ use Rattle.match_file.proofs.AroundLaws.{ExactTail, IsAround, around_exact}
 use Rattle.live_text.specs.declared.request.Request.{Request}
 use Rattle.live_text.specs.declared.request.Request.TheVariants.{Own, Cmd, Tick, Turn, Step, Restagger, World as AskWorld, Run, Commands, End}
 use Rattle.live_text.specs.Requests.{request_at, FitsTerms}
+use Rattle.live_text.specs.Texts.{MayAsk}
 use Rattle.live_text.proofs.FitLaws.{request_fits}
+use Rattle.live_text.proofs.TextLaws.{takes}
 use Rattle.live_mirror.specs.Events.{after_requests, FitAlong}
 use Rattle.live_mirror.specs.Led.{SameButLine, begun, IsLed}
 use Rattle.live_mirror.specs.Session.{SessionState, after_request, mirror_after, next_after, next_line, opening_session, terms_of}
 use Rattle.live_mirror.specs.Way.{led_by, asked_by}
 use Rattle.live_mirror.specs.Head.{Place, heading, asking, refused, first_line, head_machine, led_to, nothing_behind}
 use Rattle.live_mirror.specs.Live.{LiveState, live_way, place_after, after_head, opening_live}
+use Rattle.live_mirror.proofs.Arrivals.{are_terms, arrived-next}
 
 -- ---- requests
 
-after-more : {W : Type 0} (rs : List Request) (s : SessionState W) (r : Request) → after_requests s (rs ++ r ∷ []) ≡ after_request (after_requests s rs) r
+pub after-more : {W : Type 0} (rs : List Request) (s : SessionState W) (r : Request) → after_requests s (rs ++ r ∷ []) ≡ after_request (after_requests s rs) r
 unfolding after_requests
 after-more [] s r = refl
 after-more (q ∷ rs) s r = after-more rs (after_request s q) r
 
-fit-more : {W : Type 0} (rs : List Request) (s : SessionState W) (r : Request) → FitAlong s rs → FitsTerms (terms_of (after_requests s rs)) r → FitAlong s (rs ++ r ∷ [])
+pub fit-more : {W : Type 0} (rs : List Request) (s : SessionState W) (r : Request) → FitAlong s rs → FitsTerms (terms_of (after_requests s rs)) r → FitAlong s (rs ++ r ∷ [])
 unfolding after_requests FitAlong
 fit-more [] s r fit here = (here, tt)
 fit-more (q ∷ rs) s r fit here = (fit.0, fit-more rs (after_request s q) r fit.1 here)
@@ -49,11 +51,11 @@ after-erased s (Run copy) = refl
 after-erased s Commands = refl
 after-erased s End = refl
 
-after-same : {W : Type 0} (s t : SessionState W) (r : Request) → SameButLine s t → SameButLine (after_request s r) (after_request t r)
+pub after-same : {W : Type 0} (s t : SessionState W) (r : Request) → SameButLine s t → SameButLine (after_request s r) (after_request t r)
 after-same {W} s t r same = after-erased s r ∙ ap (λ (u : SessionState W). record (after_request u r) { line = 0 }) same ∙ sym (after-erased t r)
 
-asked-on : (number : ℕ) (s : SessionState World) (r : Request) → IsLed number s → FitsTerms (terms_of s) r → IsLed number (after_request s r)
-asked-on number s r is fits =
+asked-on : (number : ℕ) (s : SessionState World) (r : Request) → IsLed number s → FitsTerms (terms_of s) r → MayAsk (terms_of s) r → IsLed number (after_request s r)
+asked-on number s r is fits may =
     let first = begun is.game number is.line in
     let t = after_requests first is.asked in
     let here : FitsTerms (terms_of t) r = subst (λ (u : SessionState World). FitsTerms (terms_of u) r) is.led fits in
@@ -65,6 +67,7 @@ asked-on number s r is fits =
       asked = is.asked ++ r ∷ [];
       fit = fit-more is.asked first r is.fit here;
       led = after-same s t r is.led ∙ ap (λ (u : SessionState World). record u { line = 0 }) (sym (after-more is.asked first r));
+      arrived = arrived-next number s r is may;
     }
 
 -- a line that asks, or that is refused
@@ -75,7 +78,9 @@ request-of s l r e = elim (is_long l) as (λ b. ◌≡◌ {A = Result Request Ca
 ] e
 
 led-by : (number : ℕ) (s : SessionState World) (l : List ℕ) (q : Result Request Cause) → asked_by s l ≡ q → IsLed number s → IsLed number (led_by s q)
-led-by number s l (Ok r) e is = asked-on number s r is (request_fits (terms_of s) l r (request-of s l r e))
+led-by number s l (Ok r) e is =
+    let read = request-of s l r e in
+    asked-on number s r is (request_fits (terms_of s) l r read) (takes (terms_of s) l r (are_terms number s is) read).1
 led-by number s l (Err cause) e is = record {
   game = is.game;
   is_match = is.is_match;
@@ -84,6 +89,7 @@ led-by number s l (Err cause) e is = record {
   asked = is.asked;
   fit = is.fit;
   led = is.led;
+  arrived = is.arrived;
 }
 
 -- ---- the head
@@ -95,18 +101,18 @@ nothing = record {
   nothing = λ m. refl;
 }
 
-abbrev IsHead : Around (Unit {0}) → Type 0
+abbrev pub IsHead : Around (Unit {0}) → Type 0
 IsHead at = IsAround (λ _ _. Unit {0}) at
 
 -- so it is at a place
-abbrev Holds : ℕ → Place → Type 0
+abbrev pub Holds : ℕ → Place → Type 0
 Holds number (heading due at) = IsHead at
 Holds number (asking s) = IsLed number s
 Holds number refused = Unit {0}
 
 begins : (number next : ℕ) (m : MatchData) → IsMatch m → number < m.mirrors → IsLed number (begun m number next)
 unfolding after_requests FitAlong
-begins number next m is there = record { game = m; is_match = is; there = there; line = next; asked = []; fit = tt; led = refl }
+begins number next m is there = record { game = m; is_match = is; there = there; line = next; asked = []; fit = tt; led = refl; arrived = tt }
 
 opened : (number next : ℕ) (at : Around (Unit {0})) → IsHead at → Holds number (after_head (led_to number next at))
 opened number next first_due is = tt
@@ -122,7 +128,7 @@ headed : (number next : ℕ) (at : Around (Unit {0})) (l : List ℕ) (r : Result
 headed number next at l (Ok b) is short e = opened number next b ((around_exact first_line nothing).says at l b is short e).1
 headed number next at l (Err cause) is short e = tt
 
-step : (number : ℕ) (p : Place) (l : List ℕ) → Holds number p → Holds number (place_after number p l)
+pub step : (number : ℕ) (p : Place) (l : List ℕ) → Holds number p → Holds number (place_after number p l)
 step number (heading due at) l here =
     let next = next_line due in
     elim (is_long l) as (λ long. is_long l ≡ long → Holds number (after_head (cond long (Err Long) (head_machine.take at l >>= λ read. led_to number next read)))) [

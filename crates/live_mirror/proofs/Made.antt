@@ -105,7 +105,7 @@ unfolding HasRoomAlong
 one-room s e room = (room, tt)
 
 -- ticks and steps of copies that are there
-abbrev IsTurning : ℕ → Event → Type 0
+abbrev pub IsTurning : ℕ → Event → Type 0
 IsTurning copies events.Tick = Unit {0}
 IsTurning copies (events.Step c) = c < copies
 IsTurning copies (events.Arrive x) = ⊥
@@ -116,10 +116,10 @@ unfolding steps_from
 steps-turning copies zero c within = tt
 steps-turning copies (suc n) c within = (omega (arith, within), steps-turning copies n (c + 1) (omega (arith, within)))
 
-turn-turning : (copies : ℕ) → AllByRecursion (IsTurning copies) (turn_events copies)
+pub turn-turning : (copies : ℕ) → AllByRecursion (IsTurning copies) (turn_events copies)
 turn-turning copies = (tt, steps-turning copies copies 0 (omega arith))
 
-turns-turning : (copies n : ℕ) → AllByRecursion (IsTurning copies) (turns_of copies n)
+pub turns-turning : (copies n : ℕ) → AllByRecursion (IsTurning copies) (turns_of copies n)
 unfolding turns_of
 turns-turning copies zero = tt
 turns-turning copies (suc n) = all-append (IsTurning copies) (turn_events copies) (turns_of copies n) (turn-turning copies) (turns-turning copies n)

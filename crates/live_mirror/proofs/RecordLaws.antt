@@ -8,7 +8,7 @@ use Rattle.game_trait.specs.declared.command.Item.{Item}
 use Rattle.game_trait.proofs.KeyOrder.{all-weaker}
 use Rattle.sync_model.specs.Change.{after}
 use Rattle.sync_model.specs.Drafts.{run_of}
-use Rattle.sync_model.specs.History.{without_room, repairs}
+use Rattle.sync_model.specs.History.{repairs}
 use Rattle.sync_model.specs.State.{MirrorState}
 use Rattle.sync_model.specs.Turns.{drain, drain_bound}
 use Rattle.match_file.specs.Data.{MatchData, IsCommand, IsMatch}
@@ -22,13 +22,13 @@ use Rattle.run_auditor.specs.declared.verdict.Verdict.TheVariants.{Legal}
 use Rattle.run_recorder.specs.Data.{EachNumbered}
 use Rattle.run_recorder.specs.Text.{blocks_text, log_text, record_head, last_line, record_mirrors_text, record_text}
 use Rattle.tss_io.specs.Lines.{as_line}
-use Rattle.live_text.specs.declared.request.Request.{Request}
 use Rattle.live_text.specs.declared.request.Request.TheVariants as requests
 use Rattle.live_mirror.specs.Events.{after_requests, IsAmong}
 use Rattle.live_mirror.specs.Record.{with_commands, MayBeCommands, IsEnd, AreEnds, each_block, log_of, worlds_of, record_of, told_at_ends, put_together}
 use Rattle.live_mirror.specs.Session.{SessionState, after_request, mirror_after, opening_session}
 use Rattle.live_mirror.specs.Told.{answer_text, copy_blocks, drain_text, record_part}
 use Rattle.live_mirror.proofs.Audited.{audited}
+use Rattle.live_mirror.proofs.Kept.{session_kept}
 
 -- ---- the match
 
@@ -87,11 +87,6 @@ told_behind show s =
 
 -- ---- the record
 
-number_kept : {W : Type 0} (rs : List Request) (s : SessionState W) → (after_requests s rs).number ≡ s.number
-unfolding after_requests
-number_kept [] s = refl
-number_kept (r ∷ rs) s = number_kept rs (after_request s r)
-
 -- the blocks of the copies behind these are stated as they are
 blocks_stated : {W : Type 0} (show : Showing W) (number : ℕ) (s : MirrorState W) (opening : W)
     (front behind : List (List Item)) (copy : ℕ) → s.opening ≡ opening → s.runs ≡ front ++ behind → copy ≡ length front
@@ -118,7 +113,7 @@ end_right {W} show opening m commands n s is end =
     let walked = after begun ended.mirror.history in
     let blocks : EachNumbered (IsStated show n walked) 0 (each_block show n ended.mirror.opening 0 ended.mirror.runs) =
     blocks_stated show n walked ended.mirror.opening [] ended.mirror.runs 0 (ap (λ (t : MirrorState W). t.opening) found.1) (ap (λ (t : MirrorState W). t.runs) found.1) refl in
-    let numbered = number_kept rs (opening_session opening m n end.line) in
+    let numbered = (session_kept rs (opening_session opening m n end.line)).number in
     let right : IsRightEnd show opening (with_commands m commands) n ended = record {
       legal = found.0;
       worlds = subst (λ (number : ℕ). EachNumbered (IsStated show n walked) 0 (each_block show number ended.mirror.opening 0 ended.mirror.runs)) (sym numbered) blocks;

@@ -1,3 +1,4 @@
+pub mod Arena
 pub mod Audit
 pub mod Verdicts
 pub mod Walks

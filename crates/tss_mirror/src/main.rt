@@ -2,7 +2,6 @@
 //! streams. What it does is `live`.
 #![tactic(auto)]
 
-mod behind;
 mod done;
 pub mod laws;
 mod live;
@@ -13,7 +12,6 @@ mod talking;
 mod tests;
 mod words;
 
-use crate::behind::words_behind;
 use crate::done::{Done, Status};
 use crate::live::live;
 use crate::streams::StreamPeer;
@@ -22,6 +20,7 @@ use std::process::ExitCode;
 use std::rt::Env;
 use std::{env, io};
 use tss_io::NoMemory;
+use tss_words::words_behind;
 
 // The program's own name and the words behind it, as the system tells them.
 fn arguments(rt: &(impl Env + Alloc<A = Global>)) -> io::Result<Vec<String>> {

@@ -2,7 +2,6 @@
 #![tactic(auto)]
 
 mod answer;
-mod arguments;
 mod asked;
 mod done;
 mod due;
@@ -13,11 +12,11 @@ mod status;
 mod stop;
 mod watched;
 
-pub use arguments::words_behind;
 pub use done::Done;
 pub use due::Due;
 pub use plain::run_plain;
 pub use race::{asks_race, run};
 pub use status::Status;
 pub use stop::Stop;
+pub use tss_words::words_behind;
 pub use watched::run_watched;

@@ -5,21 +5,16 @@ use Rattle.game_trait.specs.declared.command.Item.{Item}
 use Rattle.game_trait.specs.declared.limits.TheConstants.{LONGEST_RECORD_TEXT}
 use Rattle.game_trait.specs.Ordered.{time_ordered}
 use Rattle.tss_io.specs.Lines.{lines_text}
-use Rattle.arena_rules.specs.Block.{block_of}
-use Rattle.arena_rules.specs.World.{World, arena_rules}
 use Rattle.sync_model.specs.State.{MirrorState}
 use Rattle.match_file.specs.Data.{MatchData}
 use Rattle.match_hall.specs.Report.{Showing, copy_block}
 use Rattle.match_hall.specs.Script.{logs_from}
 use Rattle.run_recorder.specs.declared.log.MirrorLog.{MirrorLog}
 use Rattle.run_recorder.specs.declared.race_record.RaceRecord.{RaceRecord}
+pub use Rattle.run_auditor.specs.Arena.{arena_shown}
 use Rattle.run_recorder.specs.Data.{IsBlockLine}
 use Rattle.run_recorder.specs.Text.{record_text}
 use Rattle.race_hall.specs.Raced.{AreRaced}
-
--- how worlds of a match are shown whose game is the arena
-abbrev pub arena_shown : MatchData → Showing World
-arena_shown m = record { rules = arena_rules; lines = block_of; names = m.names }
 
 -- the blocks of a mirror's copies, of which the first has this number
 unfoldable pub blocks_from : {W : Type 0} → Showing W → ℕ → W → ℕ → List (List Item) → List (List ℕ)

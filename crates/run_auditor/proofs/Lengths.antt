@@ -1,6 +1,7 @@
 -- How long a history is: each event of it moved the clock, brought a command, ran a tick of a copy, or changed the plan.
 use Rattle.std.proofs.Common.{◌≡◌, ℕ, zero, suc, ◌+◌, ◌*◌, ◌≤◌, ◌<◌, false, List, [], ◌∷◌, map, length, get_or, set, refl, ap, sym, subst, arith, suc-mul}
 use Rattle.std.specs.List.{AllByRecursion, list_any}
+use Rattle.std.proofs.lemmas.Nat.{mul-le}
 use Rattle.std.proofs.lemmas.List.{length-map}
 use Rattle.std.proofs.Math.ListN.{get_or-map}
 use Rattle.std.proofs.Math.ListN.{length-append}
@@ -8,23 +9,25 @@ use Rattle.game_trait.specs.declared.command.Command.{Command}
 use Rattle.game_trait.specs.declared.command.Item.{Item}
 use Rattle.game_trait.specs.declared.event.Event.{Event}
 use Rattle.game_trait.specs.declared.event.Event.TheVariants.{Tick, Arrive, Step, Restagger}
+use Rattle.game_trait.specs.declared.limits.TheConstants.{LONGEST_DELAY}
 use Rattle.game_trait.specs.Count.{times}
 use Rattle.game_trait.specs.Events.{is_arrival, is_restagger}
 use Rattle.game_trait.specs.Run.{beats}
 use Rattle.game_trait.proofs.Counts.{times-append}
 use Rattle.game_trait.proofs.KeyOrder.{all-weaker}
-use Rattle.sync_model.specs.Schedule.{longest_delay}
+use Rattle.sync_model.specs.Lists.{last_of}
+use Rattle.sync_model.specs.Schedule.{IsSchedule, longest_delay}
 use Rattle.sync_model.specs.State.{MirrorState, opening_state, copy_clock}
 use Rattle.sync_model.specs.Change.{next, after, Fits, turned_away}
 use Rattle.sync_model.specs.History.{opening_of, IsFromHistory}
 use Rattle.sync_model.specs.Legal.{NamesWhatIsThere, IsLegal}
-use Rattle.sync_model.specs.Staggered.{IsStaggered, IsUnchangedPlan, greatest_delay}
-use Rattle.sync_model.specs.Turns.{IsDrained}
+use Rattle.sync_model.specs.Staggered.{IsStaggered, greatest_delay}
 use Rattle.sync_model.proofs.Along.{staggered_along, all-fit-next}
 use Rattle.sync_model.proofs.Cases.{tick-cases, arrive-cases, step-cases, restagger-cases}
 use Rattle.sync_model.proofs.Trailing.{beats-step, beats-arrival}
 use Rattle.sync_model.proofs.Legal.{named-fits}
 use Rattle.sync_model.proofs.Staggered.{opening_staggered, below_limit}
+use Rattle.match_file.specs.Data.{MatchData, IsMatch, schedule_of, all_plans}
 
 -- numbers added up
 unfoldable pub added : List ℕ → ℕ
@@ -81,7 +84,7 @@ counted-next s (Restagger p) fit here h =
     restagger-cases s p (λ t r. IsCounted t)
     (let a = length-append s.history (Restagger p ∷ []) in let b = times-append is_restagger s.history (Restagger p ∷ []) in omega (arith, h))
 
-counted-after : {W : Type 0} (es : List Event) (s : MirrorState W) → AllByRecursion (Fits s) es → IsStaggered s → IsCounted s → IsCounted (after s es)
+pub counted-after : {W : Type 0} (es : List Event) (s : MirrorState W) → AllByRecursion (Fits s) es → IsStaggered s → IsCounted s → IsCounted (after s es)
 unfolding after
 counted-after [] s fit here h = h
 counted-after (e ∷ es) s fit here h =
@@ -92,7 +95,7 @@ unfolding added beats
 added-none [] = refl
 added-none (d ∷ delays) = omega (arith, added-none delays)
 
-opening-counted : {W : Type 0} (opening : W) (length : ℕ) (plans : List (List ℕ)) (spare plan_spare : ℕ) → IsCounted (opening_state opening length plans spare plan_spare)
+pub opening-counted : {W : Type 0} (opening : W) (length : ℕ) (plans : List (List ℕ)) (spare plan_spare : ℕ) → IsCounted (opening_state opening length plans spare plan_spare)
 unfolding times
 opening-counted opening length plans spare plan_spare = sym (omega (arith, added-none (get_or plans 0 [])))
 
@@ -119,12 +122,13 @@ module _
   pub legal-in_bounds : IsStaggered s
   legal-in_bounds = subst IsStaggered (sym from) (staggered_along s.history (opening_of s) fit begins)
 
-added-all : (n : ℕ) (runs : List (List Item)) → AllByRecursion (λ run. beats run ≡ n) runs → added (map beats runs) ≡ length runs * n
+added-most : (n : ℕ) (runs : List (List Item)) → AllByRecursion (λ run. beats run ≤ n) runs → added (map beats runs) ≤ length runs * n
 unfolding added
-added-all n [] h = omega arith
-added-all n (run ∷ runs) h = omega (arith, h.0, added-all n runs h.1, suc-mul (length runs) n)
+added-most n [] h = omega arith
+added-most n (run ∷ runs) h = omega (arith, h.0, added-most n runs h.1, suc-mul (length runs) n)
 
-none-counted : (es : List Event) → list_any is_restagger es ≡ false → times is_restagger es ≡ 0
+-- where the plan was never changed
+pub none-counted : (es : List Event) → list_any is_restagger es ≡ false → times is_restagger es ≡ 0
 unfolding times
 none-counted [] h = refl
 none-counted (Tick ∷ es) h = omega (arith, none-counted es h)
@@ -132,13 +136,36 @@ none-counted (Arrive x ∷ es) h = omega (arith, none-counted es h)
 none-counted (Step c ∷ es) h = omega (arith, none-counted es h)
 none-counted (Restagger p ∷ es) h = absurd (cc h)
 
-pub greatest-most : (n : ℕ) (plans : List (List ℕ)) → AllByRecursion (λ delays. longest_delay delays ≤ n) plans → greatest_delay plans ≤ n
+-- ---- the history of a mirror of a match
+
+greatest-most : (n : ℕ) (plans : List (List ℕ)) → AllByRecursion (λ delays. longest_delay delays ≤ n) plans → greatest_delay plans ≤ n
 unfolding greatest_delay
 greatest-most n [] h = omega arith
 greatest-most n (delays ∷ plans) h = omega (arith, h.0, greatest-most n plans h.1)
 
--- the history of a drained mirror whose plan was never changed: the clock, what came, and the length for each copy
-pub drained-history :
-    {W : Type 0} (s : MirrorState W) → IsCounted s → IsDrained s → IsUnchangedPlan s
-    → length s.history ≡ s.clock + (length s.accepted + length s.turned) + length s.runs * s.length
-drained-history s counted drained same = omega (arith, counted, added-all s.length s.runs drained, none-counted s.history same)
+last-most : (n d : ℕ) (ds : List ℕ) → d ≤ n → AllByRecursion (λ delay. delay ≤ n) ds → last_of d ds ≤ n
+unfolding last_of
+last-most n d [] low h = low
+last-most n d (e ∷ ds) low h = last-most n e ds h.0 h.1
+
+-- no plan of a match has a longer delay than may be
+short_plans : (m : MatchData) → IsMatch m → AllByRecursion (λ delays. longest_delay delays ≤ LONGEST_DELAY) (all_plans m)
+short_plans m is = (
+  last-most LONGEST_DELAY 0 m.delays (omega arith) is.delays.short_delays,
+  all-weaker (λ p. IsSchedule (schedule_of m p) × (length p ≡ length m.delays)) (λ delays. longest_delay delays ≤ LONGEST_DELAY) m.plans
+      (λ p h. last-most LONGEST_DELAY 0 p (omega arith) h.0.short_delays) is.plans,
+)
+
+-- ticks up to the clock's end and, for each copy, the match's length of steps; what came, and the changes of the plan
+pub history-most :
+    {W : Type 0} (m : MatchData) (s : MirrorState W) → IsMatch m → s.length ≡ m.length → s.plans ≡ all_plans m → length s.runs ≡ length m.delays
+    → IsCounted s → IsStaggered s
+    → length s.history ≤ 74752 + (length s.accepted + length s.turned) + times is_restagger s.history
+history-most m s is ticks plans copies counted staggered =
+    let greatest : greatest_delay s.plans ≤ LONGEST_DELAY =
+    subst (λ (ps : List (List ℕ)). greatest_delay ps ≤ LONGEST_DELAY) (sym plans) (greatest-most LONGEST_DELAY (all_plans m) (short_plans m is)) in
+    let long : s.length ≤ 8192 = omega (arith, ticks, is.ticks.1) in
+    let few : length s.runs ≤ 8 = omega (arith, copies, is.delays.few_copies) in
+    let ran = added-most s.length s.runs staggered.in_bounds.within_match in
+    let steps : length s.runs * s.length ≤ 8 * 8192 = mul-le (length s.runs) s.length 8 8192 few long in
+    omega (arith, counted, staggered.in_bounds.before_end, greatest, long, ran, steps)

@@ -1,4 +1,4 @@
-//! The words that the system hands to the program.
+//! The words that the system hands to a program.
 
 ghost use Rattle.std.specs.Prelude.{◌≡◌, ◌≢◌, [], map, drop, IfOk, IfErr, OnOk};
 ghost use Rattle.std.specs.Result.{IsOkAnd};

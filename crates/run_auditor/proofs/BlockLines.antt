@@ -32,7 +32,6 @@ use Rattle.arena_rules.specs.declared.shot.Shot.{Shot}
 use Rattle.match_file.specs.Names.{is_letter, is_name_byte, is_name}
 use Rattle.run_recorder.specs.Data.{IsBlockLine}
 use Rattle.run_recorder.specs.Text.{is_shown, first_of, first_word, is_block_line}
-use Rattle.tss_race.specs.Record.{AreBlockLines}
 
 -- ---- a line of short words
 
@@ -304,9 +303,6 @@ world_shown world names sound named =
     (omega (arith, few, sound.shots.count, sound.pickups.count))
     (both_texts (length world.players) (length world.shots + length world.pickups) (state_lines names 0 world.players)
     (flat_map (shot_line names) world.shots ++ flat_map item_line world.pickups) players rest)
-
-pub shown_lines : (most : ℕ) (text : List ℕ) → IsShownIn most text → AreBlockLines text
-shown_lines most text h = (h.lines, h.each, h.whole)
 
 -- ---- how long such a text is
 
