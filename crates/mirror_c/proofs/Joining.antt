@@ -6,7 +6,7 @@ use Rattle.game_trait.specs.declared.limits.TheConstants.{LONGEST_MATCH}
 use Rattle.game_trait.specs.Game.{Rules}
 use Rattle.game_trait.specs.Ordered.{time_ordered}
 use Rattle.sync_model.specs.Schedule.{Schedule, ticks_of_first}
-use Rattle.sync_model.specs.Change.{after, Fits}
+use Rattle.sync_model.specs.Change.{Fits}
 use Rattle.sync_model.specs.Turns.{IsDrained}
 use Rattle.sync_model.proofs.Along.{staggered_along}
 use Rattle.sync_model.proofs.Cases.{after-fixed}

@@ -14,4 +14,4 @@ take_unissued-requires-clause-can g c =
 pub returns : goal.returns
 returns g c =
     finish-state c.args.mirror.now c.take_links.new.mirror c.take_unissued.new.mirror c.drain.new.self (left_in c.args.links.now) (unissued_in c.args.senders.now)
-    c.take_links.ensures c.take_unissued.ensures c.drain.ensures
+    c.take_links.ensures c.take_unissued.ensures c.drain.ensures.state
