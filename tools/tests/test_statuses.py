@@ -60,10 +60,9 @@ class Statuses(unittest.TestCase):
 
     def test_1_a_world_that_was_looked_up_finds_no_memory(self):
         """Looks at one tick and at 16 print as much, but keep one world and 16: some memory is enough for the former alone."""
-        one, each = (["rewind", "8192", "64", *map(str, ticks)] for ticks in ([100] * 16, range(100, 116)))
-        for commands in range(0, 4096, 20):
-            lines = ENDED.splitlines()[:7] + [f"cmd {number} 0 {number} 0 left" for number in range(commands)] + ["end"]
-            text = "".join(line + "\n" for line in lines).replace("length 1\n", "length 8192\n")
+        text = ENDED.replace("length 1\n", "length 8192\n")
+        for kept in range(1, 256):
+            one, each = (["rewind", str(8192 // kept), "64", *map(str, ticks)] for ticks in ([100] * 16, range(100, 116)))
             limit = (least_limit(one, text) + 16) * PAGE
             if (ended(one, text, limit=limit)[0], ended(each, text, limit=limit)[0]) == (0, 1):
                 self.assertEqual(ended(each, text, limit=limit), (1, "", "tss: out of memory\n"))
