@@ -1,6 +1,7 @@
 """The mirrors of this machine, their common clock, and what becomes of what was played."""
 
 import asyncio
+import gc
 import itertools
 import os
 import random
@@ -93,7 +94,11 @@ class Session:
                         link.tell_start()
         await self.wait_for_start(stop)
         end = None if seconds is None else time.time() + seconds
-        await asyncio.gather(*[self.tick(room, end, stop) for room in self.rooms.values()])
+        gc.disable()  # a collection stops all mirrors for some 10 ms; what a match leaves in cycles is little
+        try:
+            await asyncio.gather(*[self.tick(room, end, stop) for room in self.rooms.values()])
+        finally:
+            gc.enable()
 
     async def wait_for_start(self, stop):
         while not stop.is_set() and any(room.start is None for room in self.rooms.values()):
