@@ -11,4 +11,5 @@ pub mod Places
 pub mod Due
 pub mod Lengths
 pub mod NameTrees
-mod NameWalks
+mod BlockTrees
+mod BlockWalks

@@ -1,175 +1,224 @@
--- Names and their links: what a route leads to, and what one more name leaves of it.
-use Rattle.std.proofs.Common.{◌≡◌, refl, ◌∙◌, ap, sym, subst, ℕ, zero, suc, ◌+◌, ◌-◌, ◌*◌, ◌/◌, ◌%◌, ◌<◌, ◌≤◌, ◌⊎◌, inl, inr, true, false, ◌||◌, List, [], ◌∷◌, ◌++◌, length, get_or, set, Some, Result, Ok, Err, arith, length-append}
+-- Names in blocks: what a block's entry tells of a name, and what one more name leaves of it.
+use Rattle.std.proofs.Common.{◌≡◌, refl, ◌∙◌, ap, sym, subst, ℕ, zero, suc, ◌+◌, ◌-◌, ◌/◌, ◌<◌, ◌≤◌, inl, inr, true, false, List, [], ◌∷◌, ◌++◌, length, get_or, set, replicate, Some, arith, length-append}
 use Rattle.std.specs.List.{slice_get}
-use Rattle.std.specs.Prelude.{◌==◌, ◌&&◌, slice_index, is_ok, IfOk, IfErr}
-use Rattle.std.proofs.lemmas.Option.{slice_get-get_or}
-use Rattle.std.proofs.lemmas.Bool.{cases_lt, cases_eq, and_parts, eqb-true, false≢true}
-use Rattle.std.proofs.lemmas.Bool.Decides.{nat_tests}
-use Rattle.std.proofs.lemmas.List.{length-set, get_or_append_left, get_or-append_right, get_or_past, get_or-set_same, get_or-set_other}
-use Rattle.game_trait.specs.CommandList.{same_pair}
-use Rattle.game_trait.specs.NameTree.{has_name, route_of, next_at, Leads, IsRoute, LinksRise, AreFound, IsNameTree, linked, IsOpen}
+use Rattle.std.specs.Prelude.{slice_index}
+use Rattle.std.proofs.lemmas.Option.{slice_get_within}
+use Rattle.std.proofs.lemmas.Bool.{cases_eq, false≢true}
+use Rattle.std.proofs.lemmas.List.{get_or_read_under, length-set, length-replicate, get_or-replicate, get_or_append_left, get_or-append_right, get_or-set_same, get_or-set_other}
+use Rattle.game_trait.specs.NameTree.{has_name, entry_of, IsHeld, AreInBlocks}
+use Rattle.game_trait.specs.BlockTree.{IsPlaced}
+use Rattle.game_trait.proofs.BlockTrees.{named-at, none-named, slice_get-push}
 
-nowhere : (k : ℕ) → slice_index (0 ∷ 0 ∷ 0 ∷ 0 ∷ []) k ≡ 0
-nowhere zero = refl
-nowhere (suc zero) = refl
-nowhere (suc (suc zero)) = refl
-nowhere (suc (suc (suc zero))) = refl
-nowhere (suc (suc (suc (suc k)))) = refl
+-- what stands at a place, stands there whatever is appended, which stands behind all
+slice_get-left : {X : Type 0} (xs ys : List X) (at : ℕ) (x : X) → slice_get xs at ≡ Some x → slice_get (xs ++ ys) at ≡ Some x
+slice_get-left [] ys at x e = absurd cc
+slice_get-left (y ∷ xs) ys zero x e = e
+slice_get-left (y ∷ xs) ys (suc at) x e = slice_get-left xs ys at x e
 
--- the links after one was set: the set one, the others, and the new ones
-pub set-link : (links : List ℕ) (link to : ℕ) → link < length links → slice_index (linked links link to) link ≡ to
-set-link links link to there =
-    get_or_append_left (set links link to) (0 ∷ 0 ∷ 0 ∷ 0 ∷ []) 0 link (let long = length-set links link to in omega arith)
-    ∙ get_or-set_same links link to 0 there
+slice_get-last : {X : Type 0} (xs : List X) (x : X) → slice_get (xs ++ x ∷ []) (length xs) ≡ Some x
+slice_get-last [] x = refl
+slice_get-last (y ∷ xs) x = slice_get-last xs x
 
-other-link :
-    (links : List ℕ) (link to k : ℕ) → k < length links → (k ≡ link → ⊥)
-    → slice_index (linked links link to) k ≡ slice_index links k
-other-link links link to k there other =
-    get_or_append_left (set links link to) (0 ∷ 0 ∷ 0 ∷ 0 ∷ []) 0 k (let long = length-set links link to in omega arith)
-    ∙ get_or-set_other links link k to 0 other
+-- two pairs are one and the same
+abbrev AreSame : ℕ × ℕ → ℕ × ℕ → Type 0
+AreSame a b = a ≡ b
 
-new-link : (links : List ℕ) (link to k : ℕ) → length links ≤ k → slice_index (linked links link to) k ≡ 0
-new-link links link to k past =
-    get_or-append_right (set links link to) (0 ∷ 0 ∷ 0 ∷ 0 ∷ []) (length links) k 0 (length-set links link to) past
-    ∙ nowhere (k - length links)
+-- one entry is of one block, and of one number of it
+same-block : (at number other n : ℕ) → entry_of at number ≡ entry_of other n → at ≡ other
+same-block at number other n e = omega arith
 
--- where a link to nowhere is set, those to a name stay
-pub kept-link :
-    (links : List ℕ) (link to k : ℕ) → slice_index links link ≡ 0 → 0 < slice_index links k
-    → slice_index (linked links link to) k ≡ slice_index links k
-kept-link links link to k free some = elim (cases_lt k (length links)) [
-  | inl there ↦ other-link links link to k there (λ same. (let e = ap (λ (i : ℕ). slice_index links i) same in omega arith))
-  | inr past ↦ absurd (let none = get_or_past links k 0 past in omega arith)
+same-number : (at number other n : ℕ) → entry_of at number ≡ entry_of other n → number / 16 ≡ n / 16 → number ≡ n
+same-number at number other n e high = omega arith
+
+-- a block that is placed makes no more than one more
+pub placed-most :
+    (old : List (ℕ × ℕ)) (from block at : ℕ) (new : List (ℕ × ℕ))
+    → IsPlaced old from block at new → length new ≤ length old + 1
+placed-most old from block at new placed = elim placed [
+  | inl was ↦ rw was.1 (omega arith)
+  | inr more ↦ rw more.1.1 (let longer = length-append old ((from, block) ∷ []) in omega arith)
 ]
 
--- and what a route leads to stays
-Leads-linked :
-    (links : List ℕ) (link to n route at end : ℕ) → slice_index links link ≡ 0 → Leads links n route at end
-    → Leads (linked links link to) n route at end
-unfolding Leads
-Leads-linked links link to zero route at end free h = h
-Leads-linked links link to (suc n) route at end free h =
-    rw (kept-link links link to (4 * at + route % 4) free h.0)
-    (h.0, Leads-linked links link to n (route / 4) (next_at links at route) end free h.1)
+-- no names, no blocks and no entries
+pub none-in_blocks : AreInBlocks [] [] []
+none-in_blocks = record {
+  sixteen = refl;
+  alone = λ from block at other e f. absurd cc;
+  held = λ from number place e. absurd cc;
+  told = λ from number at place h. absurd (let none = h.0 in cc);
+}
 
-slice_get-push :
-    {X : Type 0} (xs : List X) (y z : X) (at : ℕ) → slice_get (xs ++ y ∷ []) at ≡ Some z
-    → (slice_get xs at ≡ Some z) ⊎ ((at ≡ length xs) × (y ≡ z))
-slice_get-push [] y z zero e = inr (refl, cc)
-slice_get-push [] y z (suc at) e = absurd cc
-slice_get-push (x ∷ xs) y z zero e = inl e
-slice_get-push (x ∷ xs) y z (suc at) e =
-    elim (slice_get-push xs y z at e) [ inl old ↦ inl old | inr last ↦ inr (ap suc last.0, last.1) ]
+module _ {names blocks : List (ℕ × ℕ)} {places : List ℕ} (is : AreInBlocks names blocks places) where
+  -- each block's entries are there
+  pub entry-within :
+      (from block at number : ℕ) → slice_get blocks at ≡ Some (from, block) → entry_of at number < length places
+  entry-within from block at number there =
+      let within = slice_get_within blocks at (from, block) there in
+      let sixteen = is.sixteen in
+      omega arith
 
-same_pair-true : (from number : ℕ) (y : ℕ × ℕ) → same_pair (from, number) y ≡ true → (from, number) ≡ y
-same_pair-true from number y same =
-    let parts = and_parts _ _ same in rw (eqb-true from y.0 parts.0, eqb-true number y.1 parts.1) refl
+  -- what is read at one of them is what it holds
+  pub entry-read :
+      (from number at held : ℕ) → slice_get blocks at ≡ Some (from, number / 16)
+      → held ≡ get_or places (entry_of at number) held → held ≡ slice_index places (entry_of at number)
+  entry-read from number at held there read =
+      get_or_read_under places (entry_of at number) (length places) held 0 read (entry-within from (number / 16) at number there) refl
 
-same_pair-self : (from number : ℕ) → same_pair (from, number) (from, number) ≡ true
-same_pair-self from number = grind (arith, nat_tests)
+  -- a name stands at the place that its entry holds
+  pub held-there :
+      (from number at held : ℕ) → slice_get blocks at ≡ Some (from, number / 16)
+      → held ≡ get_or places (entry_of at number) held → 0 < held → slice_get names (held - 1) ≡ Some (from, number)
+  held-there from number at held there read some =
+      let entry = entry-read from number at held there read in
+      is.told from number at (held - 1) (there, omega arith)
 
--- what a comparison with a name's two parts says
-pub stands-at :
-    (names : List (ℕ × ℕ)) (from number at : ℕ) → at < length names
-    → true ≡ ((get_or names at (0, 0)).0 == from) && ((get_or names at (0, 0)).1 == number)
-    → slice_get names at ≡ Some (from, number)
-stands-at names from number at there e =
-    let parts = and_parts _ _ (sym e) in
-    let mirror = eqb-true (get_or names at (0, 0)).0 from parts.0 in
-    let named = eqb-true (get_or names at (0, 0)).1 number parts.1 in
-    slice_get-get_or names at (0, 0) there ∙ ap Some (λ i. (mirror i, named i))
+  -- a name whose entry holds no place isn't there
+  pub not-held :
+      (from number at : ℕ) → IsHeld blocks places from number at 0 → has_name names from number ≡ false
+  not-held from number at h = none-named names from number (λ place e.
+      let held = is.held from number place e in
+      let same = is.alone from (number / 16) held.0 at held.1.0 h.0 in
+      let some = subst (λ (a : ℕ). slice_index places (entry_of a number) ≡ place + 1) same held.1.1 in
+      let none = h.1 in
+      omega arith)
 
-pub stands-elsewhere :
-    (names : List (ℕ × ℕ)) (from number at : ℕ) → at < length names
-    → false ≡ ((get_or names at (0, 0)).0 == from) && ((get_or names at (0, 0)).1 == number)
-    → slice_get names at ≡ Some (from, number) → ⊥
-stands-elsewhere names from number at there e here =
-    let same : get_or names at (0, 0) ≡ (from, number) = (let both = sym (slice_get-get_or names at (0, 0) there) ∙ here in cc) in
-    false≢true (e ∙ ap (λ (p : ℕ × ℕ). (p.0 == from) && (p.1 == number)) same ∙ same_pair-self from number)
+  -- nor is one whose block isn't there
+  pub not-in_block :
+      (from number : ℕ) → has_name blocks from (number / 16) ≡ false → has_name names from number ≡ false
+  not-in_block from number none = none-named names from number (λ place e.
+      let held = is.held from number place e in
+      false≢true (sym none ∙ named-at blocks from (number / 16) held.0 held.1.0))
 
--- a name that stands at no place isn't there
-pub none-named :
-    (names : List (ℕ × ℕ)) (from number : ℕ) → ((at : ℕ) → slice_get names at ≡ Some (from, number) → ⊥)
-    → has_name names from number ≡ false
-none-named [] from number h = refl
-none-named (y ∷ ys) from number h =
-    elim (same_pair (from, number) y) as (λ v. same_pair (from, number) y ≡ v → v || has_name ys from number ≡ false) [
-      | true ↦ λ same. absurd (h 0 (ap Some (sym (same_pair-true from number y same))))
-      | false ↦ λ other. none-named ys from number (λ at e. h (suc at) e)
-    ]
-    refl
+  -- one more block
+  module _ (from block : ℕ) (none : has_name blocks from block ≡ false) where
+    newcomer : (f b at : ℕ) → slice_get blocks at ≡ Some (f, b) → AreSame (from, block) (f, b) → ⊥
+    newcomer f b at e same =
+        false≢true (sym none ∙ named-at blocks from block at (subst (λ (p : ℕ × ℕ). slice_get blocks at ≡ Some p) (sym same) e))
 
--- and one that stands at a place is
-pub named-at :
-    (names : List (ℕ × ℕ)) (from number at : ℕ) → slice_get names at ≡ Some (from, number)
-    → has_name names from number ≡ true
-named-at [] from number at e = absurd cc
-named-at (y ∷ ys) from number zero e =
-    let same : y ≡ (from, number) = cc in rw (same, same_pair-self from number) refl
-named-at (y ∷ ys) from number (suc at) e =
-    elim (same_pair (from, number) y) as (λ v. v || has_name ys from number ≡ true)
-    [ true ↦ refl | false ↦ named-at ys from number at e ]
-
--- what a search ends with tells whether a name is there
-pub told :
-    (names : List (ℕ × ℕ)) (links : List ℕ) (from number : ℕ) (r : Result ℕ ℕ)
-    → IfOk r (λ at. slice_get names at ≡ Some (from, number)) → IfErr r (λ link. IsOpen names links from number link)
-    → is_ok r ≡ has_name names from number
-told names links from number (Ok at) found free = sym (named-at names from number at found)
-told names links from number (Err link) found free = sym free.new
-
--- no names, and no links
-pub tree-none : IsNameTree [] []
-tree-none = record { four = refl; rise = λ k some. absurd (omega arith); found = λ from number at e. absurd cc }
-
-module _ {names : List (ℕ × ℕ)} {links : List ℕ} (tree : IsNameTree names links) where
-  -- before the first name there is one link to set, which isn't there
-  pub open-none : (from number : ℕ) → length names ≡ 0 → IsOpen names links from number 0
-  unfolding Leads
-  open-none from number none =
-      let four = tree.four in
-      record {
-        new = none-named names from number (λ at e. nobody names from number at none e);
-        free = get_or_past links 0 0 (omega arith);
-        leads = (0, sym none);
-      }
-    where
-      nobody : (names : List (ℕ × ℕ)) (from number at : ℕ) → length names ≡ 0 → slice_get names at ≡ Some (from, number) → ⊥
-      nobody [] from number at none e = absurd cc
-      nobody (y ∷ ys) from number at none e = omega arith
-
-  -- one more name
-  module _ {from number link : ℕ} (is : IsOpen names links from number link) where
-    rise-push : LinksRise (linked links link (length names)) (length (names ++ (from, number) ∷ []))
-    rise-push k some =
-        let longer = length-append names ((from, number) ∷ []) in
-        let four = tree.four in
-        elim (cases_lt k (length links)) [
-          | inl there ↦ elim (cases_eq k link) [
-            | inl same ↦ (let this = subst (λ (j : ℕ). slice_index (linked links j (length names)) k ≡ length names) same (set-link links k (length names) there) in
-                (omega arith, omega arith))
-            | inr other ↦ (let that = other-link links link (length names) k there other in
-                let was = tree.rise k (subst (λ (n : ℕ). 0 < n) that some) in
-                let low = was.0 in
-                let high = was.1 in
-                (omega arith, omega arith))
-          ]
-          | inr past ↦ absurd (let none = new-link links link (length names) k past in omega arith)
-        ]
-
-    found-push : AreFound (names ++ (from, number) ∷ []) (linked links link (length names))
-    found-push f n at e = elim (slice_get-push names (from, number) (f, n) at e) [
-      | inl old ↦ (let way = tree.found f n at old in
-          (way.0, Leads-linked links link (length names) way.0 (route_of f n) 0 at is.free way.1))
-      | inr last ↦ subst (λ (p : ℕ × ℕ). IsRoute (linked links link (length names)) (route_of p.0 p.1) 0 at) last.1
-          (subst (λ (i : ℕ). IsRoute (linked links link (length names)) (route_of from number) 0 i) (sym last.0) is.leads)
+    alone-open :
+        (f b at other : ℕ) → slice_get (blocks ++ (from, block) ∷ []) at ≡ Some (f, b)
+        → slice_get (blocks ++ (from, block) ∷ []) other ≡ Some (f, b) → at ≡ other
+    alone-open f b at other e h = elim (slice_get-push blocks (from, block) (f, b) at e) [
+      | inl x ↦ elim (slice_get-push blocks (from, block) (f, b) other h) [
+        | inl y ↦ is.alone f b at other x y
+        | inr y ↦ absurd (newcomer f b at x y.1)
+      ]
+      | inr x ↦ elim (slice_get-push blocks (from, block) (f, b) other h) [
+        | inl y ↦ absurd (newcomer f b other y x.1)
+        | inr y ↦ x.0 ∙ sym y.0
+      ]
     ]
 
-    pub tree-push : IsNameTree (names ++ (from, number) ∷ []) (linked links link (length names))
-    tree-push =
-        let longer = length-append names ((from, number) ∷ []) in
-        let four = tree.four in
-        let long = length-set links link (length names) in
-        let more = length-append (set links link (length names)) (0 ∷ 0 ∷ 0 ∷ 0 ∷ []) in
-        record { four = omega arith; rise = rise-push; found = found-push }
+    old-entry : (k : ℕ) → k < length places → slice_index (places ++ replicate 16 0) k ≡ slice_index places k
+    old-entry k within = get_or_append_left places (replicate 16 0) 0 k within
+
+    new-entry : (at number : ℕ) → at ≡ length blocks → slice_index (places ++ replicate 16 0) (entry_of at number) ≡ 0
+    new-entry at number last =
+        let sixteen = is.sixteen in
+        get_or-append_right places (replicate 16 0) (length places) (entry_of at number) 0 refl (omega arith)
+        ∙ get_or-replicate 16 (entry_of at number - length places) 0 0 (omega arith)
+
+    held-open :
+        (f number place : ℕ) → slice_get names place ≡ Some (f, number)
+        → (at : ℕ) × IsHeld (blocks ++ (from, block) ∷ []) (places ++ replicate 16 0) f number at (place + 1)
+    held-open f number place e =
+        let was = is.held f number place e in
+        let within = entry-within f (number / 16) was.0 number was.1.0 in
+        (was.0, (slice_get-left blocks ((from, block) ∷ []) was.0 (f, number / 16) was.1.0, old-entry (entry_of was.0 number) within ∙ was.1.1))
+
+    told-open :
+        (f number at place : ℕ)
+        → IsHeld (blocks ++ (from, block) ∷ []) (places ++ replicate 16 0) f number at (place + 1)
+        → slice_get names place ≡ Some (f, number)
+    told-open f number at place h = elim (slice_get-push blocks (from, block) (f, number / 16) at h.0) [
+      | inl was ↦ (let within = entry-within f (number / 16) at number was in
+          is.told f number at place (was, sym (old-entry (entry_of at number) within) ∙ h.1))
+      | inr last ↦ absurd (let nobody = new-entry at number last.0 in let some = h.1 in omega arith)
+    ]
+
+    blocks-open : AreInBlocks names (blocks ++ (from, block) ∷ []) (places ++ replicate 16 0)
+    blocks-open =
+        let sixteen = is.sixteen in
+        let longer = length-append blocks ((from, block) ∷ []) in
+        let more = length-append places (replicate 16 0) in
+        let of = length-replicate {A = ℕ} 16 0 in
+        record { sixteen = omega arith; alone = alone-open; held = held-open; told = told-open }
+
+  -- a block is there, or one more, with its entries
+  pub in-block :
+      (from block at : ℕ) (more : List (ℕ × ℕ)) (entries : List ℕ)
+      → IsPlaced blocks from block at more
+      → (at < length places / 16 → entries ≡ places)
+      → (length places / 16 ≤ at → entries ≡ places ++ replicate 16 0)
+      → AreInBlocks names more entries × (slice_get more at ≡ Some (from, block))
+  in-block from block at more entries placed kept opened =
+      let sixteen = is.sixteen in
+      elim placed [
+        | inl old ↦ (let within = slice_get_within blocks at (from, block) old.0 in
+            rw (kept (omega arith), old.1) (is, old.0))
+        | inr new ↦ (let last = new.1.0 in
+            rw (opened (omega arith), new.1.1, last) (blocks-open from block new.0, slice_get-last blocks (from, block)))
+      ]
+
+  -- one more name, whose place its block's entry holds
+  module _ (from number at : ℕ) (new : has_name names from number ≡ false)
+      (there : slice_get blocks at ≡ Some (from, number / 16)) where
+    abbrev held_more : List ℕ
+    held_more = set places (entry_of at number) (length names + 1)
+
+    one-name :
+        (f n other : ℕ) → slice_get blocks other ≡ Some (f, n / 16) → entry_of at number ≡ entry_of other n
+        → AreSame (from, number) (f, n)
+    one-name f n other h e =
+        let block = same-block at number other n e in
+        let key : AreSame (from, number / 16) (f, n / 16) =
+        (let both = sym there ∙ ap (λ (a : ℕ). slice_get blocks a) block ∙ h in cc) in
+        let mirror = ap (λ (p : ℕ × ℕ). p.0) key in
+        let same = same-number at number other n e (ap (λ (p : ℕ × ℕ). p.1) key) in
+        λ i. (mirror i, same i)
+
+    other-name : (f n place : ℕ) → slice_get names place ≡ Some (f, n) → AreSame (from, number) (f, n) → ⊥
+    other-name f n place e same =
+        false≢true (sym new ∙ named-at names from number place (subst (λ (p : ℕ × ℕ). slice_get names place ≡ Some p) (sym same) e))
+
+    set-entry : slice_index held_more (entry_of at number) ≡ length names + 1
+    set-entry =
+        get_or-set_same places (entry_of at number) (length names + 1) 0 (entry-within from (number / 16) at number there)
+
+    other-entry :
+        (f n other : ℕ) → (entry_of other n ≡ entry_of at number → ⊥)
+        → slice_index held_more (entry_of other n) ≡ slice_index places (entry_of other n)
+    other-entry f n other apart =
+        get_or-set_other places (entry_of at number) (entry_of other n) (length names + 1) 0 apart
+
+    held-push :
+        (f n place : ℕ) → slice_get (names ++ (from, number) ∷ []) place ≡ Some (f, n)
+        → (other : ℕ) × IsHeld blocks held_more f n other (place + 1)
+    held-push f n place e = elim (slice_get-push names (from, number) (f, n) place e) [
+      | inl old ↦ (let was = is.held f n place old in
+          let apart = λ (same : entry_of was.0 n ≡ entry_of at number). other-name f n place old (one-name f n was.0 was.1.0 (sym same)) in
+          (was.0, (was.1.0, other-entry f n was.0 apart ∙ was.1.1)))
+      | inr last ↦ subst (λ (p : ℕ × ℕ). (other : ℕ) × IsHeld blocks held_more p.0 p.1 other (place + 1)) last.1
+          (at, (there, set-entry ∙ ap (λ (k : ℕ). k + 1) (sym last.0)))
+    ]
+
+    told-push :
+        (f n other place : ℕ) → IsHeld blocks held_more f n other (place + 1)
+        → slice_get (names ++ (from, number) ∷ []) place ≡ Some (f, n)
+    told-push f n other place h = elim (cases_eq (entry_of other n) (entry_of at number)) [
+      | inl same ↦ (let this = subst (λ (k : ℕ). slice_index held_more k ≡ place + 1) same h.1 in
+          let that = set-entry in
+          let last : length names ≡ place = omega arith in
+          subst (λ (k : ℕ). slice_get (names ++ (from, number) ∷ []) k ≡ Some (f, n)) last
+          (slice_get-last names (from, number) ∙ ap Some (one-name f n other h.0 (sym same))))
+      | inr apart ↦ slice_get-left names ((from, number) ∷ []) place (f, n)
+          (is.told f n other place (h.0, sym (other-entry f n other apart) ∙ h.1))
+    ]
+
+    pub in-push : AreInBlocks (names ++ (from, number) ∷ []) blocks (set places (entry_of at number) (length names + 1))
+    in-push = record {
+      sixteen = length-set places (entry_of at number) (length names + 1) ∙ is.sixteen;
+      alone = is.alone;
+      held = held-push;
+      told = told-push;
+    }

@@ -7,3 +7,4 @@ pub mod Front
 pub mod Events
 pub mod CommandList
 pub mod NameTree
+pub mod BlockTree

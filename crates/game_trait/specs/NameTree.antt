@@ -1,6 +1,5 @@
--- Names of commands as a tree, in which a route that a name gives leads to it.
-use Rattle.std.specs.Prelude.{◌≡◌, ℕ, zero, suc, ◌+◌, ◌*◌, ◌/◌, ◌%◌, ◌^◌, ◌<◌, Bool, false, Some, List, [], ◌∷◌, ◌++◌}
-use Rattle.std.specs.Prelude.{length, slice_get, slice_index, slice_set}
+-- Names of commands by blocks of 16 numbers, each block with the places of its names.
+use Rattle.std.specs.Prelude.{◌≡◌, ℕ, ◌+◌, ◌*◌, ◌/◌, ◌%◌, ◌≤◌, Bool, Some, List, length, slice_get, slice_index}
 use Rattle.std.specs.List.{list_any}
 use Rattle.game_trait.specs.CommandList.{same_pair}
 
@@ -14,48 +13,32 @@ pub record NamesInRoom : Type 0 where
 abbrev pub has_name : List (ℕ × ℕ) → ℕ → ℕ → Bool
 has_name names from number = list_any (same_pair (from, number)) names
 
--- what tells a name's way through the tree, two bits at each step
-abbrev pub route_of : ℕ → ℕ → ℕ
-route_of from number = (from / 8) * 2 ^ 35 + number * 8 + from % 8
+-- where the place of a name is held, whose block stands at a place
+abbrev pub entry_of : ℕ → ℕ → ℕ
+entry_of at number = 16 * at + number % 16
 
--- where the way goes on from a name, 0 for nowhere
-abbrev pub next_at : List ℕ → ℕ → ℕ → ℕ
-next_at links at route = slice_index links (4 * at + route % 4)
+-- a name's block is there, and holds this for it
+abbrev pub IsHeld : List (ℕ × ℕ) → List ℕ → ℕ → ℕ → ℕ → ℕ → Type 0
+IsHeld blocks places from number at held =
+    (slice_get blocks at ≡ Some (from, number / 16))
+    × (slice_index places (entry_of at number) ≡ held)
 
--- so many steps lead from one name to another
-unfoldable pub Leads : List ℕ → ℕ → ℕ → ℕ → ℕ → Type 0
-Leads links zero route at end = at ≡ end
-Leads links (suc n) route at end =
-    (0 < next_at links at route) × Leads links n (route / 4) (next_at links at route) end
+-- what is always true of names, of the blocks that they are in and of the places that these hold:
+-- 16 for each block, each one more than a name's, or 0 for none
+pub record AreInBlocks (names blocks : List (ℕ × ℕ)) (places : List ℕ) : Type 0 where
+  pub sixteen : length places ≡ 16 * length blocks
+  pub alone :
+      (from block at other : ℕ) → slice_get blocks at ≡ Some (from, block)
+      → slice_get blocks other ≡ Some (from, block) → at ≡ other
+  pub held :
+      (from number place : ℕ) → slice_get names place ≡ Some (from, number)
+      → (at : ℕ) × IsHeld blocks places from number at (place + 1)
+  pub told :
+      (from number at place : ℕ) → IsHeld blocks places from number at (place + 1)
+      → slice_get names place ≡ Some (from, number)
 
--- a route leads from one name to another
-abbrev pub IsRoute : List ℕ → ℕ → ℕ → ℕ → Type 0
-IsRoute links route at end = (n : ℕ) × Leads links n route at end
-
--- each link goes to no name, or to one behind its own
-abbrev pub LinksRise : List ℕ → ℕ → Type 0
-LinksRise links count =
-    (k : ℕ) → 0 < slice_index links k
-    → (k / 4 < slice_index links k) × (slice_index links k < count)
-
--- from the first name each one's route leads to it
-abbrev pub AreFound : List (ℕ × ℕ) → List ℕ → Type 0
-AreFound names links =
-    (from number at : ℕ) → slice_get names at ≡ Some (from, number)
-    → IsRoute links (route_of from number) 0 at
-
--- what is always true of names and their links, four for each
-pub record IsNameTree (names : List (ℕ × ℕ)) (links : List ℕ) : Type 0 where
-  pub four : length links ≡ 4 * length names
-  pub rise : LinksRise links (length names)
-  pub found : AreFound names links
-
--- one link is set, and four to nowhere are appended
-abbrev pub linked : List ℕ → ℕ → ℕ → List ℕ
-linked links link to = slice_set links link to ++ 0 ∷ 0 ∷ 0 ∷ 0 ∷ []
-
--- there is no such name, and once this link goes to one more name its route leads there
-pub record IsOpen (names : List (ℕ × ℕ)) (links : List ℕ) (from number link : ℕ) : Type 0 where
-  pub new : has_name names from number ≡ false
-  pub free : slice_index links link ≡ 0
-  pub leads : IsRoute (linked links link (length names)) (route_of from number) 0 (length names)
+-- there is room for so many names, each in a block of its own
+pub record IsRoomy (count capacity : ℕ) (blocks : NamesInRoom) (entries room : ℕ) : Type 0 where
+  pub in_names : room ≤ capacity
+  pub in_blocks : length blocks.items + room ≤ blocks.room + count
+  pub in_places : 16 * (length blocks.items + room) ≤ entries + 16 * count

@@ -1,6 +1,7 @@
 //! Commands, items, events and the game: the words in which mirrors speak of a match.
 #![tactic(auto)]
 
+mod block_tree;
 mod command;
 mod command_list;
 mod event;

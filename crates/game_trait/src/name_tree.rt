@@ -1,33 +1,33 @@
 //! Names of commands, of which each is found in few steps, whatever names there are.
 
-ghost use Rattle.std.specs.Prelude.{◌≡◌, ◌+◌, ◌≤◌, ◌<◌, ◌++◌, ◌∷◌, [], false, Some, length, slice_get, slice_set, vec_len, vec_capacity, is_some, IfOk, IfErr, IfSome, OnOk, OnErr};
-ghost use Rattle.game_trait.specs.NameTree.{has_name, route_of, linked, IsNameTree, IsOpen};
+ghost use Rattle.std.specs.Prelude.{◌≡◌, ◌+◌, ◌*◌, ◌/◌, ◌≤◌, ◌<◌, ◌++◌, ◌∷◌, [], false, Some, length, replicate, slice_get, vec_len, vec_capacity, is_some, IfOk, IfSome, OnOk, OnErr};
+ghost use Rattle.game_trait.specs.NameTree.{has_name};
 
+use crate::block_tree::BlockTree;
 use crate::command::{MirrorId, Number};
 use std::alloc::{AllocError, Global};
 use std::marker::Model;
 
-// How many names a tree has at most: a link holds the place of one.
+// How many names a tree has at most: the place of each and one more fit an entry.
 const MOST_NAMES: usize = u32::MAX as usize;
 
 /// Names of commands, a mirror and a number each, in the order in which they were appended, no two
 /// the same. Contracts see the names, and how many there is room for without taking memory.
 ///
-/// They are the nodes of a tree: four links lead on from each, of which two bits of the name that
-/// is sought choose one, two others at each step. So the 40 bits of a name make 20 steps at most,
-/// whatever names strangers choose, and dense numbers about as many as half the bits of the count of
-/// names (this project's own).
+/// They are found by blocks of 16 numbers of one mirror: a block is found in a tree in at most 18
+/// steps, whatever names strangers choose, and tells the places of its names (this project's own).
 #[derive(Debug, Drop)]
 pub struct NameTree {
     names: Vec<(MirrorId, Number)>,
-    // four for each name, each the place of another, or 0 for none
-    links: Vec<u32>,
+    blocks: BlockTree,
+    // 16 for each block, each the place of a name and 1, or 0 for none
+    places: Vec<u32>,
     room: usize,
 }
 
 impl Model for NameTree {
-    ghost use Rattle.std.specs.Prelude.{◌≤◌, ◌*◌, vec_capacity};
-    ghost use Rattle.game_trait.specs.NameTree.{NamesInRoom, IsNameTree};
+    ghost use Rattle.std.specs.Prelude.{◌≤◌, length, vec_capacity};
+    ghost use Rattle.game_trait.specs.NameTree.{NamesInRoom, AreInBlocks, IsRoomy};
     ghost use Rattle.game_trait.specs.declared.name_tree.TheConstants.{MOST_NAMES};
 
     ghost Value = { NamesInRoom };
@@ -35,8 +35,10 @@ impl Model for NameTree {
     ghost view = { λ t. record { items = t.names.items; room = t.room } };
 
     ghost invariant = { λ t.
-        IsNameTree t.names.items t.links.items × (t.room ≤ vec_capacity t.names)
-        × (4 * t.room ≤ vec_capacity t.links) × (t.room ≤ MOST_NAMES) };
+        AreInBlocks t.names.items t.blocks.items t.places.items
+        × IsRoomy (length t.names.items) (vec_capacity t.names) t.blocks (vec_capacity t.places)
+        t.room
+        × (t.room ≤ MOST_NAMES) };
 }
 
 impl NameTree {
@@ -46,7 +48,8 @@ impl NameTree {
     {
         NameTree {
             names: Vec::new(alloc),
-            links: Vec::new(alloc),
+            blocks: BlockTree::new(alloc),
+            places: Vec::new(alloc),
             room: 0,
         }
     }
@@ -61,7 +64,8 @@ impl NameTree {
         }
         Ok(NameTree {
             names: Vec::with_capacity(alloc, room)?,
-            links: Vec::with_capacity(alloc, 4 * room)?,
+            blocks: BlockTree::with_room(alloc, room)?,
+            places: Vec::with_capacity(alloc, 16 * room)?,
             room,
         })
     }
@@ -82,7 +86,8 @@ impl NameTree {
             return Err(AllocError);
         }
         self.names.reserve(1)?;
-        self.links.reserve(4)?;
+        self.blocks.reserve()?;
+        self.places.reserve(16)?;
         self.room = count + 1;
         Ok(())
     }
@@ -94,11 +99,10 @@ impl NameTree {
         ensures { self.new
             ≡ record self.old { items = self.old.items ++ (from, number) ∷ [] } }
     {
-        let link = match search(&self.names, &self.links, from, number) {
-            Ok(_) => unreachable!(),
-            Err(link) => link,
-        };
-        link_to(&mut self.links, link, self.names.len() as u32);
+        let place = self.names.len() as u32 + 1;
+        let at = self.blocks.place(from, number / 16);
+        open_block(&mut self.places, at);
+        self.places[16 * at + (number % 16) as usize] = place;
         self.names.push_reserved((from, number));
     }
 
@@ -107,7 +111,11 @@ impl NameTree {
         ensures there { IfSome result (λ at. slice_get self.now.items at ≡ Some (from, number)) }
         ensures found { is_some result ≡ has_name self.now.items from number }
     {
-        search(&self.names, &self.links, from, number).ok()
+        let at = self.blocks.find(from, number / 16)?;
+        match self.places[16 * at + (number % 16) as usize] {
+            0 => None,
+            place => Some(place as usize - 1),
+        }
     }
 
     /// Whether a name is there.
@@ -118,61 +126,19 @@ impl NameTree {
     }
 }
 
-// What tells a name's way: its bits, those first that differ between the names of usual matches.
-fn route_of(from: MirrorId, number: Number) -> u64
-    ensures { result ≡ route_of from number }
+// Appends 16 entries of no name, for which there is room, unless those of this block are there.
+fn open_block(places: &mut Vec<u32>, at: usize)
+    requires { vec_len places.old + 16 ≤ vec_capacity places.old }
+    ensures there { at < length places.old.items / 16 → places.new.items ≡ places.old.items }
+    ensures more { length places.old.items / 16 ≤ at
+        → places.new.items ≡ places.old.items ++ replicate 16 0 }
+    ensures capacity { vec_capacity places.old ≤ vec_capacity places.new }
 {
-    u64::from(from / 8) * (1 << 35) + u64::from(number) * 8 + u64::from(from % 8)
-}
-
-// The place of a name, or else the link that may lead to it, which leads nowhere yet.
-fn search(
-    names: &[(MirrorId, Number)],
-    links: &[u32],
-    from: MirrorId,
-    number: Number,
-) -> Result<usize, usize>
-    requires { IsNameTree names.now links.now }
-    ensures found { IfOk result (λ at. slice_get names.now at ≡ Some (from, number)) }
-    ensures free { IfErr result (λ link. IsOpen names.now links.now from number link) }
-{
-    if names.is_empty() {
-        return Err(0);
+    if at < places.len() / 16 {
+        return;
     }
-    let mut route = route_of(from, number);
-    let mut at = 0;
-    'steps: loop {
-        if names[at] == (from, number) {
-            return Ok(at);
-        }
-        let link = 4 * at + (route % 4) as usize;
-        if links[link] == 0 {
-            return Err(link);
-        }
-        at = links[link] as usize;
-        route /= 4;
-    }
-}
-
-// Sets a link, where it is there, and appends four links to nowhere, for which there is room.
-fn link_to(links: &mut Vec<u32>, link: usize, to: u32)
-    requires { vec_len links.old + 4 ≤ vec_capacity links.old }
-    ensures items { links.new.items ≡ linked links.old.items link to }
-    ensures capacity { vec_capacity links.old ≤ vec_capacity links.new }
-{
-    set_link(links, link, to);
-    match links.extend_from_slice(&[0; 4]) {
+    match places.extend_from_slice(&[0; 16]) {
         Ok(()) => {}
         Err(_) => unreachable!(),
-    }
-}
-
-// Sets a link, where it is there.
-fn set_link(links: &mut Vec<u32>, link: usize, to: u32)
-    ensures items { links.new.items ≡ slice_set links.old.items link to }
-    ensures capacity { vec_capacity links.new ≡ vec_capacity links.old }
-{
-    if link < links.len() {
-        links[link] = to;
     }
 }

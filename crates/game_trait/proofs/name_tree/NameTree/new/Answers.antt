@@ -1,6 +1,8 @@
 use Rattle.std.proofs.Common.{arith}
-use Rattle.game_trait.proofs.NameTrees.{tree-none}
+use Rattle.game_trait.proofs.NameTrees.{none-in_blocks}
 use Rattle.game_trait.proofs.name_tree.NameTree.new.Goals as goal
 
 pub invariant_of-result : goal.invariant_of-result
-invariant_of-result c = rw (c.new.ensures.items, c.new-2.ensures.items) (tree-none, omega arith, omega arith, omega arith)
+invariant_of-result c =
+    rw (c.new.ensures.items, c.new-2.ensures, c.new-3.ensures.items)
+    (none-in_blocks, record { in_names = omega arith; in_blocks = omega arith; in_places = omega arith }, omega arith)

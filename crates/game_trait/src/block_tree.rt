@@ -1,0 +1,176 @@
+//! Blocks of numbers, of which each is found in few steps, whatever blocks there are.
+
+ghost use Rattle.std.specs.Prelude.{◌≡◌, ◌+◌, ◌≤◌, ◌<◌, [], Some, length, slice_get, slice_set, vec_len, vec_capacity, is_some, IfOk, IfErr, IfSome, OnOk, OnErr};
+ghost use Rattle.game_trait.specs.NameTree.{has_name};
+ghost use Rattle.game_trait.specs.BlockTree.{route_of, linked, IsBlockTree, IsOpen, IsPlaced};
+
+use crate::command::{MirrorId, Number};
+use std::alloc::{AllocError, Global};
+use std::marker::Model;
+
+// How many blocks a tree has at most: a link holds the place of one.
+const MOST_BLOCKS: usize = u32::MAX as usize;
+
+/// Blocks of numbers, a mirror and the number of the block each, in the order in which they were
+/// appended. Contracts see the blocks, and how many there is room for without taking memory.
+///
+/// They are the nodes of a tree: four links lead on from each, of which two bits of the block that
+/// is sought choose one, two others at each step. So the 36 bits of a block of 16 numbers make 18
+/// steps at most, whatever names strangers choose, and dense numbers about as many as half the bits
+/// of the count of blocks (this project's own).
+#[derive(Debug, Drop)]
+pub struct BlockTree {
+    blocks: Vec<(MirrorId, Number)>,
+    // four for each block, each the place of another, or 0 for none
+    links: Vec<u32>,
+    room: usize,
+}
+
+impl Model for BlockTree {
+    ghost use Rattle.std.specs.Prelude.{◌≤◌, ◌*◌, vec_capacity};
+    ghost use Rattle.game_trait.specs.NameTree.{NamesInRoom};
+    ghost use Rattle.game_trait.specs.BlockTree.{IsBlockTree};
+    ghost use Rattle.game_trait.specs.declared.block_tree.TheConstants.{MOST_BLOCKS};
+
+    ghost Value = { NamesInRoom };
+
+    ghost view = { λ t. record { items = t.blocks.items; room = t.room } };
+
+    ghost invariant = { λ t.
+        IsBlockTree t.blocks.items t.links.items × (t.room ≤ vec_capacity t.blocks)
+        × (4 * t.room ≤ vec_capacity t.links) × (t.room ≤ MOST_BLOCKS) };
+}
+
+impl BlockTree {
+    /// No blocks yet, and no room. It takes no memory.
+    pub fn new(alloc: Global) -> BlockTree
+        ensures { result ≡ record { items = []; room = 0 } }
+    {
+        BlockTree {
+            blocks: Vec::new(alloc),
+            links: Vec::new(alloc),
+            room: 0,
+        }
+    }
+
+    /// No blocks yet, with room for `room` of them. On want of memory nothing is created, and room
+    /// for more than `u32::MAX` is always wanting.
+    pub fn with_room(alloc: Global, room: usize) -> Result<BlockTree, AllocError>
+        ensures { IfOk result (λ blocks. blocks ≡ record { items = []; room = room }) }
+    {
+        if room > MOST_BLOCKS {
+            return Err(AllocError);
+        }
+        Ok(BlockTree {
+            blocks: Vec::with_capacity(alloc, room)?,
+            links: Vec::with_capacity(alloc, 4 * room)?,
+            room,
+        })
+    }
+
+    /// Makes room for one block more, where there is none. On want of memory, as where there are
+    /// `u32::MAX` blocks, nothing changes.
+    pub fn reserve(&mut self) -> Result<(), AllocError>
+        ensures items { self.new.items ≡ self.old.items }
+        ensures room { self.old.room ≤ self.new.room }
+        ensures ok { OnOk result (length self.new.items < self.new.room) }
+        ensures err { OnErr result (self.new.room ≡ self.old.room) }
+    {
+        let count = self.blocks.len();
+        if count < self.room {
+            return Ok(());
+        }
+        if count >= MOST_BLOCKS {
+            return Err(AllocError);
+        }
+        self.blocks.reserve(1)?;
+        self.links.reserve(4)?;
+        self.room = count + 1;
+        Ok(())
+    }
+
+    /// The place of a block, which is appended where it isn't there yet. It takes no memory: there
+    /// is room for one block more.
+    pub fn place(&mut self, from: MirrorId, block: Number) -> usize
+        requires { length self.old.items < self.old.room }
+        ensures placed { IsPlaced self.old.items from block result self.new.items }
+        ensures room { self.new.room ≡ self.old.room }
+    {
+        match search(&self.blocks, &self.links, from, block) {
+            Ok(at) => at,
+            Err(link) => {
+                let at = self.blocks.len();
+                link_to(&mut self.links, link, at as u32);
+                self.blocks.push_reserved((from, block));
+                at
+            }
+        }
+    }
+
+    /// The place of a block among those that were appended, if it is there.
+    pub fn find(&self, from: MirrorId, block: Number) -> Option<usize>
+        ensures there { IfSome result (λ at. slice_get self.now.items at ≡ Some (from, block)) }
+        ensures found { is_some result ≡ has_name self.now.items from block }
+    {
+        search(&self.blocks, &self.links, from, block).ok()
+    }
+}
+
+// What tells a block's way: its bits, those first that differ between the blocks of usual matches.
+fn route_of(from: MirrorId, block: Number) -> u64
+    ensures { result ≡ route_of from block }
+{
+    u64::from(from / 8) * (1 << 31) + u64::from(block) * 8 + u64::from(from % 8)
+}
+
+// The place of a block, or else the link that may lead to it, which leads nowhere yet.
+fn search(
+    blocks: &[(MirrorId, Number)],
+    links: &[u32],
+    from: MirrorId,
+    block: Number,
+) -> Result<usize, usize>
+    requires { IsBlockTree blocks.now links.now }
+    ensures found { IfOk result (λ at. slice_get blocks.now at ≡ Some (from, block)) }
+    ensures free { IfErr result (λ link. IsOpen blocks.now links.now from block link) }
+{
+    if blocks.is_empty() {
+        return Err(0);
+    }
+    let mut route = route_of(from, block);
+    let mut at = 0;
+    'steps: loop {
+        if blocks[at] == (from, block) {
+            return Ok(at);
+        }
+        let link = 4 * at + (route % 4) as usize;
+        if links[link] == 0 {
+            return Err(link);
+        }
+        at = links[link] as usize;
+        route /= 4;
+    }
+}
+
+// Sets a link, where it is there, and appends four links to nowhere, for which there is room.
+fn link_to(links: &mut Vec<u32>, link: usize, to: u32)
+    requires { vec_len links.old + 4 ≤ vec_capacity links.old }
+    ensures items { links.new.items ≡ linked links.old.items link to }
+    ensures capacity { vec_capacity links.old ≤ vec_capacity links.new }
+{
+    set_link(links, link, to);
+    match links.extend_from_slice(&[0; 4]) {
+        Ok(()) => {}
+        Err(_) => unreachable!(),
+    }
+}
+
+// Sets a link, where it is there.
+fn set_link(links: &mut Vec<u32>, link: usize, to: u32)
+    ensures items { links.new.items ≡ slice_set links.old.items link to }
+    ensures capacity { vec_capacity links.new ≡ vec_capacity links.old }
+{
+    if link < links.len() {
+        links[link] = to;
+    }
+}
