@@ -11,5 +11,6 @@ pub mod Places
 pub mod Due
 pub mod Lengths
 pub mod NameTrees
+mod NamesHeld
 mod BlockTrees
 mod BlockWalks

@@ -1,5 +1,5 @@
 -- Names of commands by blocks of 16 numbers, each block with the places of its names.
-use Rattle.std.specs.Prelude.{◌≡◌, ℕ, ◌+◌, ◌*◌, ◌/◌, ◌%◌, ◌≤◌, Bool, Some, List, length, slice_get, slice_index}
+use Rattle.std.specs.Prelude.{◌≡◌, ℕ, zero, suc, ◌+◌, ◌*◌, ◌/◌, ◌%◌, ◌≤◌, ◌==◌, Bool, cond, Some, List, [], ◌∷◌, ◌++◌, length, slice_get, slice_index, slice_index_or}
 use Rattle.std.specs.List.{list_any}
 use Rattle.game_trait.specs.CommandList.{same_pair}
 
@@ -37,8 +37,25 @@ pub record AreInBlocks (names blocks : List (ℕ × ℕ)) (places : List ℕ) : 
       (from number at place : ℕ) → IsHeld blocks places from number at (place + 1)
       → slice_get names place ≡ Some (from, number)
 
+-- the first entry that holds this
+unfoldable pub entry_with : List ℕ → ℕ → ℕ
+entry_with [] held = 0
+entry_with (x ∷ places) held = cond {A = ℕ} (x == held) 0 (suc (entry_with places held))
+
+-- the name that an entry is of
+abbrev pub name_at : List (ℕ × ℕ) → ℕ → ℕ × ℕ
+name_at blocks entry = (
+  (slice_index_or blocks (entry / 16) (0, 0)).0,
+  (slice_index_or blocks (entry / 16) (0, 0)).1 * 16 + entry % 16,
+)
+
+-- so many names, each of the entry that holds its place and 1
+abbrev pub names_in : List (ℕ × ℕ) → List ℕ → ℕ → List (ℕ × ℕ)
+names_in blocks places zero = []
+names_in blocks places (suc count) =
+    names_in blocks places count ++ name_at blocks (entry_with places (suc count)) ∷ []
+
 -- there is room for so many names, each in a block of its own
-pub record IsRoomy (count capacity : ℕ) (blocks : NamesInRoom) (entries room : ℕ) : Type 0 where
-  pub in_names : room ≤ capacity
+pub record IsRoomy (count : ℕ) (blocks : NamesInRoom) (entries room : ℕ) : Type 0 where
   pub in_blocks : length blocks.items + room ≤ blocks.room + count
   pub in_places : 16 * (length blocks.items + room) ≤ entries + 16 * count

@@ -1,6 +1,6 @@
 //! Names of commands, of which each is found in few steps, whatever names there are.
 
-ghost use Rattle.std.specs.Prelude.{◌≡◌, ◌+◌, ◌*◌, ◌/◌, ◌≤◌, ◌<◌, ◌++◌, ◌∷◌, [], false, Some, length, replicate, slice_get, vec_len, vec_capacity, is_some, IfOk, IfSome, OnOk, OnErr};
+ghost use Rattle.std.specs.Prelude.{◌≡◌, ◌+◌, ◌/◌, ◌≤◌, ◌<◌, ◌++◌, ◌∷◌, [], false, Some, length, replicate, slice_get, vec_len, vec_capacity, is_some, IfOk, IfSome, OnOk, OnErr};
 ghost use Rattle.game_trait.specs.NameTree.{has_name};
 
 use crate::block_tree::BlockTree;
@@ -8,37 +8,39 @@ use crate::command::{MirrorId, Number};
 use std::alloc::{AllocError, Global};
 use std::marker::Model;
 
-// How many names a tree has at most: the place of each and one more fit an entry.
+// How many names a tree has at most: an entry holds the place of one and 1.
 const MOST_NAMES: usize = u32::MAX as usize;
 
 /// Names of commands, a mirror and a number each, in the order in which they were appended, no two
 /// the same. Contracts see the names, and how many there is room for without taking memory.
 ///
 /// They are found by blocks of 16 numbers of one mirror: a block is found in a tree in at most 18
-/// steps, whatever names strangers choose, and tells the places of its names (this project's own).
+/// steps, whatever names strangers choose, and tells the places of its names, which stand nowhere
+/// else (this project's own).
 #[derive(Debug, Drop)]
 pub struct NameTree {
-    names: Vec<(MirrorId, Number)>,
     blocks: BlockTree,
     // 16 for each block, each the place of a name and 1, or 0 for none
     places: Vec<u32>,
+    count: usize,
     room: usize,
 }
 
 impl Model for NameTree {
-    ghost use Rattle.std.specs.Prelude.{◌≤◌, length, vec_capacity};
-    ghost use Rattle.game_trait.specs.NameTree.{NamesInRoom, AreInBlocks, IsRoomy};
+    ghost use Rattle.std.specs.Prelude.{◌≤◌, vec_capacity};
+    ghost use Rattle.game_trait.specs.NameTree.{NamesInRoom, AreInBlocks, IsRoomy, names_in};
     ghost use Rattle.game_trait.specs.declared.name_tree.TheConstants.{MOST_NAMES};
 
     ghost Value = { NamesInRoom };
 
-    ghost view = { λ t. record { items = t.names.items; room = t.room } };
+    ghost view = { λ t. record {
+      items = names_in t.blocks.items t.places.items t.count;
+      room = t.room;
+    } };
 
     ghost invariant = { λ t.
-        AreInBlocks t.names.items t.blocks.items t.places.items
-        × IsRoomy (length t.names.items) (vec_capacity t.names) t.blocks (vec_capacity t.places)
-        t.room
-        × (t.room ≤ MOST_NAMES) };
+        AreInBlocks (names_in t.blocks.items t.places.items t.count) t.blocks.items t.places.items
+        × IsRoomy t.count t.blocks (vec_capacity t.places) t.room × (t.room ≤ MOST_NAMES) };
 }
 
 impl NameTree {
@@ -47,9 +49,9 @@ impl NameTree {
         ensures { result ≡ record { items = []; room = 0 } }
     {
         NameTree {
-            names: Vec::new(alloc),
             blocks: BlockTree::new(alloc),
             places: Vec::new(alloc),
+            count: 0,
             room: 0,
         }
     }
@@ -63,9 +65,9 @@ impl NameTree {
             return Err(AllocError);
         }
         Ok(NameTree {
-            names: Vec::with_capacity(alloc, room)?,
             blocks: BlockTree::with_room(alloc, room)?,
             places: Vec::with_capacity(alloc, 16 * room)?,
+            count: 0,
             room,
         })
     }
@@ -78,17 +80,15 @@ impl NameTree {
         ensures ok { OnOk result (length self.new.items < self.new.room) }
         ensures err { OnErr result (self.new.room ≡ self.old.room) }
     {
-        let count = self.names.len();
-        if count < self.room {
+        if self.count < self.room {
             return Ok(());
         }
-        if count >= MOST_NAMES {
+        if self.count >= MOST_NAMES {
             return Err(AllocError);
         }
-        self.names.reserve(1)?;
         self.blocks.reserve()?;
         self.places.reserve(16)?;
-        self.room = count + 1;
+        self.room = self.count + 1;
         Ok(())
     }
 
@@ -99,11 +99,10 @@ impl NameTree {
         ensures { self.new
             ≡ record self.old { items = self.old.items ++ (from, number) ∷ [] } }
     {
-        let place = self.names.len() as u32 + 1;
         let at = self.blocks.place(from, number / 16);
         open_block(&mut self.places, at);
-        self.places[16 * at + (number % 16) as usize] = place;
-        self.names.push_reserved((from, number));
+        self.count += 1;
+        self.places[16 * at + (number % 16) as usize] = self.count as u32;
     }
 
     /// The place of a name among those that were appended, if it is there.

@@ -48,4 +48,4 @@ pub returns-in_default-clause-found : goal.returns-in_default-clause-found
 returns-in_default-clause-found c =
     let some : 0 < c.index.result.now = (let other = c.in_default in grind (arith, nat_tests)) in
     let there = held-there c.self.invariant.0 c.args.from c.args.number c.in_ok-at.at c.index.result.now c.in_ok-at.ensures.there c.index.ensures some in
-    rw (← c.self.view_is) (sym (named-at c.self.inside.names.items c.args.from c.args.number _ there))
+    rw (← c.self.view_is) (sym (named-at _ c.args.from c.args.number _ there))

@@ -4,7 +4,6 @@ use Rattle.game_trait.proofs.name_tree.NameTree.with_room.Goals as goal
 
 pub invariant_of-result : goal.invariant_of-result
 invariant_of-result c =
-    let names = c.in_ok-with_capacity.ensures.capacity in
-    let places = c.in_ok-with_capacity-2.ensures.capacity in
-    rw (c.in_ok-with_capacity.ensures.items, c.in_ok-with_room.ensures, c.in_ok-with_capacity-2.ensures.items)
-    (none-in_blocks, record { in_names = omega arith; in_blocks = omega arith; in_places = omega arith }, omega arith)
+    let places = c.in_ok-with_capacity.ensures.capacity in
+    rw (c.in_ok-with_capacity.ensures.items, c.in_ok-with_room.ensures)
+    (none-in_blocks, record { in_blocks = omega arith; in_places = omega arith }, omega arith)
