@@ -12,7 +12,7 @@ ghost use Rattle.sync_model.specs.Turns.{turn, turn_events, IsDrained, is_draine
 ghost use Rattle.mirror_core.specs.Kept.{delays_of_each, ticks_of_first, copies_of_first};
 ghost use Rattle.mirror_core.specs.Deferred.{AreDeferred};
 
-use crate::lazy::LazyMirror;
+use crate::core::MirrorCore;
 use crate::mirrored::Mirrored;
 use arrayvec::ArrayVec;
 use game_trait::limits::{MOST_PLANS, MOST_ROOM};
@@ -32,7 +32,7 @@ use tss_io::NoMemory;
 /// takes memory.
 #[derive(Drop)]
 pub struct DeferredMirror<G: Game> {
-    inner: LazyMirror<G>,
+    inner: MirrorCore<G>,
     // for how many more steps and turns the copies ahead execute as they go, too, since somebody
     // looked
     looked: u32,
@@ -51,7 +51,7 @@ impl<G: Game> Model for DeferredMirror<G> {
 
 // How many items lie between the ends of the last copy's run and of copy 0's, and at least 1: so many
 // a look executes where nobody looked before.
-fn window<G: Game>(inner: &LazyMirror<G>) -> u32
+fn window<G: Game>(inner: &MirrorCore<G>) -> u32
     ensures { result ≡ max 1 (length (slice_index_or inner.now.state.runs 0 [])
         - length (slice_index_or inner.now.state.runs (length inner.now.state.runs - 1) [])) }
 {
@@ -66,7 +66,7 @@ fn window<G: Game>(inner: &LazyMirror<G>) -> u32
 // Sees to the worlds of the copies ahead behind a call that may have made steps: where every copy has
 // run the whole match they are made, and where somebody looked long enough ago they are left to be
 // made again. Answers for how many more such calls the copies ahead execute as they go.
-fn settle<G: Game>(inner: &mut LazyMirror<G>, looked: u32) -> u32
+fn settle<G: Game>(inner: &mut MirrorCore<G>, looked: u32) -> u32
     ensures state { inner.new.state ≡ inner.old.state }
     ensures worlds { AreDeferred inner.new.state inner.new.stale result }
     ensures fewer { result ≡ looked - 1 }
@@ -104,7 +104,7 @@ impl<G: Game> DeferredMirror<G> {
             ≡ opening_state opening.now (ticks_of_first plans.now) (delays_of_each plans.now) room
             restaggers) }
     {
-        let mut inner = LazyMirror::new(alloc, opening, plans, room, restaggers)?;
+        let mut inner = MirrorCore::new(alloc, opening, plans, room, restaggers)?;
         let looked = settle(&mut inner, 0);
         Ok(DeferredMirror { inner, looked })
     }

@@ -2,10 +2,10 @@
 //! moment a state of `sync_model`.
 #![tactic(auto)]
 
+mod core;
 mod deferred;
 mod drafts;
 mod epochs;
-mod lazy;
 mod lists;
 mod mirror;
 mod mirrored;

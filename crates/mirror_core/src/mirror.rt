@@ -15,7 +15,7 @@ ghost use Rattle.mirror_core.specs.Drained.{AreInOrder};
 ghost use Rattle.mirror_core.specs.Drafts.{drafted as drafted_by, committed_to, committed, IfDraft};
 
 use crate::drafts::{Committed, Drafted, Ready};
-use crate::lazy::LazyMirror;
+use crate::core::MirrorCore;
 use crate::mirrored::Mirrored;
 use arrayvec::ArrayVec;
 use game_trait::limits::{MOST_PLANS, MOST_ROOM};
@@ -33,7 +33,7 @@ use tss_io::NoMemory;
 /// `new` takes memory.
 #[derive(Drop)]
 pub struct Mirror<G: Game> {
-    inner: LazyMirror<G>,
+    inner: MirrorCore<G>,
 }
 
 impl<G: Game> Model for Mirror<G> {
@@ -74,7 +74,7 @@ impl<G: Game> Mirror<G> {
             restaggers) }
     {
         Ok(Mirror {
-            inner: LazyMirror::new(alloc, opening, plans, room, restaggers)?,
+            inner: MirrorCore::new(alloc, opening, plans, room, restaggers)?,
         })
     }
 

@@ -1,4 +1,4 @@
-//! A mirror whose copies' worlds may still be to be made.
+//! The core of every mirror: its whole state, with worlds that may be stale.
 
 ghost use Rattle.std.specs.Prelude.{◌≡◌, ◌<◌, ◌≤◌, ◌-◌, IfOk, length, max};
 ghost use Rattle.std.specs.List.{AllByRecursion};
@@ -29,11 +29,11 @@ use sync_model::Turned;
 use trailing_copy::LazyStack;
 use tss_io::NoMemory;
 
-/// A mirror, between whose events the worlds of its first copies may still be to be made (this
-/// project's own). Contracts see its state, and how many copies, from copy 0 on, have such worlds.
-/// What an event changes and what is answered doesn't hang on them.
+/// The core of every mirror, eager or deferred (this project's own): it makes the events, and leaves
+/// the worlds of the copies that it repairs stale until `refresh`. Contracts see its state, and how
+/// many copies, from copy 0 on, are stale. What an event changes and answers doesn't depend on that.
 #[derive(Drop)]
-pub struct LazyMirror<G: Game> {
+pub struct MirrorCore<G: Game> {
     // the opening, the match's length, the accepted commands and the copies
     pub stack: LazyStack<G>,
     pub plans: Vec<Stagger>,
@@ -51,13 +51,13 @@ pub struct LazyMirror<G: Game> {
     pub plan_spare: u32,
 }
 
-impl<G: Game> Model for LazyMirror<G> {
+impl<G: Game> Model for MirrorCore<G> {
     ghost use Rattle.std.specs.Prelude.{◌-◌, length, vec_capacity};
     ghost use Rattle.game_trait.specs.NameTree.{has_name};
     ghost use Rattle.sync_model.specs.State.{MirrorState};
-    ghost use Rattle.mirror_core.specs.Kept.{delays_of_each, Room, IsKept, LazyState};
+    ghost use Rattle.mirror_core.specs.Kept.{delays_of_each, Room, IsKept, CoreState};
 
-    ghost Value = { LazyState G };
+    ghost Value = { CoreState G };
 
     ghost view = { λ m. record {
       state = record {
@@ -99,15 +99,15 @@ impl<G: Game> Model for LazyMirror<G> {
         IsKept state m.plans.items (has_name m.names.items) m.repairs m.epochs room };
 }
 
-impl<G: Game> LazyMirror<G> {
-    /// What `Mirror::new` makes. No world is still to be made.
+impl<G: Game> MirrorCore<G> {
+    /// What `Mirror::new` makes. No copy is stale.
     pub fn new(
         alloc: Global,
         opening: &G,
         plans: &[Stagger],
         room: u32,
         restaggers: u32,
-    ) -> Result<LazyMirror<G>, NoMemory>
+    ) -> Result<MirrorCore<G>, NoMemory>
         requires some_plan { 0 < length plans.now }
         requires few_plans { length plans.now ≤ MOST_PLANS }
         requires equal_ticks { AllByRecursion (λ plan. plan.length ≡ ticks_of_first plans.now)
@@ -131,7 +131,7 @@ impl<G: Game> LazyMirror<G> {
         let steps = copies as usize * length;
         let events = length + greatest(plans) as usize + steps + arrivals + restaggers as usize;
         let lists = Lists::new(alloc, plans, arrivals, events)?;
-        Ok(LazyMirror {
+        Ok(MirrorCore {
             stack: LazyStack::new(alloc, opening, copies, ticks, room)?,
             plans: lists.plans,
             plan: 0,
@@ -173,7 +173,7 @@ impl<G: Game> LazyMirror<G> {
         self.stack.clock(self.stagger().copies() - 1)
     }
 
-    /// What `Mirror::tick` does. As many worlds as before are still to be made.
+    /// What `Mirror::tick` does. As many copies as before are stale.
     pub fn tick(&mut self) -> Ticked
         ensures state { self.new.state ≡ next self.old.state Event.Tick }
         ensures answer { said self.old.state Event.Tick ≡ Reply.Tick result }
@@ -187,7 +187,7 @@ impl<G: Game> LazyMirror<G> {
         Ticked::Moved
     }
 
-    /// What `Mirror::restagger` does. As many worlds as before are still to be made.
+    /// What `Mirror::restagger` does. As many copies as before are stale.
     pub fn restagger(&mut self, plan: u8)
         requires there { plan < length self.old.state.plans }
         requires room { 0 < self.old.state.plan_spare }
@@ -201,7 +201,7 @@ impl<G: Game> LazyMirror<G> {
         self.history.push_reserved(Event::Restagger(plan));
     }
 
-    /// What `Mirror::arrive` does. The worlds of the copies that it repairs are still to be made.
+    /// What `Mirror::arrive` does. The copies that it repairs are stale.
     pub fn arrive(&mut self, x: &Command) -> Arrived
         requires within_match { x.now.time < self.old.state.length }
         requires room { 0 < self.old.state.spare }
@@ -239,7 +239,7 @@ impl<G: Game> LazyMirror<G> {
         self.names.has(from, number)
     }
 
-    /// What `Mirror::step` does. Worlds may be left to be made.
+    /// What `Mirror::step` does. The copies that it repairs are stale.
     pub fn step(&mut self, copy: u8) -> Stepped
         requires { copy < length self.old.state.runs }
         ensures state { self.new.state ≡ next self.old.state (Event.Step copy) }
@@ -255,7 +255,7 @@ impl<G: Game> LazyMirror<G> {
         Stepped::Ran { repaired }
     }
 
-    /// What `Mirror::draft_into` does, where no world is still to be made.
+    /// What `Mirror::draft_into` does, where no copy is stale.
     #[inline(always)]
     pub fn draft_into(&mut self, copy: u8, drafted: &mut Drafted<G>)
         requires there { copy < length self.old.state.runs }
@@ -277,7 +277,7 @@ impl<G: Game> LazyMirror<G> {
         drafted.put(copy, self.epochs.of(copy), &mut self.stack);
     }
 
-    /// What `Mirror::commit` does. Worlds may be left to be made.
+    /// What `Mirror::commit` does. The copies that it repairs are stale.
     pub fn commit(&mut self, r: &Ready<G>) -> Committed
         requires { FitsReady G.rules self.old.state r.now }
         ensures state { self.new.state ≡ committed_to self.old.state r.now }
@@ -298,7 +298,7 @@ impl<G: Game> LazyMirror<G> {
         Committed::Ran { repaired }
     }
 
-    /// What `Mirror::make` does. Worlds may be left to be made.
+    /// What `Mirror::make` does. The copies that it repairs are stale.
     pub fn make(&mut self, e: &Event) -> Reply
         requires fits { Fits self.old.state e.now }
         requires room { HasRoom self.old.state e.now }
@@ -317,7 +317,7 @@ impl<G: Game> LazyMirror<G> {
     }
 
     /// Makes events one after another, each as `make` does, and hands back what was answered to each,
-    /// in order. Worlds may be left to be made.
+    /// in order.
     pub fn make_each<const N: usize>(&mut self, events: &[Event]) -> ArrayVec<Reply, N>
         requires few { length events.now ≤ N }
         requires fits { AllByRecursion (Fits self.old.state) events.now }
@@ -332,8 +332,7 @@ impl<G: Game> LazyMirror<G> {
         replies
     }
 
-    /// Makes a turn: a tick, and then a step of each copy from copy 0 on. Worlds may be left to be
-    /// made.
+    /// Makes a turn: a tick, and then a step of each copy from copy 0 on.
     pub fn turn(&mut self) -> ArrayVec<Reply, 9>
         ensures state { self.new.state ≡ turn self.old.state }
         ensures replies { result.items
@@ -361,14 +360,14 @@ impl<G: Game> LazyMirror<G> {
         self.last_clock() == self.stagger().length()
     }
 
-    /// Leaves the worlds of all copies but the last to be made.
+    /// Makes all copies but the last stale, so that they execute nothing until `refresh`.
     pub fn defer(&mut self)
         ensures { self.new ≡ record self.old { stale = length self.old.state.runs - 1 } }
     {
         self.stack.defer();
     }
 
-    /// Makes the worlds that are still to be made, each once.
+    /// Makes the world of each stale copy anew, each once.
     pub fn refresh(&mut self)
         ensures { self.new ≡ record self.old { stale = 0 } }
     {
