@@ -254,9 +254,3 @@ pub same-state :
     (record { opening = opening; ticks = ticks; accepted = accepted; runs = b; spare = spare; stale = stale })
 same-state opening ticks accepted spare stale a b e =
     λ i. record { opening = opening; ticks = ticks; accepted = accepted; runs = e i; spare = spare; stale = stale }
-
--- one tick alone
-pub one-tick : (all : List Command) (t : ℕ) → ordered all t (t + 1) ≡ tick_of all t
-one-tick all t =
-    ordered-more all t t (omega arith)
-    ∙ ap (λ (l : List Item). l ++ tick_of all t) (ordered-empty all t t (omega arith))
