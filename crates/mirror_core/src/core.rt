@@ -8,7 +8,7 @@ ghost use Rattle.sync_model.specs.State.{last_clock as last_clock_of};
 ghost use Rattle.sync_model.specs.Change.{next, said, after, answers, Fits};
 ghost use Rattle.sync_model.specs.History.{HasRoom, HasRoomAlong, repaired_in};
 ghost use Rattle.sync_model.specs.Turns.{turn, turn_events, is_drained, drain_bound};
-ghost use Rattle.sync_model.specs.Drafts.{epoch as epoch_of, ready_of, FitsReady};
+ghost use Rattle.sync_model.specs.Drafts.{ready_of, FitsReady};
 ghost use Rattle.mirror_core.specs.Kept.{delays_of_each, ticks_of_first, copies_of_first};
 ghost use Rattle.mirror_core.specs.Drafts.{drafted as drafted_by, committed_to, committed, IfDraft};
 

@@ -1,7 +1,7 @@
 use Rattle.std.proofs.Common.{sym, subst}
 use Rattle.mirror_core.specs.Drained.{AreInOrder}
 use Rattle.mirror_core.proofs.Drained.{in-order}
-use Rattle.mirror_core.proofs.mirror.Mirror.drain.Goals as goal
+use Rattle.mirror_core.proofs.mirror.Mirror+G.drain.Goals as goal
 
 pub returns-clause-worlds : goal.returns-clause-worlds
 returns-clause-worlds g c =

@@ -1,7 +1,7 @@
 use Rattle.std.proofs.Common.{◌≡◌, ◌-◌, ℕ, refl, sym, ap, ◌∙◌, arith}
 use Rattle.sync_model.specs.Turns.{drain_within}
 use Rattle.sync_model.proofs.Turning.{drained-state, no-turns-state, drain-state}
-use Rattle.mirror_core.proofs.mirror.Mirror.run_to_the_end.Goals as goal
+use Rattle.mirror_core.proofs.mirror_with.MirrorWith.run_to_the_end.Goals as goal
 
 pub loop-init : goal.loop-init
 loop-init g c =
