@@ -5,9 +5,8 @@ use Rattle.game_trait.specs.declared.command.Command.{Command}
 use Rattle.game_trait.specs.declared.command.Item.{Item}
 use Rattle.game_trait.specs.Game.{Rules}
 use Rattle.game_trait.specs.Run.{beats, world_of}
-use Rattle.game_trait.specs.Ordered.{ordered, tick_of}
+use Rattle.game_trait.specs.Ordered.{tick_of}
 use Rattle.game_trait.proofs.Runs.{world_of-append}
-use Rattle.game_trait.proofs.OrderedParts.{ordered-more, ordered-empty}
 use Rattle.sync_model.specs.Settle.{settle, begins_with, repaired}
 use Rattle.sync_model.specs.Change.{with_tick}
 use Rattle.sync_model.specs.Staggered.{IsComplete}
