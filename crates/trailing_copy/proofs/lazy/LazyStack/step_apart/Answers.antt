@@ -60,8 +60,6 @@ execute_or_put-requires-clause-few g c =
 
 pub bring_to_list_end-requires-clause-at : goal.bring_to_list_end-requires-clause-at
 bring_to_list_end-requires-clause-at g c =
-    let there = rw (← c.self.view_is) at c.requires.copy in
-    let at = clock-own _ _ c.args.copy c.beats-t.result there c.beats-t.ensures in
     let appended = rw (c.in_order-list.ensures, c.settle.ensures) at c.append_tick.ensures in
     let change = changed g (goal.at.bring_to_list_end-requires-clause-at g c).After-beats-t in
     λ j some upto. ends-at c.self.invariant.0 c.len.ensures.falls c.len.ensures.first change
