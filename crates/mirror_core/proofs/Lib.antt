@@ -8,6 +8,6 @@ mod Opened
 mod Calls
 mod Along
 mod Executed
-mod Deferring
+mod Allowed
 pub mod WholeTurns
 mod Drained

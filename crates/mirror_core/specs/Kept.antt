@@ -52,8 +52,8 @@ pub record IsKept {W : Type 0} (s : MirrorState W) (plans : List Schedule) (is_t
   pub epochs : AreEpochs s numbers
   pub room_left : HasRoomLeft s room
 
--- a mirror whose copies' worlds may still be to be made: its state, and how many copies, from copy
--- 0 on, have such worlds
-pub record LazyState (W : Type 0) : Type 0 where
+-- the core of a mirror: its state, and how many copies, from copy 0 on, are stale: their worlds are
+-- still to be made
+pub record CoreState (W : Type 0) : Type 0 where
   pub state : MirrorState W
   pub stale : ℕ

@@ -2,19 +2,23 @@
 //! moment a state of `sync_model`.
 #![tactic(auto)]
 
+mod core;
 mod deferred;
 mod drafts;
 mod epochs;
-mod lazy;
 mod lists;
 mod mirror;
+mod mirror_with;
 mod mirrored;
 mod plans;
+mod policy;
 mod turns;
 
 pub use deferred::DeferredMirror;
 pub use drafts::{Committed, Draft, Drafted, MOST_DRAFTED, Ready};
 pub use mirror::Mirror;
+pub use mirror_with::MirrorWith;
 pub use mirrored::Mirrored;
+pub use policy::{Deferred, Eager, RefreshPolicy};
 pub use sync_model::Turned;
 pub use turns::turn_events;

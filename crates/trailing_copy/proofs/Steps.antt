@@ -5,9 +5,8 @@ use Rattle.game_trait.specs.declared.command.Command.{Command}
 use Rattle.game_trait.specs.declared.command.Item.{Item}
 use Rattle.game_trait.specs.Game.{Rules}
 use Rattle.game_trait.specs.Run.{beats, world_of}
-use Rattle.game_trait.specs.Ordered.{ordered, tick_of}
+use Rattle.game_trait.specs.Ordered.{tick_of}
 use Rattle.game_trait.proofs.Runs.{world_of-append}
-use Rattle.game_trait.proofs.OrderedParts.{ordered-more, ordered-empty}
 use Rattle.sync_model.specs.Settle.{settle, begins_with, repaired}
 use Rattle.sync_model.specs.Change.{with_tick}
 use Rattle.sync_model.specs.Staggered.{IsComplete}
@@ -254,9 +253,3 @@ pub same-state :
     (record { opening = opening; ticks = ticks; accepted = accepted; runs = b; spare = spare; stale = stale })
 same-state opening ticks accepted spare stale a b e =
     λ i. record { opening = opening; ticks = ticks; accepted = accepted; runs = e i; spare = spare; stale = stale }
-
--- one tick alone
-pub one-tick : (all : List Command) (t : ℕ) → ordered all t (t + 1) ≡ tick_of all t
-one-tick all t =
-    ordered-more all t t (omega arith)
-    ∙ ap (λ (l : List Item). l ++ tick_of all t) (ordered-empty all t t (omega arith))

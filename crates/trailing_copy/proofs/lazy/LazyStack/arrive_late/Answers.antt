@@ -1,78 +1,69 @@
-use Rattle.std.proofs.Common.{◌∙◌, sym, arith}
+use Rattle.std.proofs.Common.{◌++◌, ◌-◌, ◌∙◌, [], ◌∷◌, sym, arith}
+use Rattle.game_trait.specs.declared.command.Item.TheVariants.{Cmd}
+use Rattle.sync_model.specs.Settle.{settle}
+use Rattle.sync_model.specs.Change.{proposed_by_arrival}
+use Rattle.executed_list.specs.Segments.{clocks_at, runs_at}
 use Rattle.executed_list.proofs.Grown.{grown-push}
 use Rattle.trailing_copy.proofs.Arriving.{late-change, late-put}
 use Rattle.trailing_copy.proofs.OwnClocks.{kept-own}
 use Rattle.trailing_copy.proofs.Steps.{same-state}
-use Rattle.trailing_copy.proofs.Remade.{room-before, ends-at, given, runs-remade, kept-stale}
+use Rattle.trailing_copy.proofs.Remade.{Change, room-before, ends-at, given, runs-remade, kept-stale}
 use Rattle.trailing_copy.proofs.Settled.{put-kept, put-runs, put-settled, settled-after, room-one, late-clock}
+use Rattle.trailing_copy.proofs.lazy.LazyStack.arrive_late.Given.{Over}
+use Rattle.trailing_copy.proofs.lazy.LazyStack.arrive_late.Goals.{After-len}
 use Rattle.trailing_copy.proofs.lazy.LazyStack.arrive_late.Goals as goal
 
-pub push-requires : goal.push-requires
-push-requires g c =
-    let late = rw (← c.self.view_is) at c.requires.late in
-    let change =
+-- the change that the command proposes
+changed :
+    (g : Over) (c : After-len g) → let run = c.self.inside.run in let all = c.self.inside.list.all in
+    Change g.G.Game.rules c.self.inside.opening c.self.inside.list.ticks all c.self.inside.list.spare
+    run (clocks_at run.items run.ends) (all ++ c.args.x.now ∷ []) (c.self.inside.list.spare - 1)
+    (Cmd c.args.x.now ∷ []) c.args.first c.args.last (clocks_at run.items run.ends)
+    (settle (all ++ c.args.x.now ∷ [])
+    (proposed_by_arrival c.args.x.now (runs_at run.items run.ends)))
+changed g c =
     late-change c.self.invariant.0 c.len.ensures.falls c.len.ensures.first c.args.x.now
     c.args.first c.args.last (rw (← c.self.view_is) at c.requires.room)
     (rw (← c.self.view_is) at c.requires.new_name) (rw (← c.self.view_is) at c.requires.due)
-    late c.requires.order (rw (← c.self.view_is) at c.requires.level) in
+    (rw (← c.self.view_is) at c.requires.late) c.requires.order
+    (rw (← c.self.view_is) at c.requires.level)
+
+pub push-requires : goal.push-requires
+push-requires g c =
+    let change = changed g (goal.at.push-requires g c).After-len in
     room-before c.self.invariant.0 c.len.ensures.falls c.len.ensures.first change c.cut.ensures
 
 pub bring_to_list_end-requires-clause-at : goal.bring_to_list_end-requires-clause-at
 bring_to_list_end-requires-clause-at g c =
-    let late = rw (← c.self.view_is) at c.requires.late in
-    let change =
-    late-change c.self.invariant.0 c.len.ensures.falls c.len.ensures.first c.args.x.now
-    c.args.first c.args.last (rw (← c.self.view_is) at c.requires.room)
-    (rw (← c.self.view_is) at c.requires.new_name) (rw (← c.self.view_is) at c.requires.due)
-    late c.requires.order (rw (← c.self.view_is) at c.requires.level) in
+    let change = changed g (goal.at.bring_to_list_end-requires-clause-at g c).After-len in
     let grown = c.push.ensures ∙ grown-push c.cut.new.self _ in
     λ j some upto. ends-at c.self.invariant.0 c.len.ensures.falls c.len.ensures.first change
     c.cut.ensures grown j some upto ∙ sym c.len-from.ensures.len
 
 pub remake_runs_ahead-requires-clause-level : goal.remake_runs_ahead-requires-clause-level
 remake_runs_ahead-requires-clause-level g c =
-    let late = rw (← c.self.view_is) at c.requires.late in
-    let change =
-    late-change c.self.invariant.0 c.len.ensures.falls c.len.ensures.first c.args.x.now
-    c.args.first c.args.last (rw (← c.self.view_is) at c.requires.room)
-    (rw (← c.self.view_is) at c.requires.new_name) (rw (← c.self.view_is) at c.requires.due)
-    late c.requires.order (rw (← c.self.view_is) at c.requires.level) in
+    let change = changed g (goal.at.remake_runs_ahead-requires-clause-level g c).After-len in
     let grown = c.push.ensures ∙ grown-push c.cut.new.self _ in
     (given c.self.invariant.0 c.len.ensures.falls c.len.ensures.first change c.cut.ensures grown
     c.bring_to_list_end.ensures).level
 
 pub remake_runs_ahead-requires-clause-clock : goal.remake_runs_ahead-requires-clause-clock
 remake_runs_ahead-requires-clause-clock g c =
-    let late = rw (← c.self.view_is) at c.requires.late in
-    let change =
-    late-change c.self.invariant.0 c.len.ensures.falls c.len.ensures.first c.args.x.now
-    c.args.first c.args.last (rw (← c.self.view_is) at c.requires.room)
-    (rw (← c.self.view_is) at c.requires.new_name) (rw (← c.self.view_is) at c.requires.due)
-    late c.requires.order (rw (← c.self.view_is) at c.requires.level) in
+    let change = changed g (goal.at.remake_runs_ahead-requires-clause-clock g c).After-len in
     let grown = c.push.ensures ∙ grown-push c.cut.new.self _ in
     rw (c.deref.ensures.0, c.kept-clocks.ensures, c.clocks.ensures) (given c.self.invariant.0 c.len.ensures.falls c.len.ensures.first change c.cut.ensures grown
     c.bring_to_list_end.ensures).clock
 
 pub remake_runs_ahead-requires-clause-falls : goal.remake_runs_ahead-requires-clause-falls
 remake_runs_ahead-requires-clause-falls g c =
-    let late = rw (← c.self.view_is) at c.requires.late in
-    let change =
-    late-change c.self.invariant.0 c.len.ensures.falls c.len.ensures.first c.args.x.now
-    c.args.first c.args.last (rw (← c.self.view_is) at c.requires.room)
-    (rw (← c.self.view_is) at c.requires.new_name) (rw (← c.self.view_is) at c.requires.due)
-    late c.requires.order (rw (← c.self.view_is) at c.requires.level) in
+    let change = changed g (goal.at.remake_runs_ahead-requires-clause-falls g c).After-len in
     let grown = c.push.ensures ∙ grown-push c.cut.new.self _ in
     rw (c.deref.ensures.0, c.kept-clocks.ensures, c.clocks.ensures) (given c.self.invariant.0 c.len.ensures.falls c.len.ensures.first change c.cut.ensures grown
     c.bring_to_list_end.ensures).falls
 
 pub remake_runs_ahead-requires-clause-room : goal.remake_runs_ahead-requires-clause-room
 remake_runs_ahead-requires-clause-room g c =
-    let late = rw (← c.self.view_is) at c.requires.late in
-    let change =
-    late-change c.self.invariant.0 c.len.ensures.falls c.len.ensures.first c.args.x.now
-    c.args.first c.args.last (rw (← c.self.view_is) at c.requires.room)
-    (rw (← c.self.view_is) at c.requires.new_name) (rw (← c.self.view_is) at c.requires.due)
-    late c.requires.order (rw (← c.self.view_is) at c.requires.level) in
+    let change = changed g (goal.at.remake_runs_ahead-requires-clause-room g c).After-len in
     let grown = c.push.ensures ∙ grown-push c.cut.new.self _ in
     rw (c.deref.ensures.0, c.kept-clocks.ensures, c.clocks.ensures, c.in_order.ensures, c.settle.ensures, c.insert.ensures)
     (given c.self.invariant.0 c.len.ensures.falls c.len.ensures.first change c.cut.ensures grown
@@ -86,11 +77,7 @@ insert-requires-then-last-settled-clause-room g c =
 pub invariant_of-self : goal.invariant_of-self
 invariant_of-self g c =
     let late = rw (← c.self.view_is) at c.requires.late in
-    let change =
-    late-change c.self.invariant.0 c.len.ensures.falls c.len.ensures.first c.args.x.now
-    c.args.first c.args.last (rw (← c.self.view_is) at c.requires.room)
-    (rw (← c.self.view_is) at c.requires.new_name) (rw (← c.self.view_is) at c.requires.due)
-    late c.requires.order (rw (← c.self.view_is) at c.requires.level) in
+    let change = changed g (goal.at.invariant_of-self g c).After-len in
     let len = c.apply_to_each.ensures.len in
     let old = c.self.inside.worlds.ok.0 in
     let new = c.apply_to_each.new.worlds.ok.0 in
@@ -116,11 +103,7 @@ invariant_of-self g c =
 pub returns-then-last-settled : goal.returns-then-last-settled
 returns-then-last-settled g c =
     let late = rw (← c.self.view_is) at c.requires.late in
-    let change =
-    late-change c.self.invariant.0 c.len.ensures.falls c.len.ensures.first c.args.x.now
-    c.args.first c.args.last (rw (← c.self.view_is) at c.requires.room)
-    (rw (← c.self.view_is) at c.requires.new_name) (rw (← c.self.view_is) at c.requires.due)
-    late c.requires.order (rw (← c.self.view_is) at c.requires.level) in
+    let change = changed g (goal.at.returns-then-last-settled g c).After-len in
     let some = rw (← c.self.view_is) at c.requires.room in
     let older =
     late-clock c.self.invariant.0 c.len.ensures.falls c.len.ensures.first c.args.x.now c.args.last
@@ -131,12 +114,7 @@ returns-then-last-settled g c =
 
 pub invariant_of-self-2 : goal.invariant_of-self-2
 invariant_of-self-2 g c =
-    let late = rw (← c.self.view_is) at c.requires.late in
-    let change =
-    late-change c.self.invariant.0 c.len.ensures.falls c.len.ensures.first c.args.x.now
-    c.args.first c.args.last (rw (← c.self.view_is) at c.requires.room)
-    (rw (← c.self.view_is) at c.requires.new_name) (rw (← c.self.view_is) at c.requires.due)
-    late c.requires.order (rw (← c.self.view_is) at c.requires.level) in
+    let change = changed g (goal.at.invariant_of-self-2 g c).After-len in
     let grown = c.push.ensures ∙ grown-push c.cut.new.self _ in
     let len = c.apply_to_each.ensures.len in
     let old = c.self.inside.worlds.ok.0 in
@@ -160,12 +138,7 @@ invariant_of-self-2 g c =
 
 pub returns : goal.returns
 returns g c =
-    let late = rw (← c.self.view_is) at c.requires.late in
-    let change =
-    late-change c.self.invariant.0 c.len.ensures.falls c.len.ensures.first c.args.x.now
-    c.args.first c.args.last (rw (← c.self.view_is) at c.requires.room)
-    (rw (← c.self.view_is) at c.requires.new_name) (rw (← c.self.view_is) at c.requires.due)
-    late c.requires.order (rw (← c.self.view_is) at c.requires.level) in
+    let change = changed g (goal.at.returns g c).After-len in
     let grown = c.push.ensures ∙ grown-push c.cut.new.self _ in
     rw (← c.self.view_is, c.settle.ensures, c.insert.ensures, c.max-stale.ensures) (same-state _ _ _ _ _ _ _
     (runs-remade c.self.invariant.0 c.len.ensures.falls c.len.ensures.first change c.cut.ensures

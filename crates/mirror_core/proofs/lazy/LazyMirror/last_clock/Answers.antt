@@ -1,9 +1,0 @@
-use Rattle.std.proofs.Common.{◌∙◌}
-use Rattle.mirror_core.proofs.Calls.{last-is}
-use Rattle.mirror_core.proofs.lazy.LazyMirror.last_clock.Goals as goal
-
-pub returns : goal.returns
-returns g c =
-    let many = rw (← c.self.view_is) at c.stagger.ensures.copies in
-    rw (← c.self.view_is)
-    (c.clock.ensures ∙ last-is c.self.invariant c.copies.result (c.copies.ensures.copies ∙ many))
