@@ -20,14 +20,14 @@ use Rattle.race_hall.specs.declared.finish.Sender.{Sender}
 use Rattle.race_hall.specs.Race.{plan_of, count_from, others, Raced}
 use Rattle.race_hall.specs.Finish.{to_deliver, finished, CanTake, EndsAtFold}
 use Rattle.race_hall.specs.Held.{left_in, unissued_in}
-use Rattle.race_hall.specs.Looking.{sender_at, SameReceived, SameSends, IsRowLinked, AllSent, IsWholeTo}
+use Rattle.link_mesh.specs.Mesh.{sender_at, SameReceived, SameSends, IsRowLinked, AllSent, IsWholeTo}
 use Rattle.race_hall.specs.Holding.{Holding, IsHeldAt, IsOneHeld, AreHeld}
 use Rattle.race_hall.proofs.Joined.{front_of, joined-raced}
 use Rattle.race_hall.proofs.Held.{deliver-held}
 use Rattle.race_hall.proofs.NothingLate.{nothing-late}
 use Rattle.race_hall.proofs.Fold.{raced-ends}
-use Rattle.race_hall.proofs.Looks.{all-sent-later, linked-later}
-use Rattle.race_hall.proofs.Zips.{zip-get, zip-through, zip-turned}
+use Rattle.link_mesh.proofs.Mesh.{all_sent-later, row-same, row_linked-later}
+use Rattle.race_hall.proofs.Zips.{zip-through, zip-turned}
 
 -- the senders of a mirror's links, link by link
 seq : ℕ → ℕ → ℕ → List ℕ
@@ -140,26 +140,6 @@ looked-ends {W} rules h m s t sends row now senders one l end =
     (raced-ends rules h.course h.opening h.spare m (λ k. (h.end k).marked) (λ k. front_of (messages (plan_of h.course k) (h.end k).marked) (l.left k)) l.left (h.seat m) (h.history m) s
     one.race.fit one.race.room one.here.there l.raced)
 
--- after other mirrors were finished
-pub all_sent-later : (sent : ℕ → List Message) (first now : List (Vec LinkSend Global)) → AllSent sent first → AllZip SameSends first now → AllSent sent now
-all_sent-later sent first now all same k v below here =
-    let long = zip-length SameSends first now same in
-    let old = all k (get_or first k v) (omega arith) (get_or_default first k v (get_or first k v) (omega arith)) in
-    let pair = zip-get SameSends first now k v same below in
-    subst (λ (u : Vec LinkSend Global). AllByRecursion (λ s. sent_of s ≡ sent k) u.items) (sym here) (all-sent-later (sent k) (get_or first k v).items (get_or now k v).items old pair)
-
-pub row_linked-later : (m : ℕ) (first now : List (Vec LinkSend Global)) (row : List LinkReceive)
-    → (length row + 1 ≡ length first) → IsRowLinked m first row → AllZip SameSends first now → IsRowLinked m now row
-row_linked-later m first now row count linked same j r v below here there =
-    let long = zip-length SameSends first now same in
-    let low : sender_at m j < length now = sender-low m j (length row) (length now) below (omega arith) in
-    let old = linked j r (get_or first (sender_at m j) v) below here (get_or_default first (sender_at m j) v (get_or first (sender_at m j) v) (omega arith)) in
-    let pair = zip-get SameSends first now (sender_at m j) v same low in
-    linked-later _ (get_or first (sender_at m j) v).items v.items r old (subst (λ (u : Vec LinkSend Global). SameSends (get_or first (sender_at m j) v) u) (sym there) pair)
-  where
-    sender-low : (m j links senders : ℕ) → j < links → links + 1 ≡ senders → sender_at m j < senders
-    sender-low m j links senders below count = elim (nat_lt j m) as (λ v. cond v j (j + 1) < senders) [ true ↦ omega arith | false ↦ omega arith ]
-
 -- the whole race, when some mirrors are finished
 pub still-held : {W : Type 0} (h : Holding W) (m : ℕ) (mirrors0 mirrors : List (MirrorState W))
     (sends0 sends : List (Vec LinkSend Global)) (rows0 rows : List (Vec LinkReceive Global)) (senders : List Sender)
@@ -194,8 +174,8 @@ still-held {W} h m mirrors0 mirrors sends0 sends rows0 rows senders d e row held
         closed = here.closed;
         ends = here.ends;
         count = here.count;
-        linked = row_linked-later m sends0 sends row (let a = here.count in let b = r.count in omega arith)
-            here.linked same;
+        linked = row_linked-later m sends0 sends row row (let a = here.count in let b = r.count in omega arith)
+            here.linked same (row-same row);
       };
     }
 

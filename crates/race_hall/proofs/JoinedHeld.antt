@@ -15,10 +15,10 @@ use Rattle.race_hall.specs.Entries.{own}
 use Rattle.race_hall.specs.Race.{plan_of, count_from}
 use Rattle.race_hall.specs.Held.{IsSenderOf}
 use Rattle.race_hall.specs.Parting.{sender_of_end}
-use Rattle.race_hall.specs.Looking.{sender_at, place_at, IsLinkedAt}
+use Rattle.link_mesh.specs.Mesh.{sender_at, place_at, IsLinkedAt}
 use Rattle.race_hall.specs.Holding.{Holding, AreHeld, AreJoined}
 use Rattle.race_hall.proofs.Joined.{fed-sent}
-use Rattle.race_hall.proofs.Looks.{sender-below}
+use Rattle.link_mesh.proofs.Mesh.{sender-below}
 use Rattle.race_hall.proofs.Numbered.{numbered-each}
 
 map-get : {X Y : Type 0} (f : X → Y) (xs : List X) (i : ℕ) (d : X) (v : Y) → i < length xs → v ≡ get_or (map f xs) i v → v ≡ f (get_or xs i d)

@@ -13,7 +13,7 @@ use Rattle.race_hall.specs.Entries.{Entry}
 use Rattle.race_hall.specs.Race.{Course, IsCourse, plan_of, count_from}
 use Rattle.race_hall.specs.Joined.{Closed, AllFed}
 use Rattle.race_hall.specs.Held.{IsSenderOf}
-use Rattle.race_hall.specs.Looking.{sender_at, place_at, IsLinkedAt, IsRowLinked, AllSent}
+use Rattle.link_mesh.specs.Mesh.{sender_at, place_at, IsLinkedAt, IsRowLinked, AllSent}
 
 -- what isn't stored: the match, the feeders' jobs and ends, the locks' histories
 pub record Holding (W : Type 0) : Type 0 where

@@ -3,14 +3,11 @@ pub mod Race
 pub mod Finish
 pub mod Joined
 pub mod Held
-pub mod Looking
 pub mod Holding
 pub mod Parting
-pub mod Making
 pub mod Posting
 pub mod Closing
 pub mod Jobs
-pub mod Begun
 pub mod Lining
 pub mod Crews
 pub mod Raced

@@ -14,9 +14,9 @@ ghost use Rattle.copy_workers.specs.declared.feeder_job.FeederJob.{FeederJob};
 ghost use Rattle.turn_lock.specs.Naming.{lock_name, opened_with};
 
 use crate::doer::{EndOver, JobOver, Work};
-use crate::links::make_links;
 use copy_workers::{CopyJob, FeederEnd, FeederJob};
 use game_trait::{Command, Game, MirrorId, order_by_key};
+use link_mesh::make_links;
 use link_ring::{LinkReceive, LinkSend};
 use match_file::{Match, plans_of};
 use mirror_core::Mirror;

@@ -11,12 +11,12 @@ ghost use Rattle.copy_workers.specs.Messages.{commands_in};
 ghost use Rattle.race_hall.specs.Finish.{delivered, finished, CanTake, HasNext, EndsAtFold};
 ghost use Rattle.race_hall.specs.Held.{left_in, unissued_in};
 ghost use Rattle.sync_model.specs.State.{MirrorState};
-ghost use Rattle.race_hall.specs.Looking.{SameSends};
+ghost use Rattle.link_mesh.specs.Mesh.{SameSends};
 ghost use Rattle.race_hall.specs.Holding.{Holding, IsOneHeld, AreHeld, AreJoined};
 
-use crate::links::look_row;
 use copy_workers::FeederEnd;
 use game_trait::{Command, Game};
+use link_mesh::look_row;
 use link_ring::{LinkReceive, LinkSend, Message};
 use mirror_core::Mirror;
 
