@@ -22,9 +22,9 @@ use Rattle.copy_workers.specs.Fed.{FeederEnds}
 use Rattle.race_hall.specs.declared.doer.EndOver.{EndOver}
 use Rattle.race_hall.specs.Entries.{own}
 use Rattle.race_hall.specs.Race.{Course, first_plan, count_from, race_opening}
-use Rattle.race_hall.specs.Joined.{Closed}
+use Rattle.race_hall.specs.JobResults.{Closed}
 use Rattle.race_hall.specs.Posting.{asked_by}
-use Rattle.race_hall.specs.Closing.{DidAs, AllDid}
+use Rattle.race_hall.specs.LockClose.{DidAs, AllDid}
 use Rattle.race_hall.specs.Crews.{ByMirror, IsDone, IsCrewDone, HasCrew, IsTakenBack, IsClosed, AllClosed, last_feeder}
 use Rattle.race_hall.proofs.ClosedLock.{closes}
 use Rattle.race_hall.proofs.Lists.{same-head, same-tail}

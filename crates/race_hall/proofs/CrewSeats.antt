@@ -11,7 +11,7 @@ use Rattle.race_hall.specs.declared.doer.EndOver.{EndOver}
 use Rattle.race_hall.specs.Jobs.{feeder_in}
 use Rattle.race_hall.specs.Race.{count_from}
 use Rattle.race_hall.specs.Crews.{IsPosted, IsTakenBack, last_feeder}
-use Rattle.race_hall.proofs.Lining.{front-more, front-left, off-front}
+use Rattle.race_hall.proofs.FeederJobs.{front-more, front-left, off-front}
 use Rattle.race_hall.proofs.Numbered.{numbered-length, numbered-none, numbered-more}
 
 -- the first n jobs of a crew, over the first seats

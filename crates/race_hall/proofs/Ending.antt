@@ -24,14 +24,14 @@ use Rattle.race_hall.specs.declared.doer.WorkEnd.{WorkEnd}
 use Rattle.race_hall.specs.declared.doer.WorkEnd.TheVariants.{Copy as Copied, Feeder as Fed}
 use Rattle.race_hall.specs.Entries.{Entry, own, IsStepping}
 use Rattle.race_hall.specs.Race.{Course, first_plan, count_from}
-use Rattle.race_hall.specs.Joined.{Closed, IsJobOf}
-use Rattle.race_hall.specs.Holding.{Holding, AreJoined}
+use Rattle.race_hall.specs.JobResults.{Closed, IsJobOf}
+use Rattle.race_hall.specs.AfterJoins.{Holding, AreJoined}
 use Rattle.race_hall.specs.Posting.{asked_by, trail_by}
 use Rattle.race_hall.specs.Jobs.{WorkEnds, feeder_in, Ends, CanDo}
 use Rattle.race_hall.specs.Crews.{ByMirror, IsFeederOf, IsManned, IsCrew, IsWorkOf, IsDone, IsCrewDone, AllClosed, IsRaceOf}
 use Rattle.race_hall.proofs.Copies.{copy-steps}
 use Rattle.race_hall.proofs.Started.{HoldLinks, ends-links, ends-linked}
-use Rattle.race_hall.proofs.Lining.{map-at}
+use Rattle.race_hall.proofs.FeederJobs.{map-at}
 use Rattle.race_hall.proofs.Numbered.{numbered-length, numbered-get}
 use Rattle.race_hall.proofs.Zips.{zip-all, zip-through}
 use Rattle.race_hall.proofs.ByMirror.{by_mirror-all}

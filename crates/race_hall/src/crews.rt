@@ -8,7 +8,7 @@ ghost use Rattle.match_file.specs.Data.{schedule_of, schedules};
 ghost use Rattle.race_hall.specs.Race.{count_from, plan_of, Course, first_plan};
 ghost use Rattle.race_hall.specs.Raced.{course_of};
 ghost use Rattle.race_hall.specs.Crews.{IsPlanOf, IsRoomOf, AreFeeders, ByMirror, IsFeederOf, IsCrew, IsManning, IsLockOf, IsPosted, shares_of, HasCrew, IsCrewDone, IsClosed, AllClosed, IsTakenBack, IsRoomy};
-ghost use Rattle.race_hall.specs.Lining.{AreLinedUp};
+ghost use Rattle.race_hall.specs.FeederJobs.{AreLinedUp};
 ghost use Rattle.race_hall.specs.declared.doer.JobOver.{JobOver};
 ghost use Rattle.copy_workers.specs.declared.feeder_job.FeederJob.{FeederJob};
 ghost use Rattle.turn_lock.specs.Naming.{lock_name, opened_with};

@@ -6,8 +6,8 @@ use Rattle.match_file.specs.Data.{MatchData}
 use Rattle.race_hall.specs.Race.{count_from}
 use Rattle.race_hall.specs.Raced.{course_of}
 use Rattle.race_hall.specs.Crews.{IsPlanOf}
-use Rattle.race_hall.specs.Lining.{HasPlan}
-use Rattle.race_hall.proofs.Lining.{plan-short, lines-begin, lines-more, front-left}
+use Rattle.race_hall.specs.FeederJobs.{HasPlan}
+use Rattle.race_hall.proofs.FeederJobs.{plan-short, lines-begin, lines-more, front-left}
 use Rattle.race_hall.proofs.crews.line_up.Goals as goal
 use Rattle.race_hall.proofs.Numbered.{numbered-length, numbered-none, numbered-more, numbered-off}
 

@@ -3,7 +3,7 @@ use Rattle.std.specs.List.{AllZip}
 use Rattle.race_hall.specs.Race.{count_from}
 use Rattle.race_hall.specs.Raced.{course_of}
 use Rattle.race_hall.specs.Crews.{IsPlanOf}
-use Rattle.race_hall.specs.Lining.{HasPlan, Lines}
+use Rattle.race_hall.specs.FeederJobs.{HasPlan, Lines}
 use Rattle.race_hall.proofs.crews.line_up.Given as goal
 
 abbrev pub invariant-loop-mirror : goal.invariant-loop-mirror

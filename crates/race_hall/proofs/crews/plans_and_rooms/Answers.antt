@@ -4,7 +4,7 @@ use Rattle.game_trait.specs.Keys.{in_key_order}
 use Rattle.match_file.specs.Data.{MatchData, IsMatch}
 use Rattle.race_hall.specs.Raced.{course_of}
 use Rattle.race_hall.specs.Crews.{IsPlanOf, IsRoomOf}
-use Rattle.race_hall.proofs.Lining.{few-commands, plan-short}
+use Rattle.race_hall.proofs.FeederJobs.{few-commands, plan-short}
 use Rattle.race_hall.proofs.crews.plans_and_rooms.Goals as goal
 use Rattle.race_hall.proofs.Numbered.{numbered-none, numbered-more}
 

@@ -19,11 +19,11 @@ use Rattle.game_trait.specs.Game.{Rules}
 use Rattle.race_hall.specs.declared.finish.Sender.{Sender}
 use Rattle.race_hall.specs.Race.{plan_of, count_from, others, Raced}
 use Rattle.race_hall.specs.Finish.{to_deliver, finished, CanTake, EndsAtFold}
-use Rattle.race_hall.specs.Held.{left_in, unissued_in}
+use Rattle.race_hall.specs.Undelivered.{left_in, unissued_in}
 use Rattle.link_mesh.specs.Mesh.{sender_at, SameReceived, SameSends, IsRowLinked, AllSent, IsWholeTo}
-use Rattle.race_hall.specs.Holding.{Holding, IsHeldAt, IsOneHeld, AreHeld}
-use Rattle.race_hall.proofs.Joined.{front_of, joined-raced}
-use Rattle.race_hall.proofs.Held.{deliver-held}
+use Rattle.race_hall.specs.AfterJoins.{Holding, IsHeldAt, IsOneHeld, AreHeld}
+use Rattle.race_hall.proofs.JobResults.{front_of, joined-raced}
+use Rattle.race_hall.proofs.Undelivered.{deliver-held}
 use Rattle.race_hall.proofs.NothingLate.{nothing-late}
 use Rattle.race_hall.proofs.Fold.{raced-ends}
 use Rattle.link_mesh.proofs.Mesh.{all_sent-later, row-same, row_linked-later}

@@ -10,7 +10,7 @@ use Rattle.sync_model.specs.State.{MirrorState}
 use Rattle.copy_workers.specs.declared.post.Asked.{Asked}
 use Rattle.race_hall.specs.Entries.{Entry, own, IsStepping}
 use Rattle.race_hall.specs.Race.{Course}
-use Rattle.race_hall.specs.Joined.{IsAmong, Closed}
+use Rattle.race_hall.specs.JobResults.{IsAmong, Closed}
 use Rattle.race_hall.specs.Posting.{asked_in, asked_by}
 
 -- the entries of a lock's history: its events, and the steps that its commits stand for

@@ -17,7 +17,7 @@ use Rattle.copy_workers.proofs.Races.{times-messages}
 use Rattle.race_hall.specs.declared.finish.Sender.{Sender}
 use Rattle.race_hall.specs.Race.{Course, plan_of, count_from, others}
 use Rattle.race_hall.specs.Finish.{unissued, to_deliver}
-use Rattle.race_hall.specs.Held.{left_in, unissued_in, IsSenderOf}
+use Rattle.race_hall.specs.Undelivered.{left_in, unissued_in, IsSenderOf}
 
 filter-all : (n : ℕ) (xs : List Command) → AllByRecursion (λ x. n ≤ x.time) xs → filter (λ x. nat_le n x.time) xs ≡ xs
 filter-all n [] h = refl

@@ -13,11 +13,11 @@ use Rattle.copy_workers.specs.Messages.{messages, commands_in}
 use Rattle.race_hall.specs.declared.finish.Sender.{Sender}
 use Rattle.race_hall.specs.Entries.{own}
 use Rattle.race_hall.specs.Race.{plan_of, count_from}
-use Rattle.race_hall.specs.Held.{IsSenderOf}
-use Rattle.race_hall.specs.Parting.{sender_of_end}
+use Rattle.race_hall.specs.Undelivered.{IsSenderOf}
+use Rattle.race_hall.specs.Undelivered.{sender_of_end}
 use Rattle.link_mesh.specs.Mesh.{sender_at, place_at, IsLinkedAt}
-use Rattle.race_hall.specs.Holding.{Holding, AreHeld, AreJoined}
-use Rattle.race_hall.proofs.Joined.{fed-sent}
+use Rattle.race_hall.specs.AfterJoins.{Holding, AreHeld, AreJoined}
+use Rattle.race_hall.proofs.JobResults.{fed-sent}
 use Rattle.link_mesh.proofs.Mesh.{sender-below}
 use Rattle.race_hall.proofs.Numbered.{numbered-each}
 

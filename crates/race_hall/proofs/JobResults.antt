@@ -18,7 +18,7 @@ use Rattle.copy_workers.specs.Fed.{AllReceive, FeederEnds}
 use Rattle.copy_workers.proofs.Lists.{all-at}
 use Rattle.race_hall.specs.Entries.{Entry, own}
 use Rattle.race_hall.specs.Race.{Course, plan_of, foreign_of, others, IsFedBy, Raced}
-use Rattle.race_hall.specs.Joined.{IsJobOf, IsLeftOf, Fed, Closed, AllFed, IsLeftAt}
+use Rattle.race_hall.specs.JobResults.{IsJobOf, IsLeftOf, Fed, Closed, AllFed, IsLeftAt}
 use Rattle.race_hall.proofs.Plans.{others-all, others-each}
 use Rattle.race_hall.proofs.Lists.{all-of}
 use Rattle.race_hall.proofs.Zips.{zip-all, zip-through, zip-with_all, zip-is_map, zip-turned}

@@ -3,10 +3,15 @@ use Rattle.std.specs.Prelude.{◌≡◌, ℕ, List, map, drop, length}
 use Rattle.game_trait.specs.declared.command.Command.{Command}
 use Rattle.link_ring.specs.declared.receive.LinkReceive.{LinkReceive}
 use Rattle.link_ring.specs.Ends.{waiting_of}
+use Rattle.copy_workers.specs.declared.feeder_job.FeederEnd.{FeederEnd}
 use Rattle.copy_workers.specs.Messages.{messages, commands_in}
 use Rattle.copy_workers.specs.Feeding.{joined}
 use Rattle.race_hall.specs.Race.{Course, plan_of}
 use Rattle.race_hall.specs.declared.finish.Sender.{Sender}
+
+-- what is kept of a feeder's end beside its links: its plan, and how much of it was issued
+abbrev pub sender_of_end : FeederEnd → Sender
+sender_of_end e = record { plan = e.plan; issued = e.issued }
 
 -- the commands that are known to wait in these links
 abbrev pub left_in : List LinkReceive → List Command

@@ -11,8 +11,8 @@ use Rattle.copy_workers.specs.Messages.{messages}
 use Rattle.race_hall.specs.declared.finish.Sender.{Sender}
 use Rattle.race_hall.specs.Entries.{Entry}
 use Rattle.race_hall.specs.Race.{Course, IsCourse, plan_of, count_from}
-use Rattle.race_hall.specs.Joined.{Closed, AllFed}
-use Rattle.race_hall.specs.Held.{IsSenderOf}
+use Rattle.race_hall.specs.JobResults.{Closed, AllFed}
+use Rattle.race_hall.specs.Undelivered.{IsSenderOf}
 use Rattle.link_mesh.specs.Mesh.{sender_at, place_at, IsLinkedAt, IsRowLinked, AllSent}
 
 -- what isn't stored: the match, the feeders' jobs and ends, the locks' histories

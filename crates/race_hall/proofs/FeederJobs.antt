@@ -23,7 +23,7 @@ use Rattle.link_ring.specs.Ends.{misses_of}
 use Rattle.race_hall.specs.Race.{Course, IsCourse, plan_of, count_from, others, foreign_of}
 use Rattle.race_hall.specs.Raced.{course_of}
 use Rattle.link_mesh.specs.NewMesh.{IsNewSend, IsNewReceive, AreLinksTo}
-use Rattle.race_hall.specs.Lining.{HasPlan, Lines, AreLinedUp}
+use Rattle.race_hall.specs.FeederJobs.{HasPlan, Lines, AreLinedUp}
 use Rattle.race_hall.specs.Crews.{IsRoomOf, IsFeederOf, AreFeeders}
 use Rattle.race_hall.proofs.Plans.{plans-count, total-others}
 use Rattle.race_hall.proofs.Numbered.{numbered-length, numbered-get, numbered-each}
