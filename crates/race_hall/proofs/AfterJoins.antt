@@ -2,14 +2,14 @@
 use Rattle.std.proofs.Common.{◌≡◌, ◌≢◌, ℕ, zero, suc, ◌+◌, ◌-◌, ◌<◌, ◌≤◌, true, false, cond, List, [], ◌∷◌, ◌++◌, map, length, get_or, set, refl, ap, sym, ◌∙◌, subst, Vec, arith}
 use Rattle.std.specs.Prelude.{nat_lt}
 use Rattle.std.specs.declared.alloc.Global.{Global}
-use Rattle.std.specs.List.{AllByRecursion, AllZip}
+use Rattle.std.specs.List.{AllZip}
 use Rattle.std.proofs.lemmas.Bool.Decides.{nat_tests}
 use Rattle.std.proofs.lemmas.List.{get_or_default, get_or-set_other, get_or-set_same}
 use Rattle.game_trait.specs.declared.command.Command.{Command}
 use Rattle.link_ring.specs.declared.message.Message.{Message}
 use Rattle.link_ring.specs.declared.send.LinkSend.{LinkSend}
 use Rattle.link_ring.specs.declared.receive.LinkReceive.{LinkReceive}
-use Rattle.link_ring.specs.Ends.{sent_of, received_of, waiting_of}
+use Rattle.link_ring.specs.Ends.{received_of, waiting_of}
 use Rattle.sync_model.specs.State.{MirrorState}
 use Rattle.sync_model.proofs.Lists.{zip-length}
 use Rattle.copy_workers.specs.Messages.{messages}
@@ -20,7 +20,7 @@ use Rattle.race_hall.specs.declared.finish.Sender.{Sender}
 use Rattle.race_hall.specs.Race.{plan_of, count_from, others, Raced}
 use Rattle.race_hall.specs.Finish.{to_deliver, finished, CanTake, EndsAtFold}
 use Rattle.race_hall.specs.Undelivered.{left_in, unissued_in}
-use Rattle.link_mesh.specs.Mesh.{sender_at, SameReceived, SameSends, IsRowLinked, AllSent, IsWholeTo}
+use Rattle.link_mesh.specs.Mesh.{sender_at, SameReceived, SameSends, AllSent, IsWholeTo}
 use Rattle.race_hall.specs.AfterJoins.{Holding, IsHeldAt, IsOneHeld, AreHeld}
 use Rattle.race_hall.proofs.JobResults.{front_of, joined-raced}
 use Rattle.race_hall.proofs.Undelivered.{deliver-held}

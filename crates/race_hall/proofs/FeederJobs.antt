@@ -79,33 +79,30 @@ differ-own p n commands plan sorted differ is same =
     subst NamesDiffer (sym (same ∙ is)) (NamesDiffer-filter p (take n commands) (differ-take n commands differ))
 
 -- a list of which the first are mapped, and the next one
-pub off-front : {X : Type 0} (front left now whole : List X) (v : X) → front ++ left ≡ whole → 0 < length left → v ≡ get_or left 0 v → now ≡ remove left 0 → (front ++ v ∷ []) ++ now ≡ whole
-off-front front [] now whole v parts some e off = absurd (omega arith)
-off-front {X} front (x ∷ left) now whole v parts some e off =
-    ap (λ (l : List X). (front ++ v ∷ []) ++ l) off ∙ append_assoc front (v ∷ []) left ∙ ap (λ (y : X). front ++ y ∷ left) e ∙ parts
+pub off-front : {X : Type 0} (front left now whole : List X) (v : X) → front ++ left ≡ whole → left ≡ v ∷ now → (front ++ v ∷ []) ++ now ≡ whole
+off-front {X} front left now whole v parts off = append_assoc front (v ∷ []) now ∙ ap (λ (l : List X). front ++ l) (sym off) ∙ parts
 
 pub front-more : {X Y : Type 0} (f : X → Y) (xs next : List X) (left now whole : List Y) (x : X)
-    → map f xs ++ left ≡ whole → 0 < length left → f x ≡ get_or left 0 (f x) → now ≡ remove left 0 → next ≡ xs ++ x ∷ [] → map f next ++ now ≡ whole
-front-more {X} {Y} f xs next left now whole x parts some e off pushed =
-    ap (λ (l : List Y). l ++ now) (ap (λ (l : List X). map f l) pushed ∙ map-append f xs (x ∷ [])) ∙ off-front (map f xs) left now whole (f x) parts some e off
+    → map f xs ++ left ≡ whole → left ≡ f x ∷ now → next ≡ xs ++ x ∷ [] → map f next ++ now ≡ whole
+front-more {X} {Y} f xs next left now whole x parts off pushed =
+    ap (λ (l : List Y). l ++ now) (ap (λ (l : List X). map f l) pushed ∙ map-append f xs (x ∷ [])) ∙ off-front (map f xs) left now whole (f x) parts off
 
 pub front-left : {X Y : Type 0} (f : X → Y) (xs : List X) (left whole : List Y) → map f xs ++ left ≡ whole → length xs + length left ≡ length whole
 front-left {X} {Y} f xs left whole parts = (let a = length-append (map f xs) left in let b = length-map xs f in let d = ap (λ (l : List Y). length l) parts in omega arith)
 
-pub lines-begin : (sends : List (Vec LinkSend Global)) (rows : List (Vec LinkReceive Global)) (jobs : List FeederJob) → jobs ≡ [] → Lines sends sends rows rows jobs
-lines-begin sends rows jobs none = record {
-  sends_are = ap (λ (l : List FeederJob). map (λ job. job.sends) l ++ sends) none;
-  rows_are = ap (λ (l : List FeederJob). map (λ job. job.receives) l ++ rows) none;
+pub lines-begin : (sends left : List (Vec LinkSend Global)) (rows rows_left : List (Vec LinkReceive Global)) (jobs : List FeederJob)
+    → left ≡ sends → rows_left ≡ rows → jobs ≡ [] → Lines sends left rows rows_left jobs
+lines-begin sends left rows rows_left jobs same same_rows none = record {
+  sends_are = ap (λ (l : List FeederJob). map (λ job. job.sends) l ++ left) none ∙ same;
+  rows_are = ap (λ (l : List FeederJob). map (λ job. job.receives) l ++ rows_left) none ∙ same_rows;
 }
 
 pub lines-more : (sends left now : List (Vec LinkSend Global)) (rows rows_left rows_now : List (Vec LinkReceive Global)) (jobs next : List FeederJob) (job : FeederJob)
     → Lines sends left rows rows_left jobs → next ≡ jobs ++ job ∷ []
-    → 0 < length left → job.sends ≡ get_or left 0 job.sends → now ≡ remove left 0
-    → 0 < length rows_left → job.receives ≡ get_or rows_left 0 job.receives → rows_now ≡ remove rows_left 0
-    → Lines sends now rows rows_now next
-lines-more sends left now rows rows_left rows_now jobs next job lines pushed some e off some_row e_row off_row = record {
-  sends_are = front-more (λ (j : FeederJob). j.sends) jobs next left now sends job lines.sends_are some e off pushed;
-  rows_are = front-more (λ (j : FeederJob). j.receives) jobs next rows_left rows_now rows job lines.rows_are some_row e_row off_row pushed;
+    → left ≡ job.sends ∷ now → rows_left ≡ job.receives ∷ rows_now → Lines sends now rows rows_now next
+lines-more sends left now rows rows_left rows_now jobs next job lines pushed off off_row = record {
+  sends_are = front-more (λ (j : FeederJob). j.sends) jobs next left now sends job lines.sends_are off pushed;
+  rows_are = front-more (λ (j : FeederJob). j.receives) jobs next rows_left rows_now rows job lines.rows_are off_row pushed;
 }
 
 -- an element that a map gave
