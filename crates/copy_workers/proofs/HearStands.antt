@@ -14,19 +14,7 @@ use Rattle.copy_workers.specs.Feeding.{Hears}
 use Rattle.copy_workers.specs.Sending.{IsSent, IsFrom}
 use Rattle.copy_workers.specs.Refining.{AllHeard, AllKept, HeardTo}
 use Rattle.copy_workers.specs.Standing.{Start, Stands, InTurn}
-use Rattle.copy_workers.proofs.Hearings.{heard-length}
-
--- as many ends as were handed in
-pub first-length : (first now : List LinkReceive) (hs : List Hearing) → AllHeard first now hs → length first ≡ length now
-unfolding AllHeard
-first-length [] [] [] all = refl
-first-length [] [] (h ∷ hs) all = absurd all
-first-length [] (y ∷ ys) [] all = absurd all
-first-length [] (y ∷ ys) (h ∷ hs) all = absurd all
-first-length (x ∷ xs) [] [] all = absurd all
-first-length (x ∷ xs) [] (h ∷ hs) all = absurd all
-first-length (x ∷ xs) (y ∷ ys) [] all = absurd all
-first-length (x ∷ xs) (y ∷ ys) (h ∷ hs) all = omega (arith, first-length xs ys hs all.1)
+use Rattle.copy_workers.proofs.Hearings.{heard-lengths}
 
 -- as many marks at least
 kept-length : (ms : List ℕ) (hs : List Hearing) → AllKept ms hs → length hs ≤ length ms
@@ -52,7 +40,7 @@ misses-few n (x ∷ xs) (y ∷ ys) (h ∷ hs) few start hears tries all =
 
 -- seven links at most
 pub hear-seven : (c : Start) (f : Feeder) (asked : List Asked) (calls grows spent : ℕ) → Stands c f asked calls grows spent → length f.receives.items ≤ 7
-hear-seven c f asked calls grows spent h = (let a = first-length c.receives f.receives.items h.state.hearings h.heard in let b = c.seven in omega arith)
+hear-seven c f asked calls grows spent h = (let a = (heard-lengths c.receives f.receives.items h.state.hearings h.heard).0 in let b = c.seven in omega arith)
 
 -- the calls that are left are enough for all links
 pub hear-calls : (c : Start) (f : Feeder) (asked : List Asked) (calls grows : ℕ) → InTurn c f asked calls grows 0 0 → length f.receives.items ≤ calls
@@ -63,7 +51,7 @@ hear-calls c f asked calls grows h =
 -- there is a mark for each link
 pub hear-marks : (c : Start) (f : Feeder) (asked : List Asked) (calls grows spent : ℕ) → Stands c f asked calls grows spent → length f.receives.items ≤ length f.marks
 hear-marks c f asked calls grows spent h =
-    (let a = heard-length c.receives f.receives.items h.state.hearings h.heard in let b = kept-length f.marks h.state.hearings h.kept in omega arith)
+    (let a = (heard-lengths c.receives f.receives.items h.state.hearings h.heard).1 in let b = kept-length f.marks h.state.hearings h.kept in omega arith)
 
 -- no count of misses overflows
 pub hear-few : (c : Start) (f : Feeder) (asked : List Asked) (calls grows : ℕ) → InTurn c f asked calls grows 0 0 → AllByRecursion (λ r. misses_of r + 1 < 2 ^ 64) f.receives.items
@@ -112,7 +100,7 @@ pub hear-ends :
     → InTurn c then asked_then calls_then grows_then 7 1
 hear-ends c f then asked asked_then calls calls_then grows grows_then n h k end called grown within bounds plan sends clock issued marked turns =
     let s = k.state in
-    let all = none-left s.hearings k.done k.rest k.parts (let a = heard-length c.receives then.receives.items s.hearings k.heard in let b = k.place in omega arith) in
+    let all = none-left s.hearings k.done k.rest k.parts (let a = (heard-lengths c.receives then.receives.items s.hearings k.heard).1 in let b = k.place in omega arith) in
     record {
       stands = record {
         state = s;

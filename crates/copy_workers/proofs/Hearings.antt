@@ -44,17 +44,17 @@ heard-set (x ∷ xs) [] (g ∷ front) h k back a b new all = absurd all
 heard-set (x ∷ xs) (y ∷ ys) [] h k back a b new all = (new, all.1)
 heard-set (x ∷ xs) (y ∷ ys) (g ∷ front) h k back a b new all = (all.0, heard-set xs ys front h k back a b new all.1)
 
--- as many links as are heard
-pub heard-length : (first now : List LinkReceive) (hs : List Hearing) → AllHeard first now hs → length now ≡ length hs
+-- as many ends as were handed in, and as many links as are heard
+pub heard-lengths : (first now : List LinkReceive) (hs : List Hearing) → AllHeard first now hs → (length first ≡ length now) × (length now ≡ length hs)
 unfolding AllHeard
-heard-length [] [] [] all = refl
-heard-length [] [] (h ∷ hs) all = absurd all
-heard-length [] (y ∷ ys) [] all = absurd all
-heard-length [] (y ∷ ys) (h ∷ hs) all = absurd all
-heard-length (x ∷ xs) [] [] all = absurd all
-heard-length (x ∷ xs) [] (h ∷ hs) all = absurd all
-heard-length (x ∷ xs) (y ∷ ys) [] all = absurd all
-heard-length (x ∷ xs) (y ∷ ys) (h ∷ hs) all = omega (arith, heard-length xs ys hs all.1)
+heard-lengths [] [] [] all = (refl, refl)
+heard-lengths [] [] (h ∷ hs) all = absurd all
+heard-lengths [] (y ∷ ys) [] all = absurd all
+heard-lengths [] (y ∷ ys) (h ∷ hs) all = absurd all
+heard-lengths (x ∷ xs) [] [] all = absurd all
+heard-lengths (x ∷ xs) [] (h ∷ hs) all = absurd all
+heard-lengths (x ∷ xs) (y ∷ ys) [] all = absurd all
+heard-lengths (x ∷ xs) (y ∷ ys) (h ∷ hs) all = (let more = heard-lengths xs ys hs all.1 in (omega (arith, more.0), omega (arith, more.1)))
 
 -- the mark at a place
 pub kept-at : (ms : List ℕ) (front : List Hearing) (h : Hearing) (back : List Hearing) (d : ℕ) → AllKept ms (front ++ h ∷ back) → get_or ms (length front) d ≡ h.kept
@@ -128,20 +128,32 @@ pub hear-step :
     → HeardTo job first asked_first s0 receives marks taken asked i
     → HeardTo job first asked_first s0 (set receives i new) (set marks i mark) taken_now asked_now (i + 1)
 hear-step job first asked_first s0 receives marks taken asked i new old mark taken_now asked_now below is once f =
-    let long = heard-length first receives f.state.hearings f.heard in
+    let long = (heard-lengths first receives f.state.hearings f.heard).1 in
     let split = split-rest i f.done f.rest f.state.hearings f.parts f.place (omega arith) in
     go once.message once.came once.outcome split.0 split.1 split.2
   where
+    place-of : (h : Hearing) (back : List Hearing) → f.rest ≡ h ∷ back → f.state.hearings ≡ f.done ++ h ∷ back
+    place-of h back rest = f.parts ∙ ap (λ (l : List Hearing). f.done ++ l) rest
+
+    kept-of : (h : Hearing) (back : List Hearing) → f.rest ≡ h ∷ back → get_or marks i 0 ≡ h.kept
+    kept-of h back rest = ap (λ (n : ℕ). get_or marks n 0) (sym f.place) ∙ kept-at marks f.done h back 0 (subst (AllKept marks) (place-of h back rest) f.kept)
+
+    heard-of : (h : Hearing) (back : List Hearing) → f.rest ≡ h ∷ back → IsHeardAs (get_or first (length f.done) old) old h
+    heard-of h back rest =
+        subst (λ (r : LinkReceive). IsHeardAs (get_or first (length f.done) old) r h) (ap (λ (n : ℕ). get_or receives n old) f.place ∙ sym is)
+        (heard-at first receives f.done h back old old (subst (AllHeard first receives) (place-of h back rest) f.heard))
+
+    fewer-of : (m : Message) → Came (Some m) old new → (h : Hearing) (back : List Hearing) → f.rest ≡ h ∷ back → h.known ≤ length (waiting_of new) + 1
+    fewer-of m came h back rest = (let a = (heard-of h back rest).known in let b = prefix-fewer (waiting_of old) (waiting_of new) m came.2 in omega arith)
+
     go :
         (message : Option Message) → Came message old new → IsHandled message job.length job.foreign taken taken_now (get_or marks i 0) mark asked asked_now
         → (h : Hearing) (back : List Hearing) → f.rest ≡ h ∷ back
         → HeardTo job first asked_first s0 (set receives i new) (set marks i mark) taken_now asked_now (i + 1)
     go None came outcome h back rest =
-        let place : f.state.hearings ≡ f.done ++ h ∷ back = f.parts ∙ ap (λ (l : List Hearing). f.done ++ l) rest in
-        let kept : get_or marks i 0 ≡ h.kept = ap (λ (n : ℕ). get_or marks n 0) (sym f.place) ∙ kept-at marks f.done h back 0 (subst (AllKept marks) place f.kept) in
-        let here : IsHeardAs (get_or first (length f.done) old) old h =
-        subst (λ (r : LinkReceive). IsHeardAs (get_or first (length f.done) old) r h) (ap (λ (n : ℕ). get_or receives n old) f.place ∙ sym is)
-        (heard-at first receives f.done h back old old (subst (AllHeard first receives) place f.heard)) in
+        let place = place-of h back rest in
+        let kept = kept-of h back rest in
+        let here = heard-of h back rest in
         let none : h.known ≡ 0 = here.known ∙ ap (λ (l : List Message). length l) came.2 in
         let k = missed h (length (waiting_of new)) in
         advance job first asked_first s0 receives marks taken asked i new old mark taken_now asked_now h k back (heard f.state (f.done ++ k ∷ back)) f
@@ -156,11 +168,8 @@ hear-step job first asked_first s0 receives marks taken asked i new old mark tak
         })
         is refl refl refl refl refl
     go (Some (Mark n)) came outcome h back rest =
-        let place : f.state.hearings ≡ f.done ++ h ∷ back = f.parts ∙ ap (λ (l : List Hearing). f.done ++ l) rest in
-        let here : IsHeardAs (get_or first (length f.done) old) old h =
-        subst (λ (r : LinkReceive). IsHeardAs (get_or first (length f.done) old) r h) (ap (λ (m : ℕ). get_or receives m old) f.place ∙ sym is)
-        (heard-at first receives f.done h back old old (subst (AllHeard first receives) place f.heard)) in
-        let fewer : h.known ≤ length (waiting_of new) + 1 = (let a = here.known in let b = prefix-fewer (waiting_of old) (waiting_of new) (Mark n) came.2 in omega arith) in
+        let place = place-of h back rest in
+        let fewer = fewer-of (Mark n) came h back rest in
         let k = with_mark h n (length (waiting_of new)) in
         advance job first asked_first s0 receives marks taken asked i new old mark taken_now asked_now h k back (heard f.state (f.done ++ k ∷ back)) f
         place (subst (AllByRecursion (λ g. g.tries ≡ length s0.turns)) rest f.rest_tries) (fed-mark job f.state f.done h back n (length (waiting_of new)) place fewer f.fed) refl
@@ -174,12 +183,9 @@ hear-step job first asked_first s0 receives marks taken asked i new old mark tak
         })
         is refl refl refl refl refl
     go (Some (Cmd x)) came (same, inl asks) h back rest =
-        let place : f.state.hearings ≡ f.done ++ h ∷ back = f.parts ∙ ap (λ (l : List Hearing). f.done ++ l) rest in
-        let kept : get_or marks i 0 ≡ h.kept = ap (λ (n : ℕ). get_or marks n 0) (sym f.place) ∙ kept-at marks f.done h back 0 (subst (AllKept marks) place f.kept) in
-        let here : IsHeardAs (get_or first (length f.done) old) old h =
-        subst (λ (r : LinkReceive). IsHeardAs (get_or first (length f.done) old) r h) (ap (λ (m : ℕ). get_or receives m old) f.place ∙ sym is)
-        (heard-at first receives f.done h back old old (subst (AllHeard first receives) place f.heard)) in
-        let fewer : h.known ≤ length (waiting_of new) + 1 = (let a = here.known in let b = prefix-fewer (waiting_of old) (waiting_of new) (Cmd x) came.2 in omega arith) in
+        let place = place-of h back rest in
+        let kept = kept-of h back rest in
+        let fewer = fewer-of (Cmd x) came h back rest in
         let k = with_command h x (length (waiting_of new)) in
         let more = arrival x asks.1.reply ∷ [] in
         advance job first asked_first s0 receives marks taken asked i new old mark taken_now asked_now h k back (fed f.state (f.done ++ k ∷ back) x asks.1.reply) f
@@ -196,12 +202,9 @@ hear-step job first asked_first s0 receives marks taken asked i new old mark tak
         })
         is refl refl refl refl refl
     go (Some (Cmd x)) came (same, inr drops) h back rest =
-        let place : f.state.hearings ≡ f.done ++ h ∷ back = f.parts ∙ ap (λ (l : List Hearing). f.done ++ l) rest in
-        let kept : get_or marks i 0 ≡ h.kept = ap (λ (n : ℕ). get_or marks n 0) (sym f.place) ∙ kept-at marks f.done h back 0 (subst (AllKept marks) place f.kept) in
-        let here : IsHeardAs (get_or first (length f.done) old) old h =
-        subst (λ (r : LinkReceive). IsHeardAs (get_or first (length f.done) old) r h) (ap (λ (m : ℕ). get_or receives m old) f.place ∙ sym is)
-        (heard-at first receives f.done h back old old (subst (AllHeard first receives) place f.heard)) in
-        let fewer : h.known ≤ length (waiting_of new) + 1 = (let a = here.known in let b = prefix-fewer (waiting_of old) (waiting_of new) (Cmd x) came.2 in omega arith) in
+        let place = place-of h back rest in
+        let kept = kept-of h back rest in
+        let fewer = fewer-of (Cmd x) came h back rest in
         let k = with_command h x (length (waiting_of new)) in
         let barred : x.time < job.length → f.state.taken < job.foreign → ⊥ = λ low few. drops.0 low (let b = f.count in omega arith) in
         advance job first asked_first s0 receives marks taken asked i new old mark taken_now asked_now h k back (heard f.state (f.done ++ k ∷ back)) f
@@ -224,7 +227,7 @@ pub hear-misses :
     → HeardTo job first asked_first s0 receives marks taken asked i → misses_of old + 1 < 2 ^ 64
 unfolding AllHeard
 hear-misses job first asked_first s0 receives marks taken asked i old below is few turns f =
-    let long = heard-length first receives f.state.hearings f.heard in
+    let long = (heard-lengths first receives f.state.hearings f.heard).1 in
     let split = split-rest i f.done f.rest f.state.hearings f.parts f.place (omega arith) in
     let h = split.0 in
     let back = split.1 in
@@ -234,19 +237,9 @@ hear-misses job first asked_first s0 receives marks taken asked i old below is f
     let here : IsHeardAs (get_or first (length f.done) old) old h =
     subst (λ (r : LinkReceive). IsHeardAs (get_or first (length f.done) old) r h) (ap (λ (m : ℕ). get_or receives m old) f.place ∙ sym is) (heard-at first receives f.done h back old old all) in
     let hears = all-at Hears f.done h back (subst (AllByRecursion Hears) place f.fed.feeds.hears) in
-    let firsts = first-length first receives f.state.hearings f.heard in
+    let firsts = (heard-lengths first receives f.state.hearings f.heard).0 in
     let start = all-get (λ r. misses_of r < 2 ^ 63) (length f.done) first old few (let a = f.place in omega arith) in
     (let a = here.misses in let b = hears.each in let c : h.tries ≡ length s0.turns = tries.0 in omega arith)
-  where
-    first-length : (first now : List LinkReceive) (hs : List Hearing) → AllHeard first now hs → length first ≡ length now
-    first-length [] [] [] all = refl
-    first-length [] [] (h ∷ hs) all = absurd all
-    first-length [] (y ∷ ys) [] all = absurd all
-    first-length [] (y ∷ ys) (h ∷ hs) all = absurd all
-    first-length (x ∷ xs) [] [] all = absurd all
-    first-length (x ∷ xs) [] (h ∷ hs) all = absurd all
-    first-length (x ∷ xs) (y ∷ ys) [] all = absurd all
-    first-length (x ∷ xs) (y ∷ ys) (h ∷ hs) all = omega (arith, first-length xs ys hs all.1)
 
 -- the same, as an index of the code reads it
 pub hear-step-at :

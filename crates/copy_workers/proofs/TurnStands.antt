@@ -12,7 +12,7 @@ use Rattle.copy_workers.specs.Feed.{Hearing, least_mark, IsHeldByMarks, ticked, 
 use Rattle.copy_workers.specs.Sending.{IsSent, IsFrom}
 use Rattle.copy_workers.specs.Refining.{AllHeard, AllKept}
 use Rattle.copy_workers.specs.Standing.{Start, InTurn, IsIssued, IsFree, Rests, Goes}
-use Rattle.copy_workers.proofs.Hearings.{heard-length}
+use Rattle.copy_workers.proofs.Hearings.{heard-lengths}
 use Rattle.copy_workers.proofs.TurnEnds.{fed-ticked, fed-rested, between-ticked, between-rested}
 
 -- the clock is free, by the machine's marks
@@ -51,7 +51,7 @@ tick-stands c f then asked asked_then calls calls_then grows grows_then n reply 
     let s = h.stands.state in
     let tries = tries-there c f asked calls grows h in
     let least : least_mark f.bounds.length s.hearings ≡ least_mark c.job.length s.hearings = ap (λ (l : ℕ). least_mark l s.hearings) h.stands.limit in
-    let long = heard-length c.receives f.receives.items s.hearings h.stands.heard in
+    let long = (heard-lengths c.receives f.receives.items s.hearings h.stands.heard).1 in
     let free_now = free-as f.clock s.clock (least_mark f.bounds.length s.hearings) (least_mark c.job.length s.hearings) f.bounds.length c.job.length f.bounds.pace c.job.pace
     h.stands.clock least h.stands.limit h.stands.pace (free s.hearings (omega arith) h.stands.kept) in
     let more = length-append s.turns ((s.here ++ ticking reply ∷ []) ∷ []) in
@@ -100,7 +100,7 @@ rest-stands c f then asked calls grows n held count clock turns bounds plan send
     let s = h.stands.state in
     let tries = tries-there c f asked calls grows h in
     let least : least_mark f.bounds.length s.hearings ≡ least_mark c.job.length s.hearings = ap (λ (l : ℕ). least_mark l s.hearings) h.stands.limit in
-    let long = heard-length c.receives f.receives.items s.hearings h.stands.heard in
+    let long = (heard-lengths c.receives f.receives.items s.hearings h.stands.heard).1 in
     let held_now : IsHeldByMarks c.job s = held-as f.clock s.clock (least_mark f.bounds.length s.hearings) (least_mark c.job.length s.hearings) f.bounds.length c.job.length f.bounds.pace c.job.pace
     h.stands.clock least h.stands.limit h.stands.pace (held s.hearings (omega arith) h.stands.kept) in
     let more = length-append s.turns (s.here ∷ []) in

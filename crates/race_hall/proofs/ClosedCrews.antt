@@ -1,6 +1,6 @@
 -- Closing the locks of a race, one after the other.
-use Rattle.std.proofs.Common.{◌≡◌, ℕ, suc, ◌+◌, ◌<◌, ◌≤◌, List, [], ◌∷◌, ◌++◌, map, length, get_or, refl, ap, sym, ◌∙◌, subst, append_assoc, arith, append-nil}
-use Rattle.std.specs.Prelude.{Option, Some, None, remove}
+use Rattle.std.proofs.Common.{◌≡◌, ℕ, suc, ◌+◌, ◌<◌, ◌≤◌, List, [], ◌∷◌, ◌++◌, map, length, refl, ap, sym, ◌∙◌, subst, append_assoc, arith, append-nil}
+use Rattle.std.specs.Prelude.{Option, Some, None}
 use Rattle.std.specs.List.{All, AllByRecursion, AllZip}
 use Rattle.std.proofs.Math.ListN.{length-append}
 use Rattle.std.proofs.lemmas.List.Elements.{All-from_recursion}
@@ -22,9 +22,9 @@ use Rattle.copy_workers.specs.Fed.{FeederEnds}
 use Rattle.race_hall.specs.declared.doer.EndOver.{EndOver}
 use Rattle.race_hall.specs.Entries.{own}
 use Rattle.race_hall.specs.Race.{Course, first_plan, count_from, race_opening}
-use Rattle.race_hall.specs.Joined.{Closed}
+use Rattle.race_hall.specs.JobResults.{Closed}
 use Rattle.race_hall.specs.Posting.{asked_by}
-use Rattle.race_hall.specs.Closing.{DidAs, AllDid}
+use Rattle.race_hall.specs.LockClose.{DidAs, AllDid}
 use Rattle.race_hall.specs.Crews.{ByMirror, IsDone, IsCrewDone, HasCrew, IsTakenBack, IsClosed, AllClosed, last_feeder}
 use Rattle.race_hall.proofs.ClosedLock.{closes}
 use Rattle.race_hall.proofs.Lists.{same-head, same-tail}
@@ -32,11 +32,6 @@ use Rattle.race_hall.proofs.CrewSeats.{last-of-push}
 use Rattle.race_hall.proofs.Numbered.{numbered-length, count-push, numbered-below}
 use Rattle.race_hall.proofs.Zips.{zip-parted, zip-all}
 use mathlib.Core.List.{map-map}
-
--- the first of a list, and the others
-pub all-off : {X : Type 0} (C : X → Type 0) (xs : List X) (v : X) → AllByRecursion C xs → v ≡ get_or xs 0 v → 0 < length xs → C v × AllByRecursion C (remove xs 0)
-all-off C [] v h e some = absurd (omega arith)
-all-off C (x ∷ xs) v h e some = (subst C (sym e) h.0, h.1)
 
 -- two ways to part a list at the same place
 pub same-parts : {X : Type 0} (f g a b : List X) → f ++ a ≡ g ++ b → length f ≡ length g → (f ≡ g) × (a ≡ b)
@@ -183,15 +178,15 @@ pub record NextCrew {X Y Z : Type 0} (Is : ℕ → Y → Z → List X → Type 0
   pub later : ByMirror Is (number + 1) locks jobs more
 
 module _ {X Y Z E M : Type 0} (Is : ℕ → Y → Z → List X → Type 0) (Closed : List Z → List E → List M → Type 0) where
-  pub going-begins : (jobs : List Z) (ends : List E) (mirrors : List M) (locks rest_locks : List Y) (rest : List X)
-      → ends ≡ [] → mirrors ≡ [] → Closed [] [] [] → rest_locks ≡ locks → ByMirror Is 0 locks jobs rest → Going Is Closed jobs ends mirrors rest_locks rest
-  going-begins jobs ends mirrors locks rest_locks rest no_ends no_mirrors none same h = record {
+  pub going-begins : (jobs : List Z) (ends : List E) (mirrors : List M) (locks rest_locks : List Y) (all rest : List X)
+      → ends ≡ [] → mirrors ≡ [] → Closed [] [] [] → rest_locks ≡ locks → rest ≡ all → ByMirror Is 0 locks jobs all → Going Is Closed jobs ends mirrors rest_locks rest
+  going-begins jobs ends mirrors locks rest_locks all rest no_ends no_mirrors none same same_rest h = record {
     gone = [];
     left = jobs;
     parts = refl;
     closed = subst (λ (l : List E). Closed [] l mirrors) (sym no_ends) (subst (λ (l : List M). Closed [] [] l) (sym no_mirrors) none);
     number = 0;
-    later = subst (λ (l : List Y). ByMirror Is 0 l jobs rest) (sym same) h;
+    later = subst (λ (l : List Y). ByMirror Is 0 l jobs rest) (sym same) (subst (λ (l : List X). ByMirror Is 0 locks jobs l) (sym same_rest) h);
   }
 
   next-crew : (number : ℕ) (lock : Y) (locks : List Y) (left : List Z) (rest : List X) → ByMirror Is number (lock ∷ locks) left rest → NextCrew Is number lock locks left rest

@@ -29,7 +29,7 @@ use Rattle.copy_workers.specs.Trail.{commit_asked}
 use Rattle.race_hall.specs.Entries.{Entry, pairs_of, own, events_asked, AreAnswersOf, IsStepping}
 use Rattle.race_hall.specs.Race.{Course, race_opening}
 use Rattle.race_hall.specs.Posting.{event_told, commit_told, asked_in, pairs_in, asked_by}
-use Rattle.race_hall.specs.Closing.{entries_in, DidAs, AllDid, ClosedWith}
+use Rattle.race_hall.specs.LockClose.{entries_in, DidAs, AllDid, ClosedWith}
 use Rattle.race_hall.proofs.Seats.{IsIn, workers-of}
 
 module _ {W : Type 0} (game : GameRules W) where

@@ -1,6 +1,6 @@
 -- Putting a crew's jobs over its seats, and taking the seats back.
-use Rattle.std.proofs.Common.{◌≡◌, ℕ, ◌+◌, ◌<◌, ◌≤◌, List, [], ◌∷◌, ◌++◌, map, length, get_or, refl, ap, sym, ◌∙◌, subst, append_assoc, arith, append-nil}
-use Rattle.std.specs.Prelude.{Option, None, remove}
+use Rattle.std.proofs.Common.{◌≡◌, ℕ, ◌+◌, ◌<◌, ◌≤◌, List, [], ◌∷◌, ◌++◌, map, length, refl, ap, sym, ◌∙◌, subst, append_assoc, arith, append-nil}
+use Rattle.std.specs.Prelude.{Option, None}
 use Rattle.std.specs.List.{AllZip}
 use Rattle.std.proofs.Math.ListN.{length-append}
 use Rattle.std.proofs.lemmas.List.{map-append, nil_from_length}
@@ -11,7 +11,7 @@ use Rattle.race_hall.specs.declared.doer.EndOver.{EndOver}
 use Rattle.race_hall.specs.Jobs.{feeder_in}
 use Rattle.race_hall.specs.Race.{count_from}
 use Rattle.race_hall.specs.Crews.{IsPosted, IsTakenBack, last_feeder}
-use Rattle.race_hall.proofs.Lining.{front-more, front-left, off-front}
+use Rattle.race_hall.proofs.FeederJobs.{front-more, front-left, off-front}
 use Rattle.race_hall.proofs.Numbered.{numbered-length, numbered-none, numbered-more}
 
 -- the first n jobs of a crew, over the first seats
@@ -23,8 +23,8 @@ pub record Posted {T : Type 0} (feeder : FeederJob) (n : ℕ) (before jobs : Lis
   pub within : n ≤ feeder.copies
 
 module _ {T : Type 0} where
-  pub posted-none : (feeder : FeederJob) (jobs : List (JobOver T)) (seats : List T) → Posted feeder 0 jobs jobs seats seats
-  posted-none feeder jobs seats = record { crew = []; parts = sym (append-nil jobs); seats_are = refl; posted = numbered-none (IsPosted feeder) [] refl; within = omega arith }
+  pub posted-none : (feeder : FeederJob) (jobs : List (JobOver T)) (seats left : List T) → left ≡ seats → Posted feeder 0 jobs jobs seats left
+  posted-none feeder jobs seats left same = record { crew = []; parts = sym (append-nil jobs); seats_are = same; posted = numbered-none (IsPosted feeder) [] refl; within = omega arith }
 
   -- how many seats are left
   pub posted-left : (feeder : FeederJob) (n : ℕ) (before jobs : List (JobOver T)) (seats left : List T) → Posted feeder n before jobs seats left → n + length left ≡ length seats
@@ -35,32 +35,28 @@ module _ {T : Type 0} where
   push-assoc before crew jobs now job parts pushed = pushed ∙ ap (λ (l : List (JobOver T)). l ++ job ∷ []) parts ∙ append_assoc before crew (job ∷ [])
 
   pub posted-more : (feeder : FeederJob) (n : ℕ) (before jobs now : List (JobOver T)) (seats left rest : List T) (job : JobOver T)
-      → Posted feeder n before jobs seats left → now ≡ jobs ++ job ∷ [] → 0 < length left → job.seat ≡ get_or left 0 job.seat → rest ≡ remove left 0
-      → IsPosted feeder n job → n < feeder.copies → Posted feeder (n + 1) before now seats rest
-  posted-more feeder n before jobs now seats left rest job p pushed some e off one low = record {
+      → Posted feeder n before jobs seats left → now ≡ jobs ++ job ∷ [] → left ≡ job.seat ∷ rest → IsPosted feeder n job → n < feeder.copies → Posted feeder (n + 1) before now seats rest
+  posted-more feeder n before jobs now seats left rest job p pushed off one low = record {
     crew = p.crew ++ job ∷ [];
     parts = push-assoc before p.crew jobs now job p.parts pushed;
-    seats_are = front-more (λ (j : JobOver T). j.seat) p.crew (p.crew ++ job ∷ []) left rest seats job p.seats_are some e off refl;
+    seats_are = front-more (λ (j : JobOver T). j.seat) p.crew (p.crew ++ job ∷ []) left rest seats job p.seats_are off refl;
     posted = numbered-more (IsPosted feeder) n p.crew (p.crew ++ job ∷ []) job p.posted refl one;
     within = omega arith;
   }
 
   -- the whole crew
-  pub posted-whole : (feeder : FeederJob) (n : ℕ) (before jobs now : List (JobOver T)) (seats left : List T) (job : JobOver T)
-      → Posted feeder n before jobs seats left → now ≡ jobs ++ job ∷ [] → length left ≡ 1 → job.seat ≡ get_or left 0 job.seat
+  pub posted-whole : (feeder : FeederJob) (n : ℕ) (before jobs now : List (JobOver T)) (seats left rest : List T) (job : JobOver T)
+      → Posted feeder n before jobs seats left → now ≡ jobs ++ job ∷ [] → length left ≡ 1 → left ≡ job.seat ∷ rest
       → IsPosted feeder n job → n ≡ feeder.copies
       → (crew : List (JobOver T)) × (now ≡ before ++ crew) × (map (λ j. j.seat) crew ≡ seats) × AllZip (IsPosted feeder) (count_from 0 (feeder.copies + 1)) crew
-  posted-whole feeder n before jobs now seats left job p pushed one_left e one last =
-      let front = front-more (λ (j : JobOver T). j.seat) p.crew (p.crew ++ job ∷ []) left (remove left 0) seats job p.seats_are (omega arith) e refl refl in (
+  posted-whole feeder n before jobs now seats left rest job p pushed one_left off one last =
+      let front = front-more (λ (j : JobOver T). j.seat) p.crew (p.crew ++ job ∷ []) left rest seats job p.seats_are off refl in
+      let none = nil_from_length rest (let a = ap (λ (l : List T). length l) off in omega arith) in (
         p.crew ++ job ∷ [],
         push-assoc before p.crew jobs now job p.parts pushed,
-        sym (append-nil (map (λ j. j.seat) (p.crew ++ job ∷ []))) ∙ ap (λ (l : List T). map (λ j. j.seat) (p.crew ++ job ∷ []) ++ l) (sym (rest-none left one_left)) ∙ front,
+        sym (append-nil (map (λ j. j.seat) (p.crew ++ job ∷ []))) ∙ ap (λ (l : List T). map (λ j. j.seat) (p.crew ++ job ∷ []) ++ l) (sym none) ∙ front,
         subst (λ (k : ℕ). AllZip (IsPosted feeder) (count_from 0 (k + 1)) (p.crew ++ job ∷ [])) last (numbered-more (IsPosted feeder) n p.crew (p.crew ++ job ∷ []) job p.posted refl one),
       )
-    where
-      rest-none : (l : List T) → length l ≡ 1 → remove l 0 ≡ []
-      rest-none [] h = refl
-      rest-none (x ∷ l) h = nil_from_length l (omega arith)
 
   -- taking back
   pub last-of-push : (gone : List (EndOver T)) (e : EndOver T) → last_feeder (gone ++ e ∷ []) ≡ feeder_in e.end
@@ -77,10 +73,10 @@ module _ {T : Type 0} where
   taken-left n before left seats given t = (let a = ap (λ (l : List (EndOver T)). length l) t.parts in let b = length-append t.gone left in let d = t.count_is in omega arith)
 
   pub taken-more : (n : ℕ) (before left rest : List (EndOver T)) (seats now : List T) (given : Option FeederEnd) (e : EndOver T)
-      → IsTakenBack n before left seats given → 0 < length left → e ≡ get_or left 0 e → rest ≡ remove left 0 → now ≡ seats ++ e.seat ∷ [] → IsTakenBack (n + 1) before rest now (feeder_in e.end)
-  taken-more n before left rest seats now given e t some here off pushed = record {
+      → IsTakenBack n before left seats given → left ≡ e ∷ rest → now ≡ seats ++ e.seat ∷ [] → IsTakenBack (n + 1) before rest now (feeder_in e.end)
+  taken-more n before left rest seats now given e t off pushed = record {
     gone = t.gone ++ e ∷ [];
-    parts = sym (off-front t.gone left rest before e (sym t.parts) some here off);
+    parts = sym (off-front t.gone left rest before e (sym t.parts) off);
     count_is = (let a = length-append t.gone (e ∷ []) in let b = t.count_is in omega arith);
     seats_are = pushed ∙ ap (λ (l : List T). l ++ e.seat ∷ []) t.seats_are ∙ sym (map-append (λ (x : EndOver T). x.seat) t.gone (e ∷ []));
     given_is = sym (last-of-push t.gone e);

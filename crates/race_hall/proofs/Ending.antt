@@ -24,14 +24,14 @@ use Rattle.race_hall.specs.declared.doer.WorkEnd.{WorkEnd}
 use Rattle.race_hall.specs.declared.doer.WorkEnd.TheVariants.{Copy as Copied, Feeder as Fed}
 use Rattle.race_hall.specs.Entries.{Entry, own, IsStepping}
 use Rattle.race_hall.specs.Race.{Course, first_plan, count_from}
-use Rattle.race_hall.specs.Joined.{Closed, IsJobOf}
-use Rattle.race_hall.specs.Holding.{Holding, AreJoined}
+use Rattle.race_hall.specs.JobResults.{Closed, IsJobOf}
+use Rattle.race_hall.specs.AfterJoins.{Holding, AreJoined}
 use Rattle.race_hall.specs.Posting.{asked_by, trail_by}
 use Rattle.race_hall.specs.Jobs.{WorkEnds, feeder_in, Ends, CanDo}
 use Rattle.race_hall.specs.Crews.{ByMirror, IsFeederOf, IsManned, IsCrew, IsWorkOf, IsDone, IsCrewDone, AllClosed, IsRaceOf}
 use Rattle.race_hall.proofs.Copies.{copy-steps}
 use Rattle.race_hall.proofs.Started.{HoldLinks, ends-links, ends-linked}
-use Rattle.race_hall.proofs.Lining.{map-at}
+use Rattle.race_hall.proofs.FeederJobs.{map-at}
 use Rattle.race_hall.proofs.Numbered.{numbered-length, numbered-get}
 use Rattle.race_hall.proofs.Zips.{zip-all, zip-through}
 use Rattle.race_hall.proofs.ByMirror.{by_mirror-all}
@@ -46,23 +46,15 @@ module _ {W : Type 0} (c : Course) (opening : W) (spare : ℕ) where
   histories_of (j ∷ jobs) (e ∷ ends) [] h = []
   histories_of (j ∷ jobs) (e ∷ ends) (s ∷ mirrors) h = h.0.history ∷ histories_of jobs ends mirrors h.1
 
-  ends-long : (jobs : List FeederJob) (ends : List FeederEnd) (mirrors : List (MirrorState W)) → AllClosed c opening spare jobs ends mirrors → length ends ≡ length jobs
+  -- as many ends, and as many mirrors, as jobs
+  as-long : (jobs : List FeederJob) (ends : List FeederEnd) (mirrors : List (MirrorState W)) → AllClosed c opening spare jobs ends mirrors → (length ends ≡ length jobs) × (length mirrors ≡ length jobs)
   unfolding AllClosed
-  ends-long [] [] [] h = refl
-  ends-long [] [] (s ∷ mirrors) h = absurd h
-  ends-long [] (e ∷ ends) mirrors h = absurd h
-  ends-long (j ∷ jobs) [] mirrors h = absurd h
-  ends-long (j ∷ jobs) (e ∷ ends) [] h = absurd h
-  ends-long (j ∷ jobs) (e ∷ ends) (s ∷ mirrors) h = ap suc (ends-long jobs ends mirrors h.1)
-
-  mirrors-long : (jobs : List FeederJob) (ends : List FeederEnd) (mirrors : List (MirrorState W)) → AllClosed c opening spare jobs ends mirrors → length mirrors ≡ length jobs
-  unfolding AllClosed
-  mirrors-long [] [] [] h = refl
-  mirrors-long [] [] (s ∷ mirrors) h = absurd h
-  mirrors-long [] (e ∷ ends) mirrors h = absurd h
-  mirrors-long (j ∷ jobs) [] mirrors h = absurd h
-  mirrors-long (j ∷ jobs) (e ∷ ends) [] h = absurd h
-  mirrors-long (j ∷ jobs) (e ∷ ends) (s ∷ mirrors) h = ap suc (mirrors-long jobs ends mirrors h.1)
+  as-long [] [] [] h = (refl, refl)
+  as-long [] [] (s ∷ mirrors) h = absurd h
+  as-long [] (e ∷ ends) mirrors h = absurd h
+  as-long (j ∷ jobs) [] mirrors h = absurd h
+  as-long (j ∷ jobs) (e ∷ ends) [] h = absurd h
+  as-long (j ∷ jobs) (e ∷ ends) (s ∷ mirrors) h = (let more = as-long jobs ends mirrors h.1 in (ap suc more.0, ap suc more.1))
 
   fed-at : (dj : FeederJob) (de : FeederEnd) (jobs : List FeederJob) (ends : List FeederEnd)
       (mirrors : List (MirrorState W)) (h : AllClosed c opening spare jobs ends mirrors) (k : ℕ) → k < length jobs
@@ -128,8 +120,8 @@ module _ {W : Type 0} (c : Course) (opening : W) (budget copies : ℕ) (jobs : L
   unfolding holding_of
   joined-of dj de race h =
       let long = numbered-length (IsFeederOf c budget) 0 c.mirrors jobs race.feeders.each in
-      let ends_count = ends-long c opening (length c.commands) jobs ends mirrors h in
-      let mirrors_count = mirrors-long c opening (length c.commands) jobs ends mirrors h in
+      let ends_count = (as-long c opening (length c.commands) jobs ends mirrors h).0 in
+      let mirrors_count = (as-long c opening (length c.commands) jobs ends mirrors h).1 in
       let count = race.feeders.hold.count in
       let hs = histories_of c opening (length c.commands) jobs ends mirrors h in
       let fed : (k : ℕ) → k < length race.feeders.hold.rooms → FeederEnds (get_or jobs k dj) (get_or ends k de) [] (own (length (first_plan c)) (get_or hs k [])) =
@@ -161,16 +153,16 @@ module _ {W : Type 0} (c : Course) (opening : W) (budget copies : ℕ) (jobs : L
       with_defaults [] es e f =
           absurd (let long = numbered-length (IsFeederOf c budget) 0 c.mirrors jobs race.feeders.each in let a = ap (λ (l : List FeederJob). length l) e in let some = race.some in omega arith)
       with_defaults (j ∷ js) [] e f =
-          absurd (let long = ends-long c opening (length c.commands) jobs ends mirrors h in
+          absurd (let long = (as-long c opening (length c.commands) jobs ends mirrors h).0 in
           let a = ap (λ (l : List FeederJob). length l) e in let b = ap (λ (l : List FeederEnd). length l) f in
           omega arith)
       with_defaults (j ∷ js) (x ∷ es) e f = record { holding = holding_of j x h; joined = joined-of j x race h; course_is = refl; opening_is = refl }
 
   pub closed-count : IsRaceOf c budget copies jobs → AllClosed c opening (length c.commands) jobs ends mirrors → length mirrors ≡ c.mirrors
-  closed-count race h = mirrors-long c opening (length c.commands) jobs ends mirrors h ∙ numbered-length (IsFeederOf c budget) 0 c.mirrors jobs race.feeders.each
+  closed-count race h = (as-long c opening (length c.commands) jobs ends mirrors h).1 ∙ numbered-length (IsFeederOf c budget) 0 c.mirrors jobs race.feeders.each
 
   pub ends-count : IsRaceOf c budget copies jobs → AllClosed c opening (length c.commands) jobs ends mirrors → length ends ≡ c.mirrors
-  ends-count race h = ends-long c opening (length c.commands) jobs ends mirrors h ∙ numbered-length (IsFeederOf c budget) 0 c.mirrors jobs race.feeders.each
+  ends-count race h = (as-long c opening (length c.commands) jobs ends mirrors h).0 ∙ numbered-length (IsFeederOf c budget) 0 c.mirrors jobs race.feeders.each
 
 pub each-index : {X : Type 0} (P : X → Type 0) (xs : List X) → ((k : ℕ) (x : X) → k < length xs → x ≡ get_or xs k x → P x) → AllByRecursion P xs
 each-index P [] h = tt

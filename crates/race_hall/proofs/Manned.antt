@@ -40,7 +40,7 @@ use Rattle.race_hall.specs.Posting.{asked_by, trail_by, drawn_by, last_drawn}
 use Rattle.race_hall.specs.Jobs.{CanCopy, CanFeed, CanWork}
 use Rattle.race_hall.specs.Crews.{shares_of, IsFeederOf, IsPosted, IsWorkOf, IsManned, IsCrew}
 use Rattle.race_hall.proofs.Lists.{same-head, same-tail}
-use Rattle.race_hall.proofs.Lining.{plan-short, few-commands}
+use Rattle.race_hall.proofs.FeederJobs.{plan-short, few-commands}
 use Rattle.race_hall.proofs.Numbered.{numbered-both, numbered-within}
 use mathlib.Core.List.{map-map}
 

@@ -1,6 +1,5 @@
 -- Lists whose elements are right by their numbers.
 use Rattle.std.proofs.Common.{◌≡◌, ℕ, zero, suc, ◌+◌, ◌-◌, ◌<◌, List, [], ◌∷◌, ◌++◌, length, get_or, refl, ap, sym, ◌∙◌, subst, arith}
-use Rattle.std.specs.Prelude.{remove}
 use Rattle.std.specs.List.{AllByRecursion, AllZip}
 use Rattle.race_hall.specs.Race.{count_from}
 
@@ -9,12 +8,6 @@ pub count-push : (i n : ℕ) → count_from i (suc n) ≡ count_from i n ++ (i +
 unfolding count_from
 count-push i zero = ap (λ (k : ℕ). k ∷ []) (omega arith)
 count-push i (suc n) = ap (λ (l : List ℕ). i ∷ l) (count-push (i + 1) n ∙ ap (λ (k : ℕ). count_from (i + 1) n ++ k ∷ []) (omega arith))
-
--- the first of a list whose elements are right by their numbers, and the others
-pub numbered-first : {X : Type 0} (P : ℕ → X → Type 0) (i n : ℕ) (xs : List X) (v : X) → AllZip P (count_from i (suc n)) xs → v ≡ get_or xs 0 v → P i v × AllZip P (count_from (i + 1) n) (remove xs 0)
-unfolding count_from
-numbered-first P i n [] v h e = absurd h
-numbered-first P i n (x ∷ xs) v h e = (subst (P i) (sym e) h.0, h.1)
 
 -- the element at a place
 pub numbered-get : {X : Type 0} (P : ℕ → X → Type 0) (i n : ℕ) (xs : List X) (j : ℕ) (v : X) → AllZip P (count_from i n) xs → j < n → v ≡ get_or xs j v → P (i + j) v
@@ -62,12 +55,13 @@ numbered-more P n xs now x h pushed one =
 
 -- the first of them is taken off
 pub numbered-off : {X : Type 0} (P : ℕ → X → Type 0) (i n : ℕ) (xs now : List X) (v : X) → AllZip P (count_from i n) xs
-    → 0 < n → v ≡ get_or xs 0 v → now ≡ remove xs 0 → P i v × AllZip P (count_from (i + 1) (n - 1)) now
-numbered-off P i zero xs now v h some e off = absurd (omega arith)
-numbered-off P i (suc n) xs now v h some e off =
-    let both = numbered-first P i n xs v h e in
+    → 0 < n → xs ≡ v ∷ now → P i v × AllZip P (count_from (i + 1) (n - 1)) now
+unfolding count_from
+numbered-off P i zero xs now v h some off = absurd (omega arith)
+numbered-off P i (suc n) xs now v h some off =
+    let both = subst (AllZip P (count_from i (suc n))) off h in
     let less : n ≡ suc n - 1 = omega arith in
-    (both.0, subst (λ (k : ℕ). AllZip P (count_from (i + 1) k) now) less (subst (λ l. AllZip P (count_from (i + 1) n) l) (sym off) both.1))
+    (both.0, subst (λ (k : ℕ). AllZip P (count_from (i + 1) k) now) less both.1)
 
 -- lists whose elements go with their numbers in two ways, and in a third
 pub numbered-both : {X : Type 0} (P Q R : ℕ → X → Type 0) (C : X → Type 0) (ks : List ℕ) (xs : List X)

@@ -12,7 +12,7 @@ use Rattle.copy_workers.specs.Sending.{IsSent}
 use Rattle.copy_workers.specs.Fed.{AllReceive}
 use Rattle.link_ring.proofs.Later.{link-later}
 use Rattle.race_hall.specs.Entries.{Entry, own, IsStepping}
-use Rattle.race_hall.specs.Looking.{IsLinkedAt}
+use Rattle.link_mesh.specs.Mesh.{IsLinkedAt}
 use Rattle.race_hall.proofs.Zips.{zip-get}
 use Rattle.sync_model.proofs.Lists.{zip-length}
 

@@ -9,7 +9,7 @@ use Rattle.race_hall.specs.Finish.{to_deliver, finished, EndsAtFold}
 use Rattle.race_hall.specs.Raced.{course_of, AreRaced}
 use Rattle.race_hall.proofs.Fold.{raced-ends}
 use Rattle.race_hall.proofs.Worked.{raced-nothing}
-use Rattle.race_hall.proofs.Lining.{match-course}
+use Rattle.race_hall.proofs.FeederJobs.{match-course}
 
 module _ {W : Type 0} (rules : Rules W) (c : Course) (opening : W) where
   -- a mirror to which everything is delivered at the finish

@@ -9,9 +9,9 @@ use Rattle.copy_workers.specs.declared.feeder_job.FeederEnd.{FeederEnd}
 use Rattle.copy_workers.specs.declared.feeder_job.FeederJob.{FeederJob}
 use Rattle.copy_workers.specs.Messages.{messages}
 use Rattle.copy_workers.specs.Fed.{AllReceive, FeederEnds}
-use Rattle.race_hall.specs.Looking.{sender_at, place_at, IsLinkedAt}
-use Rattle.race_hall.specs.Making.{AreLinksTo}
-use Rattle.race_hall.proofs.Looks.{sender-below}
+use Rattle.link_mesh.specs.Mesh.{sender_at, place_at, IsLinkedAt}
+use Rattle.link_mesh.specs.NewMesh.{AreLinksTo}
+use Rattle.link_mesh.proofs.Mesh.{sender-below}
 use Rattle.race_hall.proofs.Seats.{linked-joined}
 
 -- the feeders' jobs hold the links that were made

@@ -26,11 +26,11 @@ use Rattle.race_hall.specs.declared.doer.JobOver.{JobOver}
 use Rattle.race_hall.specs.declared.doer.EndOver.{EndOver}
 use Rattle.race_hall.specs.Entries.{Entry, own, IsStepping}
 use Rattle.race_hall.specs.Race.{Course, IsCourse, first_plan, plan_of, count_from, race_opening}
-use Rattle.race_hall.specs.Joined.{IsJobOf, Closed}
-use Rattle.race_hall.specs.Making.{AreLinksTo}
+use Rattle.race_hall.specs.JobResults.{IsJobOf, Closed}
+use Rattle.link_mesh.specs.NewMesh.{AreLinksTo}
 use Rattle.race_hall.specs.Posting.{asked_by}
 use Rattle.race_hall.specs.Jobs.{CanWork, feeder_in}
-use Rattle.race_hall.specs.Lining.{Lines}
+use Rattle.race_hall.specs.FeederJobs.{Lines}
 
 -- the list falls into a piece for each mirror, of which the first has this number; each is right by
 -- the mirror's number, its lock and its feeder's job

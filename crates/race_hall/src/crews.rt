@@ -1,28 +1,30 @@
 //! The crews of a race: each mirror behind its lock, with the jobs of its feeder and of its copies'
 //! workers; and the close, once all are done.
 
-ghost use Rattle.std.specs.Prelude.{◌≡◌, ◌+◌, ◌-◌, ◌≤◌, ◌<◌, ◌==◌, IfOk, filter, length, ◌≢◌, ℕ, ◌++◌, List, map, vec_len, OnOk, [], vec_capacity};
+ghost use Rattle.std.specs.Prelude.{◌≡◌, ◌∷◌, ◌+◌, ◌-◌, ◌≤◌, ◌<◌, ◌==◌, IfOk, filter, length, ◌≢◌, ℕ, ◌++◌, List, map, vec_len, OnOk, [], vec_capacity};
 ghost use Rattle.std.specs.List.{AllByRecursion, AllZip};
+ghost use Rattle.std.specs.Vec.Iter.{into_iter_items};
 ghost use Rattle.game_trait.specs.Keys.{in_key_order, NamesDiffer};
 ghost use Rattle.match_file.specs.Data.{schedule_of, schedules};
 ghost use Rattle.race_hall.specs.Race.{count_from, plan_of, Course, first_plan};
 ghost use Rattle.race_hall.specs.Raced.{course_of};
 ghost use Rattle.race_hall.specs.Crews.{IsPlanOf, IsRoomOf, AreFeeders, ByMirror, IsFeederOf, IsCrew, IsManning, IsLockOf, IsPosted, shares_of, HasCrew, IsCrewDone, IsClosed, AllClosed, IsTakenBack, IsRoomy};
-ghost use Rattle.race_hall.specs.Lining.{AreLinedUp};
+ghost use Rattle.race_hall.specs.FeederJobs.{AreLinedUp};
 ghost use Rattle.race_hall.specs.declared.doer.JobOver.{JobOver};
 ghost use Rattle.copy_workers.specs.declared.feeder_job.FeederJob.{FeederJob};
 ghost use Rattle.turn_lock.specs.Naming.{lock_name, opened_with};
 
 use crate::doer::{EndOver, JobOver, Work};
-use crate::links::make_links;
 use copy_workers::{CopyJob, FeederEnd, FeederJob};
 use game_trait::{Command, Game, MirrorId, order_by_key};
+use link_mesh::make_links;
 use link_ring::{LinkReceive, LinkSend};
 use match_file::{Match, plans_of};
 use mirror_core::Mirror;
 use mirror_lock::{MirrorLock, MirrorSeat};
 use stagger_clock::Stagger;
 use std::alloc::Global;
+use std::vec::IntoIter;
 use tss_io::NoMemory;
 use turn_lock::Share;
 
@@ -64,15 +66,26 @@ fn plans_and_rooms(alloc: Global, m: &Match) -> Result<(Vec<Vec<Command>>, Vec<u
     Ok((plans, rooms))
 }
 
+// The next of what is being given out, of which some is left.
+fn take_next<T: Drop>(list: &mut IntoIter<T>) -> T
+    requires { 0 < length (into_iter_items list.old) }
+    ensures { into_iter_items list.old ≡ result ∷ into_iter_items list.new }
+{
+    match list.next() {
+        Some(x) => x,
+        None => unreachable!(),
+    }
+}
+
 // The feeders' jobs, mirror by mirror, which take these plans and links.
 fn line_up(
     alloc: Global,
     m: &Match,
     stagger: Stagger,
     budget: u64,
-    mut plans: Vec<Vec<Command>>,
-    mut sends: Vec<Vec<LinkSend>>,
-    mut rows: Vec<Vec<LinkReceive>>,
+    plans: Vec<Vec<Command>>,
+    sends: Vec<Vec<LinkSend>>,
+    rows: Vec<Vec<LinkReceive>>,
 ) -> Result<Vec<FeederJob>, NoMemory>
     requires stagger { stagger ≡ schedule_of m.now m.now.delays }
     requires plans { AllZip (IsPlanOf (course_of m.now)) (count_from 0 m.now.mirrors) plans.items }
@@ -82,8 +95,11 @@ fn line_up(
         AreLinedUp (course_of m.now) budget sends.items rows.items m.now.mirrors jobs.items) }
 {
     let mut jobs = Vec::new(alloc);
+    let mut plans = plans.into_iter();
+    let mut sends = sends.into_iter();
+    let mut rows = rows.into_iter();
     for mirror in 0..m.mirrors {
-        let plan = plans.remove(0);
+        let plan = take_next(&mut plans);
         jobs.push(FeederJob {
             mirror,
             copies: stagger.copies(),
@@ -91,8 +107,8 @@ fn line_up(
             pace: m.pace,
             foreign: (m.commands.len() - plan.len()) as u32,
             plan,
-            sends: sends.remove(0),
-            receives: rows.remove(0),
+            sends: take_next(&mut sends),
+            receives: take_next(&mut rows),
             budget,
         })?;
     }
@@ -138,7 +154,7 @@ fn shares(alloc: Global, feeder: &FeederJob) -> Result<Vec<Share>, NoMemory>
 // feeder. On `NoMemory` some of them may be there.
 fn push_crew<T: Drop>(
     jobs: &mut Vec<JobOver<T>>,
-    mut seats: Vec<T>,
+    seats: Vec<T>,
     feeder: FeederJob,
 ) -> Result<(), NoMemory>
     requires { vec_len seats ≡ feeder.copies + 1 }
@@ -149,8 +165,9 @@ fn push_crew<T: Drop>(
     let mirror = feeder.mirror;
     let length = feeder.stagger.length();
     let budget = feeder.budget;
+    let mut seats = seats.into_iter();
     for copy in 0..feeder.copies {
-        let seat = seats.remove(0);
+        let seat = take_next(&mut seats);
         let work = Work::Copy(CopyJob {
             mirror,
             copy,
@@ -159,7 +176,7 @@ fn push_crew<T: Drop>(
         });
         jobs.push(JobOver { mirror, seat, work })?;
     }
-    let seat = seats.remove(0);
+    let seat = take_next(&mut seats);
     let work = Work::Feeder(feeder);
     jobs.push(JobOver { mirror, seat, work })?;
     Ok(())
@@ -222,18 +239,19 @@ pub fn crews<G: Game>(
 // Takes back the seats of a crew, which is a front of the ends, and what the last of
 // these gave back.
 fn take_crew<T: Drop>(
-    ends: &mut Vec<EndOver<T>>,
+    ends: &mut IntoIter<EndOver<T>>,
     count: usize,
     mut seats: Vec<T>,
 ) -> (Vec<T>, Option<FeederEnd>)
-    requires there { count ≤ vec_len ends.old }
+    requires there { count ≤ length (into_iter_items ends.old) }
     requires empty { seats.items ≡ [] }
     requires room { count ≤ vec_capacity seats }
-    ensures { IsTakenBack count ends.old.items ends.new.items result.0.items result.1 }
+    ensures { IsTakenBack count (into_iter_items ends.old) (into_iter_items ends.new)
+        result.0.items result.1 }
 {
     let mut given = None;
     for _ in 0..count {
-        let EndOver { seat, end } = ends.remove(0);
+        let EndOver { seat, end } = take_next(ends);
         seats.push_reserved(seat);
         given = end.into_feeder();
     }
@@ -245,19 +263,19 @@ fn take_crew<T: Drop>(
 fn close_one<G: Game>(
     lock: MirrorLock<G>,
     copies: u8,
-    ends: &mut Vec<EndOver<MirrorSeat<G>>>,
+    ends: &mut IntoIter<EndOver<MirrorSeat<G>>>,
     seats: Vec<MirrorSeat<G>>,
 ) -> (Mirror<G>, FeederEnd)
     requires crew { (c : Course) × (opening : G) × (spare : ℕ) × (job : FeederJob) × (rest : List _)
         × (copies ≡ length (first_plan c))
-        × HasCrew (λ s. s.seat) copies (lock_name lock.lock) job ends.old.items rest
+        × HasCrew (λ s. s.seat) copies (lock_name lock.lock) job (into_iter_items ends.old) rest
         × IsLockOf c opening spare (opened_with lock.lock) lock.lock.seats }
     requires room { IsRoomy copies seats.items (vec_capacity seats) }
     ensures { (c : Course) (opening : G) (spare : ℕ) (job : FeederJob) (rest : List _)
         → copies ≡ length (first_plan c)
-        → HasCrew (λ s. s.seat) copies (lock_name lock.lock) job ends.old.items rest
+        → HasCrew (λ s. s.seat) copies (lock_name lock.lock) job (into_iter_items ends.old) rest
         → IsLockOf c opening spare (opened_with lock.lock) lock.lock.seats
-        → (ends.new.items ≡ rest) × IsClosed c opening spare job result.1 result.0 }
+        → (into_iter_items ends.new ≡ rest) × IsClosed c opening spare job result.1 result.0 }
 {
     let (seats, given) = take_crew(ends, usize::from(copies) + 1, seats);
     let mirror = lock.close(seats);
@@ -272,8 +290,8 @@ fn close_one<G: Game>(
 pub fn close_all<G: Game>(
     locks: Vec<MirrorLock<G>>,
     copies: u8,
-    mut ends: Vec<EndOver<MirrorSeat<G>>>,
-    mut seats: Vec<Vec<MirrorSeat<G>>>,
+    ends: Vec<EndOver<MirrorSeat<G>>>,
+    seats: Vec<Vec<MirrorSeat<G>>>,
     mut mirrors: Vec<Mirror<G>>,
     mut feeders: Vec<FeederEnd>,
 ) -> (Vec<Mirror<G>>, Vec<FeederEnd>)
@@ -295,8 +313,10 @@ pub fn close_all<G: Game>(
         0 locks.items jobs ends.items
         → AllClosed c opening spare jobs result.1.items result.0.items }
 {
+    let mut ends = ends.into_iter();
+    let mut seats = seats.into_iter();
     for lock in locks {
-        let (mirror, feeder) = close_one(lock, copies, &mut ends, seats.remove(0));
+        let (mirror, feeder) = close_one(lock, copies, &mut ends, take_next(&mut seats));
         mirrors.push_reserved(mirror);
         feeders.push_reserved(feeder);
     }

@@ -15,7 +15,6 @@ ghost use Rattle.copy_workers.specs.Trail.{draw_of};
 ghost use Rattle.turn_lock.specs.Naming.{lock_name, seat_name};
 
 use crate::board::{Board, Notes};
-use crate::threads::{Doer, Task};
 use copy_workers::{
     CopyEnd, CopyJob, DraftPost, Draw, FeederEnd, FeederJob, Gate, Post, run_copy, run_feeder,
 };
@@ -24,6 +23,7 @@ use mirror_core::{Committed, Drafted};
 use mirror_lock::{LockCall, LockReply, MirrorLock, MirrorSeat, Slip};
 use std::marker::Model;
 use std::sync::Wait;
+use task_threads::{Doer, Task};
 use turn_lock::Named;
 
 /// What a job is about.
@@ -168,12 +168,6 @@ pub fn do_job<R: Wait, G: Game, P: Gate>(
     }
 }
 
-/// A job over a seat of a mirror's lock.
-pub type Job<G> = JobOver<MirrorSeat<G>>;
-
-/// What such a job gives back.
-pub type End<G> = EndOver<MirrorSeat<G>>;
-
 impl<G: Game> Task<EndOver<MirrorSeat<G>>> for JobOver<MirrorSeat<G>> {
     ghost use Rattle.race_hall.specs.Jobs.{Ends};
 
@@ -273,10 +267,6 @@ impl<'a, R: Wait, L: Named, T: Named, B: Keeps<T>> Model for PostOver<'a, R, L, 
     ghost invariant = { λ p. (T.name p.seat ≡ L.name p.lock.now) × B.kept p.slips p.seat };
 }
 
-/// A post over a mirror's lock and a seat of it. What was asked are the events among the seat's own
-/// entries in the lock's history, and the steps that its commits stand for.
-pub type LockPost<'a, R, G> = PostOver<'a, R, MirrorLock<G>, MirrorSeat<G>, Slips<G>>;
-
 impl<'a, R: Wait, L: Named, T: Named, B: Keeps<T>> PostOver<'a, R, L, T, B> {
     /// A post over this lock, for this seat of it. It notes on the board what it is answered.
     pub fn new(
@@ -351,6 +341,8 @@ fn run_drafted<G: Game>(drafted: &LockReply<G>, ready: &mut LockCall<G>) -> u8
     }
 }
 
+// Over a mirror's lock and a seat of it. What was asked are the events among the seat's own entries
+// in the lock's history, and the steps that its commits stand for.
 impl<'a, R: Wait, G: Game> Post for PostOver<'a, R, MirrorLock<G>, MirrorSeat<G>, Slips<G>> {
     ghost use Rattle.std.specs.Prelude.{None};
     ghost use Rattle.mirror_lock.specs.declared.calls.LockCall.TheVariants.{Event as AskEvent};

@@ -1,7 +1,6 @@
 //! The finish of a race: what the feeders left is delivered, and each mirror is drained.
 
 ghost use Rattle.std.specs.Prelude.{◌≡◌, ◌≤◌, [], map, vec_len, vec_capacity, ℕ, ◌+◌, ◌-◌, ◌<◌, ◌∷◌, ◌++◌, List, length, drop, slice_index_or};
-ghost use Rattle.race_hall.specs.Parting.{sender_of_end};
 ghost use Rattle.std.specs.List.{AllByRecursion, AllZip};
 ghost use mathlib.Core.List.{IsPrefix};
 ghost use Rattle.game_trait.specs.declared.command.Command.{Command};
@@ -9,14 +8,14 @@ ghost use Rattle.link_ring.specs.declared.message.Message.{Message};
 ghost use Rattle.link_ring.specs.Ends.{waiting_of};
 ghost use Rattle.copy_workers.specs.Messages.{commands_in};
 ghost use Rattle.race_hall.specs.Finish.{delivered, finished, CanTake, HasNext, EndsAtFold};
-ghost use Rattle.race_hall.specs.Held.{left_in, unissued_in};
+ghost use Rattle.race_hall.specs.Undelivered.{left_in, unissued_in, sender_of_end};
 ghost use Rattle.sync_model.specs.State.{MirrorState};
-ghost use Rattle.race_hall.specs.Looking.{SameSends};
-ghost use Rattle.race_hall.specs.Holding.{Holding, IsOneHeld, AreHeld, AreJoined};
+ghost use Rattle.link_mesh.specs.Mesh.{SameSends};
+ghost use Rattle.race_hall.specs.AfterJoins.{Holding, IsOneHeld, AreHeld, AreJoined};
 
-use crate::links::look_row;
 use copy_workers::FeederEnd;
 use game_trait::{Command, Game};
+use link_mesh::look_row;
 use link_ring::{LinkReceive, LinkSend, Message};
 use mirror_core::Mirror;
 

@@ -21,7 +21,7 @@ ghost use Rattle.copy_workers.specs.declared.feeder_job.FeederJob.{FeederJob};
 ghost use Rattle.race_hall.specs.Entries.{Entry, IsNeverRefused, pairs_of, events_asked, commands_asked};
 ghost use Rattle.race_hall.specs.Race.{Course, IsCourse, Raced, race_opening};
 ghost use Rattle.race_hall.specs.Finish.{to_deliver, delivered, finished, EndsAtFold, NothingLate};
-ghost use Rattle.race_hall.specs.Joined.{Closed, AllFed, IsLeftAt};
+ghost use Rattle.race_hall.specs.JobResults.{Closed, AllFed, IsLeftAt};
 ghost use Rattle.race_hall.specs.Raced.{AreRaced};
 
 use game_trait::Game;

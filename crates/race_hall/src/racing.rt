@@ -17,7 +17,6 @@ use crate::board::{Board, boards};
 use crate::crews::{close_all, crews, feeders};
 use crate::doer::{Doing, EndOver, JobOver};
 use crate::finish::{Sender, finish_joined};
-use crate::threads::{Backs, Rooms, do_all};
 use copy_workers::{FeederEnd, Gate};
 use game_trait::Game;
 use link_ring::{LinkReceive, LinkSend};
@@ -27,6 +26,7 @@ use mirror_lock::{MirrorLock, MirrorSeat};
 use std::alloc::Global;
 use std::sync::Wait;
 use std::thread::Threads;
+use task_threads::{Backs, Rooms, do_all};
 use tss_io::NoMemory;
 
 /// The most turns that a job of a race may make.

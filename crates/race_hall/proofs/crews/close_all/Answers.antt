@@ -2,7 +2,7 @@ use Rattle.std.proofs.Common.{length, ap, sym, rules, subst, arith, vec_capacity
 use Rattle.std.specs.List.{AllByRecursion}
 use Rattle.std.proofs.lemmas.List.{nil_from_length}
 use Rattle.race_hall.specs.Crews.{AllClosed, IsRoomy}
-use Rattle.race_hall.proofs.ClosedCrews.{going-begins, going-next, going-more, going-ends, all-closed-more, none-closed, all-off}
+use Rattle.race_hall.proofs.ClosedCrews.{going-begins, going-next, going-more, going-ends, all-closed-more, none-closed}
 use Rattle.race_hall.proofs.crews.close_all.Goals as goal
 
 pub loop-lock-init : goal.loop-lock-init
@@ -13,13 +13,17 @@ loop-lock-init g c =
       record {
         room =
             (let a = ap (λ l. length l) gives in let b = c.args.locks.ok.0 in let d = ap (λ l. length l) c.requires.empty.0 in let e = ap (λ l. length l) c.requires.empty.1 in
+            let l = ap (λ l. length l) c.into_iter-seats.ensures.rest in let m = c.args.seats.ok.0 in
             let f = c.args.mirrors.ok.0 in let h = c.args.feeders.ok.0 in let i = c.requires.room.0 in let j =
             c.requires.room.1 in let k = c.requires.room.2 in (omega arith, omega arith, omega arith));
-        seats = c.requires.seats;
+        seats = subst (AllByRecursion (λ v. IsRoomy c.args.copies v.items (vec_capacity v))) (sym c.into_iter-seats.ensures.rest) c.requires.seats;
         going = λ course opening spare jobs count by.
-            going-begins _ (AllClosed course opening spare) jobs _ _ _ _ _ c.requires.empty.1 c.requires.empty.0 (none-closed course opening spare) gives by;
+            going-begins _ (AllClosed course opening spare) jobs _ _ _ _ _ _ c.requires.empty.1 c.requires.empty.0 (none-closed course opening spare) gives c.into_iter-ends.ensures.rest by;
       },
     )
+
+pub take_next-requires : goal.take_next-requires
+take_next-requires g c = (let a = ap (λ l. length l) c.in-Some.ensures.steps.0 in let b = c.loop-lock.invariant.2.room.0 in omega arith)
 
 pub close_one-mirror-requires-clause-crew : goal.close_one-mirror-requires-clause-crew
 close_one-mirror-requires-clause-crew g c =
@@ -29,8 +33,7 @@ close_one-mirror-requires-clause-crew g c =
 
 pub close_one-mirror-requires-clause-room : goal.close_one-mirror-requires-clause-room
 close_one-mirror-requires-clause-room g c =
-    (all-off (λ v. IsRoomy c.args.copies v.items (vec_capacity v)) c.loop-lock.seats.items c.remove.result c.loop-lock.invariant.2.seats c.remove.ensures.value
-    (let a = ap (λ l. length l) c.in-Some.ensures.steps.0 in let b = c.loop-lock.invariant.2.room.0 in let d = c.loop-lock.seats.ok.0 in omega arith)).0
+    (subst (AllByRecursion (λ v. IsRoomy c.args.copies v.items (vec_capacity v))) c.take_next.ensures c.loop-lock.invariant.2.seats).0
 
 pub loop-lock-preserved : goal.loop-lock-preserved
 loop-lock-preserved g c = (
@@ -42,16 +45,14 @@ loop-lock-preserved g c = (
         let b = c.loop-lock.invariant.2.room.0 in
         let d = c.loop-lock.invariant.2.room.1 in
         let e = c.loop-lock.invariant.2.room.2 in
-        let f = c.remove.ensures.len in
+        let f = ap (λ l. length l) c.take_next.ensures in
         let h = c.push_reserved.ensures.len in
         let i = c.push_reserved.ensures.capacity in
         let j = c.push_reserved-in-loop-lock.ensures.len in
         let k = c.push_reserved-in-loop-lock.ensures.capacity in
         (omega arith, omega arith, omega arith));
     seats =
-        subst (AllByRecursion (λ v. IsRoomy c.args.copies v.items (vec_capacity v))) (sym c.remove.ensures.items)
-        (all-off (λ v. IsRoomy c.args.copies v.items (vec_capacity v)) c.loop-lock.seats.items c.remove.result c.loop-lock.invariant.2.seats c.remove.ensures.value
-        (let a = ap (λ l. length l) c.in-Some.ensures.steps.0 in let b = c.loop-lock.invariant.2.room.0 in let d = c.loop-lock.seats.ok.0 in omega arith)).1;
+        (subst (AllByRecursion (λ v. IsRoomy c.args.copies v.items (vec_capacity v))) c.take_next.ensures c.loop-lock.invariant.2.seats).1;
     going = λ course opening spare jobs count by.
         let was = c.loop-lock.invariant.2.going course opening spare jobs count by in
         let next = going-next _ (AllClosed course opening spare) jobs _ _ _ _ _ _ was c.in-Some.ensures.steps.0 in

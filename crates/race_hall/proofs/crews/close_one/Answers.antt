@@ -4,7 +4,7 @@ use Rattle.race_hall.proofs.crews.close_one.Goals as goal
 
 pub take_crew-seats-requires-clause-there : goal.take_crew-seats-requires-clause-there
 take_crew-seats-requires-clause-there g c =
-    (let a = has-long (λ s. s.seat) _ _ _ _ _ c.requires.crew.6 in let b = c.args.ends.now.ok.0 in let d = c.from.ensures in omega arith)
+    (let a = has-long (λ s. s.seat) _ _ _ _ _ c.requires.crew.6 in let d = c.from.ensures in omega arith)
 
 pub close-mirror-requires-clause-own : goal.close-mirror-requires-clause-own
 close-mirror-requires-clause-own g c =

@@ -2,7 +2,7 @@ use Rattle.std.proofs.Common.{◌≡◌, ◌+◌, ℕ, length, sym, rules, subst
 use Rattle.std.proofs.lemmas.List.{nil_from_length}
 use Rattle.race_hall.specs.Raced.{course_of}
 use Rattle.race_hall.specs.Crews.{IsFeederOf, IsCrew}
-use Rattle.race_hall.proofs.Passing.{parts-more}
+use Rattle.task_threads.proofs.Passing.{parts-more}
 use Rattle.race_hall.proofs.crews.crews.Goals as goal
 use Rattle.race_hall.proofs.Numbered.{numbered-at}
 use Rattle.race_hall.proofs.ByMirror.{by_mirror-long, by_mirror-none, by_mirror-pushed, by_mirror-whole}

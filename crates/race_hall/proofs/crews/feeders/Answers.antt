@@ -4,7 +4,7 @@ use Rattle.std.proofs.lemmas.Result.{IfOk-weaker}
 use Rattle.match_file.specs.Data.{IsMatch}
 use Rattle.race_hall.specs.Raced.{course_of}
 use Rattle.race_hall.specs.Crews.{IsRoomOf}
-use Rattle.race_hall.proofs.Lining.{feeders-made}
+use Rattle.race_hall.proofs.FeederJobs.{feeders-made}
 use Rattle.race_hall.proofs.crews.feeders.Goals as goal
 use Rattle.race_hall.proofs.Numbered.{numbered-length}
 use Rattle.race_hall.proofs.Zips.{zip-all}

@@ -8,7 +8,7 @@ use Rattle.match_file.specs.Data.{MatchData, IsMatch}
 use Rattle.match_file.proofs.Plans.{equal-ticks, equal-copies}
 use Rattle.race_hall.specs.Raced.{course_of}
 use Rattle.race_hall.specs.Crews.{shares_of}
-use Rattle.race_hall.proofs.Lining.{match-course, plan-short, few-commands, foreign-whole}
+use Rattle.race_hall.proofs.FeederJobs.{match-course, plan-short, few-commands, foreign-whole}
 use Rattle.race_hall.proofs.Manned.{few-calls, few-grows, shares-long, opens, manned-crew}
 use Rattle.race_hall.proofs.crews.man_mirror.Goals as goal
 

@@ -1,5 +1,5 @@
 use Rattle.std.proofs.Common.{◌==◌}
-use Rattle.race_hall.proofs.Lining.{differ-own}
+use Rattle.race_hall.proofs.FeederJobs.{differ-own}
 use Rattle.race_hall.proofs.crews.own_commands.Goals as goal
 
 pub order_by_key-requires : goal.order_by_key-requires

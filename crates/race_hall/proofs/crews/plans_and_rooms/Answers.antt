@@ -1,12 +1,18 @@
-use Rattle.std.proofs.Common.{◌≡◌, ◌==◌, List, filter, length, ◌∙◌, ap, subst, arith}
+use Rattle.std.proofs.Common.{◌≡◌, ℕ, ◌==◌, List, filter, length, ◌∙◌, ap, subst, arith}
 use Rattle.game_trait.specs.declared.command.Command.{Command}
 use Rattle.game_trait.specs.Keys.{in_key_order}
 use Rattle.match_file.specs.Data.{MatchData, IsMatch}
 use Rattle.race_hall.specs.Raced.{course_of}
 use Rattle.race_hall.specs.Crews.{IsPlanOf, IsRoomOf}
-use Rattle.race_hall.proofs.Lining.{few-commands, plan-short}
+use Rattle.race_hall.proofs.FeederJobs.{few-commands, plan-short}
 use Rattle.race_hall.proofs.crews.plans_and_rooms.Goals as goal
 use Rattle.race_hall.proofs.Numbered.{numbered-none, numbered-more}
+
+-- the mirror's own commands, of the match as contracts see it
+own-plan :
+    (k : ℕ) (inside m : MatchData) (commands plan : List Command)
+    → inside ≡ m → commands ≡ inside.commands → plan ≡ in_key_order (filter (λ x. x.from == k) commands) → plan ≡ in_key_order (filter (λ x. x.from == k) m.commands)
+own-plan k inside m commands plan view same is = is ∙ ap (λ (l : List Command). in_key_order (filter (λ x. x.from == k) l)) (same ∙ ap (λ (d : MatchData). d.commands) view)
 
 pub loop-mirror-init : goal.loop-mirror-init
 loop-mirror-init c = record {
@@ -17,8 +23,7 @@ loop-mirror-init c = record {
 pub overflow_cast-len : goal.overflow_cast-len
 overflow_cast-len c =
     let m = c.args.m.now in
-    let plan : c.in_ok-plan.plan.items ≡ in_key_order (filter (λ x. x.from == c.loop-mirror.mirror) m.commands) =
-    c.in_ok-plan.ensures ∙ ap (λ (l : List Command). in_key_order (filter (λ x. x.from == c.loop-mirror.mirror) l)) (c.as_slice.ensures.commands ∙ ap (λ (d : MatchData). d.commands) c.m.view_is) in
+    let plan = own-plan c.loop-mirror.mirror _ m _ _ c.m.view_is c.as_slice.ensures.commands c.in_ok-plan.ensures in
     let a = ap (λ (l : List Command). length l) plan in
     let b = plan-short (course_of m) c.loop-mirror.mirror in
     let d = few-commands m (subst IsMatch c.m.view_is c.m.invariant) in
@@ -29,8 +34,7 @@ overflow_cast-len c =
 pub overflow_add-len : goal.overflow_add-len
 overflow_add-len c =
     let m = c.args.m.now in
-    let plan : c.in_ok-plan.plan.items ≡ in_key_order (filter (λ x. x.from == c.loop-mirror.mirror) m.commands) =
-    c.in_ok-plan.ensures ∙ ap (λ (l : List Command). in_key_order (filter (λ x. x.from == c.loop-mirror.mirror) l)) (c.as_slice.ensures.commands ∙ ap (λ (d : MatchData). d.commands) c.m.view_is) in
+    let plan = own-plan c.loop-mirror.mirror _ m _ _ c.m.view_is c.as_slice.ensures.commands c.in_ok-plan.ensures in
     let a = ap (λ (l : List Command). length l) plan in
     let b = plan-short (course_of m) c.loop-mirror.mirror in
     let d = few-commands m (subst IsMatch c.m.view_is c.m.invariant) in
@@ -42,8 +46,7 @@ overflow_add-len c =
 pub loop-mirror-preserved : goal.loop-mirror-preserved
 loop-mirror-preserved c =
     let m = c.args.m.now in
-    let plan : c.in_ok-plan.plan.items ≡ in_key_order (filter (λ x. x.from == c.loop-mirror.mirror) m.commands) =
-    c.in_ok-plan.ensures ∙ ap (λ (l : List Command). in_key_order (filter (λ x. x.from == c.loop-mirror.mirror) l)) (c.as_slice.ensures.commands ∙ ap (λ (d : MatchData). d.commands) c.m.view_is) in
+    let plan = own-plan c.loop-mirror.mirror _ m _ _ c.m.view_is c.as_slice.ensures.commands c.in_ok-plan.ensures in
     record {
       plans = numbered-more (IsPlanOf (course_of m)) c.loop-mirror.mirror _ _ c.in_ok-plan.plan c.loop-mirror.invariant.plans c.in_ok-push-2.ensures.items plan;
       rooms =

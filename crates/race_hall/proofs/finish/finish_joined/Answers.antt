@@ -1,5 +1,5 @@
 use Rattle.std.proofs.Common.{◌∙◌}
-use Rattle.race_hall.proofs.JoinedHeld.{held-same}
+use Rattle.race_hall.proofs.JoinsHeld.{held-same}
 use Rattle.race_hall.proofs.finish.finish_joined.Goals as goal
 
 pub finish_race-requires : goal.finish_race-requires

@@ -1,7 +1,7 @@
 use Rattle.std.proofs.Common.{sym, subst}
 use Rattle.sync_model.specs.State.{MirrorState}
 use Rattle.race_hall.specs.Finish.{CanTake}
-use Rattle.race_hall.specs.Held.{left_in, unissued_in}
+use Rattle.race_hall.specs.Undelivered.{left_in, unissued_in}
 use Rattle.race_hall.proofs.Deliveries.{can-later}
 use Rattle.race_hall.proofs.Pieces.{finish-state}
 use Rattle.race_hall.proofs.finish.finish_mirror.Goals as goal

@@ -1,6 +1,6 @@
 use Rattle.race_hall.specs.Race.{count_from}
-use Rattle.race_hall.proofs.Held.{places-held}
-use Rattle.race_hall.proofs.Holding.{looked, looked-can, looked-ends}
+use Rattle.race_hall.proofs.Undelivered.{places-held}
+use Rattle.race_hall.proofs.AfterJoins.{looked, looked-can, looked-ends}
 use Rattle.race_hall.proofs.finish.finish_one.Goals as goal
 
 pub finish_mirror-requires-clause-places : goal.finish_mirror-requires-clause-places

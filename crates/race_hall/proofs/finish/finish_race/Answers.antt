@@ -1,8 +1,8 @@
 use Rattle.std.proofs.Common.{◌<◌, length, arith}
 use Rattle.copy_workers.proofs.Along.{up_to-start, up_to-more}
 use Rattle.race_hall.specs.Finish.{EndsAtFold}
-use Rattle.race_hall.proofs.Looks.{all-sends-same, all-sends-trans}
-use Rattle.race_hall.proofs.Holding.{still-held, done-more}
+use Rattle.link_mesh.proofs.Mesh.{all-sends-same, all-sends-trans}
+use Rattle.race_hall.proofs.AfterJoins.{still-held, done-more}
 use Rattle.race_hall.proofs.finish.finish_race.Goals as goal
 
 pub loop-number-init : goal.loop-number-init

@@ -3,8 +3,8 @@ use Rattle.std.specs.List.{AllZip}
 use Rattle.sync_model.specs.State.{MirrorState}
 use Rattle.copy_workers.specs.Sending.{UpTo}
 use Rattle.race_hall.specs.Finish.{EndsAtFold}
-use Rattle.race_hall.specs.Looking.{SameSends}
-use Rattle.race_hall.specs.Holding.{Holding, AreHeld}
+use Rattle.link_mesh.specs.Mesh.{SameSends}
+use Rattle.race_hall.specs.AfterJoins.{Holding, AreHeld}
 use Rattle.race_hall.proofs.finish.finish_race.Given as goal
 
 abbrev pub invariant-loop-number : goal.invariant-loop-number

@@ -1,5 +1,5 @@
 use Rattle.std.proofs.Common.{◌≡◌, ◌≤◌, ◌++◌, map, length, vec_capacity}
-use Rattle.race_hall.specs.Parting.{sender_of_end}
+use Rattle.race_hall.specs.Undelivered.{sender_of_end}
 use Rattle.race_hall.proofs.finish.part_ends.Given as goal
 
 abbrev pub invariant-loop-end : goal.invariant-loop-end

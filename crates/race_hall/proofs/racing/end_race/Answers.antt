@@ -3,7 +3,7 @@ use Rattle.std.specs.List.{AllByRecursion}
 use Rattle.std.proofs.lemmas.List.{with_items_is}
 use Rattle.race_hall.specs.Race.{Course}
 use Rattle.race_hall.specs.Finish.{EndsAtFold}
-use Rattle.race_hall.specs.Holding.{AreJoined}
+use Rattle.race_hall.specs.AfterJoins.{AreJoined}
 use Rattle.race_hall.specs.Crews.{IsFeederOf}
 use Rattle.race_hall.proofs.Ending.{ready, closed-count, ends-count, each-index}
 use Rattle.race_hall.proofs.racing.end_race.Goals as goal

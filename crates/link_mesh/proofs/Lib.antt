@@ -1,0 +1,3 @@
+pub mod Zips
+pub mod Mesh
+pub mod NewMesh

@@ -1,5 +1,0 @@
-use Rattle.race_hall.proofs.Looks.{one-sent}
-use Rattle.race_hall.proofs.links.look_one.Goals as goal
-
-pub returns-clause-sends : goal.returns-clause-sends
-returns-clause-sends c = one-sent c.args.sends.now c.args.place c.index-sends-place.result c.rest-left.new.send c.rest-left.ensures.sent c.rest-left.ensures.same_send

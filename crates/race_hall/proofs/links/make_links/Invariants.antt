@@ -1,5 +1,0 @@
-use Rattle.race_hall.specs.Making.{AreLinksTo}
-use Rattle.race_hall.proofs.links.make_links.Given as goal
-
-abbrev pub invariant-loop-mirror : goal.invariant-loop-mirror
-invariant-loop-mirror l = AreLinksTo l.mirror l.rooms l.sends.items l.rows.items

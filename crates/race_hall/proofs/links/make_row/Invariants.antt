@@ -1,5 +1,0 @@
-use Rattle.race_hall.specs.Making.{IsRowMade}
-use Rattle.race_hall.proofs.links.make_row.Given as goal
-
-abbrev pub invariant-loop-link : goal.invariant-loop-link
-invariant-loop-link l = IsRowMade l.mirror l.link l.rooms l.fn.sends l.sends l.row.items
