@@ -2,7 +2,7 @@
 
 ghost use Rattle.std.specs.Prelude.{◌≡◌, length, filter, map, OnOk};
 ghost use Rattle.std.specs.List.{AllByRecursion};
-ghost use Rattle.sync_model.specs.Change.{Fits, after, is_change};
+ghost use Rattle.sync_model.specs.Change.{Fits, is_change};
 ghost use Rattle.sync_model.specs.History.{HasRoomAlong};
 ghost use Rattle.sync_model.specs.Turns.{turn, drain, drain_within};
 ghost use Rattle.match_file.specs.Data.{IsScriptLine};
