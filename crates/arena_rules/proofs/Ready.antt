@@ -1,6 +1,7 @@
 -- Pickups that nobody takes.
-use Rattle.std.proofs.Common.{◌≡◌, true, false, Option, None, Some, List, [], ◌∷◌, refl, ap}
+use Rattle.std.proofs.Common.{◌≡◌, ◌==◌, ◌&&◌, ◌+◌, ◌*◌, ◌<◌, ℕ, nat_eq, true, false, Option, None, Some, List, [], ◌∷◌, refl, ap, arith}
 use Rattle.std.specs.List.{list_any}
+use Rattle.std.proofs.lemmas.Bool.Decides.{nat_tests}
 use Rattle.std.specs.Option.{is_some}
 use Rattle.arena_rules.specs.declared.pickup.Kind.{Kind}
 use Rattle.arena_rules.specs.declared.pickup.Pickup.{Pickup}
@@ -37,3 +38,10 @@ ready_kind-none (p ∷ ps) cell none = split (lies_ready cell p) refl (ready_kin
         → ready_kind (p ∷ ps) cell ≡ None
     split true is rest = (let no : true ≡ false = rw is at none in absurd cc)
     split false is rest = rw is (rest (rw is at none))
+
+-- a cell and a wait as one number: equal where the cells are the same and the wait is over
+pub same_number :
+    (x y wait a b : ℕ) → x < 256 → y < 256 → a < 256 → b < 256
+    → nat_eq (x + 256 * y + 16777216 * wait) (a + 256 * b + 16777216 * 0)
+    ≡ (((a == x) && (b == y)) && (wait == 0))
+same_number x y wait a b x_few y_few a_few b_few = grind (arith, nat_tests)

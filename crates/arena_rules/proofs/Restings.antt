@@ -38,6 +38,15 @@ Rests-emptied beats cell = record {
 pub Rests-counted_anew : (beats : ℕ) → Rests beats 1 (counted_anew beats)
 Rests-counted_anew beats = record { stays = λ p. refl; waits = λ p short. omega (arith, short) }
 
+-- a beat later none waits for longer
+pub AreResting-later : (pickups : List Resting) (numbers : List ℕ) (beats : ℕ) → beats + 1 ≤ 4294967275 → AreResting pickups numbers beats → AreResting pickups numbers (beats + 1)
+AreResting-later pickups numbers beats room sound = record {
+  count = sound.count;
+  front = sound.front;
+  waits = All-weaker (λ p. p.until - beats ≤ 20) (λ p. p.until - (beats + 1) ≤ 20) (λ p short. omega (arith, short)) pickups sound.waits;
+  room = room;
+}
+
 -- what is taken, as it is seen
 emptied-seen : (beats : ℕ) (cell : Cell) (p : Resting) → seen_at beats (emptied_at beats cell p) ≡ emptied cell (seen_at beats p)
 emptied-seen beats cell p =

@@ -37,6 +37,10 @@ given player body (Some Ammo) = alive player (record body { ammo = min MOST_AMMO
 given player body (Some Heal) = alive player (record body { health = min MOST_HEALTH (body.health + 1) })
 given player body (Some Gold) = alive (with_gain player) body
 
+-- a pickup doesn't wait
+abbrev pub is_ready : Pickup → Bool
+is_ready pickup = pickup.wait == 0
+
 -- a pickup after a beat: where its wait is above 0, it falls by one
 abbrev pub waited : Pickup → Pickup
 waited pickup = record pickup { wait = pickup.wait - 1 }

@@ -190,6 +190,12 @@ beats-most [] = omega arith
 beats-most (Cmd x ∷ items) = (let more = beats-most items in omega arith)
 beats-most (Beat ∷ items) = (let more = beats-most items in omega arith)
 
+pub replicate-more : {X : Type 0} (v : X) (i : ℕ) → replicate i v ++ v ∷ [] ≡ replicate (i + 1) v
+replicate-more v zero = refl
+replicate-more {X} v (suc i) =
+    (let e : suc i + 1 ≡ suc (i + 1) = omega arith in
+    rw e (ap (λ (l : List X). v ∷ l) (replicate-more v i)))
+
 first-any : (ends : List ℕ) (n : ℕ) → 0 < length ends → end_of (set ends 0 n) 0 ≡ n
 first-any [] n some = absurd (omega arith)
 first-any (e ∷ es) n some = refl

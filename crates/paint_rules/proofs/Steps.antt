@@ -1,10 +1,11 @@
 -- One cell more that is painted in a row of them, and cells in reach.
-use Rattle.std.proofs.Common.{◌≡◌, ℕ, zero, suc, ◌+◌, ◌<◌, ◌≤◌, ◌&&◌, nat_lt, not, true, Some, None, List, ◌∷◌, length, drop, get_or, refl, ap, ◌∙◌, arith}
+use Rattle.std.proofs.Common.{◌≡◌, ℕ, zero, suc, ◌+◌, ◌<◌, ◌≤◌, ◌&&◌, nat_lt, not, true, false, T, nat_abs, ℤ, pos, negsuc, Some, None, List, ◌∷◌, length, drop, get_or, refl, sym, ap, ◌∙◌, arith}
+use Rattle.std.specs.Int.Signed.{non_neg}
 use Rattle.std.specs.Option.{option_map_or}
 use Rattle.std.proofs.lemmas.Bool.{and_parts}
 use Rattle.std.proofs.lemmas.Bool.Decides.{nat_tests}
 use Rattle.std.proofs.lemmas.List.{drop_more, drop_all}
-use Rattle.arena_rules.specs.Ground.{Grid, IsGrid, is_walled, is_open}
+use Rattle.arena_rules.specs.Ground.{Grid, IsGrid, is_walled, is_open, is_free}
 use Rattle.arena_rules.specs.Setup.{spot_cell, pickup_cell}
 use Rattle.arena_rules.specs.Command.{open_ahead}
 use Rattle.arena_rules.specs.declared.pickup.PickupSpot.{PickupSpot}
@@ -25,6 +26,12 @@ is_open-near grid x y sound free =
     let left : x < grid.width = grind (arith, nat_tests, column) in
     let above : y < grid.height = grind (arith, nat_tests, row) in
     (omega (arith, left, wide), omega (arith, above, high))
+
+-- the same of whole numbers that may be negative
+pub is_free-near : (grid : Grid) (x y : ℤ) → IsGrid grid → true ≡ is_free grid x y → (T (non_neg x) × (nat_abs x < 64)) × (T (non_neg y) × (nat_abs y < 64))
+is_free-near grid (pos x) (pos y) sound free = (let near = is_open-near grid x y sound (sym free) in ((tt, near.0), (tt, near.1)))
+is_free-near grid (pos x) (negsuc y) sound free = absurd (let e : true ≡ false = free in cc)
+is_free-near grid (negsuc x) y sound free = absurd (let e : true ≡ false = free in cc)
 
 -- one pickup's cell more
 wiped-cons : (p : PickupSpot) (ps : List PickupSpot) (owners : List ℕ) → wiped (p ∷ ps) owners ≡ wiped ps (painted owners (pickup_cell p) 32)

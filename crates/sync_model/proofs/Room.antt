@@ -60,6 +60,11 @@ unfolding after
 after-same [] s t same = same
 after-same (e ∷ es) s t same = after-same es (next s e) (next t e) (next-same s t e same)
 
+pub answers-same : {W : Type 0} (es : List Event) (s t : MirrorState W) → without_room s ≡ without_room t → answers s es ≡ answers t es
+unfolding answers
+answers-same [] s t same = refl
+answers-same (e ∷ es) s t same = rw (said-same s t e same, answers-same es (next s e) (next t e) (next-same s t e same)) refl
+
 -- ---- what a history says, room left out
 
 same-first : {W : Type 0} (s t : MirrorState W) → SameParts s t → first_state t ≡ first_state s
@@ -94,6 +99,11 @@ reached_kept {W} s e here =
     ∙ ap (λ (t : MirrorState W). without_room t) (sym (after-append (first_state s) s.history (e ∷ [])))
     ∙ ap (λ (t : MirrorState W). without_room (after t (s.history ++ e ∷ []))) (sym (first-next s e)))
     here
+
+pub reached-after : {W : Type 0} (es : List Event) (s : MirrorState W) → IsReached s → IsReached (after s es)
+unfolding after
+reached-after [] s here = here
+reached-after (e ∷ es) s here = reached-after es (next s e) (reached_kept s e here)
 
 -- each event of a history changed its state
 each_changes-append : {W : Type 0} (s : MirrorState W) (es : List Event) (e : Event) → EachChanges s es → changes (after s es) e ≡ true → EachChanges s (es ++ e ∷ [])

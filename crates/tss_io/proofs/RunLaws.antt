@@ -11,6 +11,7 @@ use Rattle.tss_io.specs.Lines.{Lines, torn, line, onto, lines_of}
 use Rattle.tss_io.specs.Kinds.{is_long, fault_of, EachAfter}
 use Rattle.tss_io.specs.Runs.{is_end, at, run, ahead, Follows, stop_at, StopsAt}
 use Rattle.tss_io.specs.Reading.{refused_at}
+use Rattle.tss_io.proofs.Results.{ok_is}
 
 -- what both branches of a test lead to
 pub either : {A P : Type 0} (b : Bool) (x y z : A) → ((b ≡ true) → x ≡ z → P) → ((b ≡ false) → y ≡ z → P) → cond b x y ≡ z → P
@@ -33,6 +34,29 @@ pub at_cases : {S A P : Type 0} (n : ℕ) (r : Result S Cause) (f : S → Result
     → P
 at_cases n (Ok m) f x bad good e = good m refl e
 at_cases n (Err c) f x bad good e = bad c refl e
+
+pub run_takes : {S : Type 0} (take : S → List ℕ → Result S Cause) (is_last : S → Bool) (n : ℕ) (s : S) (lines : Lines) (t : S) → run take is_last n s lines ≡ Ok t → Ran take is_last s lines t
+unfolding run ahead Follows
+run_takes take is_last n s (torn bytes) t e =
+    either (is_last s) _ _ _
+    (λ last e. either (is_end (torn bytes)) _ _ _
+    (λ ended e. record { front = []; whole = is_end_takes (torn bytes) ended; good = cc; last = rw (ok_is {E = Refused} s t e) at last })
+    (λ _ e. absurd cc) e)
+    (λ _ e. absurd cc) e
+run_takes take is_last n s (line l rest) t e =
+    either (is_last s) _ _ _ (λ _ e. absurd cc)
+    (λ not_last e. either (is_long l) _ _ _ (λ _ e. absurd cc)
+    (λ short e. at_cases n (take s l) _ _ (λ c _ e. absurd cc)
+    (λ m m_is e.
+    let r = run_takes take is_last (n + 1) m rest t e in
+    record { front = l ∷ r.front; whole = ap (line l) r.whole; good = (not_last, short, m, m_is, r.good); last = r.last }) e) e) e
+
+pub run_again : {S : Type 0} (take : S → List ℕ → Result S Cause) (is_last : S → Bool) (n : ℕ) (s : S)
+    (front : List (List ℕ)) (t : S) → Follows take is_last s front t → is_last t ≡ true
+    → run take is_last n s (ahead front (torn [])) ≡ Ok t
+unfolding run ahead Follows
+run_again take is_last n s [] t good last = rw (good, last) refl
+run_again take is_last n s (l ∷ front) t good last = rw (good.0, good.1, good.3) (run_again take is_last (n + 1) good.2 front t good.4 last)
 
 -- ---- the first fault
 
@@ -101,6 +125,25 @@ unfolding Follows
 follows_more take is_last a [] b ys c h k = subst (λ (v : _). Follows take is_last v ys c) (sym h) k
 follows_more take is_last a (x ∷ xs) b ys c h k = (h.0, h.1, h.2, h.3, follows_more take is_last h.2 xs b ys c h.4 k)
 
+-- what each line keeps, and what it says more, all lines do
+pub follows_says : {S : Type 0} (take : S → List ℕ → Result S Cause) (is_last : S → Bool) (Is : S → Type 0) (said : S → List (List ℕ))
+    → ((s : S) (l : List ℕ) (t : S) → Is s → take s l ≡ Ok t → (said t ≡ said s ++ l ∷ []) × Is t)
+    → (s : S) (front : List (List ℕ)) (t : S) → Is s → Follows take is_last s front t → (said t ≡ said s ++ front) × Is t
+unfolding Follows
+follows_says take is_last Is said one s [] t is good = (ap said (sym good) ∙ sym (append-nil (said s)), subst Is good is)
+follows_says take is_last Is said one s (l ∷ front) t is good =
+    let k = one s l good.2 is good.3 in
+    let r = follows_says take is_last Is said one good.2 front t k.1 good.4 in
+    (r.0 ∙ ap (λ (x : List (List ℕ)). x ++ front) k.0 ∙ append_assoc (said s) (l ∷ []) front, r.1)
+
+-- what each line keeps, all lines do
+pub follows_keeps : {S : Type 0} (take : S → List ℕ → Result S Cause) (is_last : S → Bool) (Is : S → Type 0)
+    → ((s : S) (l : List ℕ) (t : S) → Is s → take s l ≡ Ok t → Is t) → (s : S) (front : List (List ℕ)) (t : S) → Is s
+    → Follows take is_last s front t → Is t
+unfolding Follows
+follows_keeps take is_last Is one s [] t is good = subst Is good is
+follows_keeps take is_last Is one s (l ∷ front) t is good = follows_keeps take is_last Is one good.2 front t (one s l good.2 is good.3) good.4
+
 -- items, each right behind those before it, follow one another
 pub items_follow : {S A : Type 0} (take : S → List ℕ → Result S Cause) (is_last : S → Bool) (Right : List A → A → Type 0) (written : A → List ℕ) (with_items : List A → S)
     → ((before : List A) (a : A) → Right before a → (is_last (with_items before) ≡ false) × (is_long (written a) ≡ false) × (take (with_items before) (written a) ≡ Ok (with_items (before ++ a ∷ []))))
@@ -159,6 +202,14 @@ at_takes n (Ok t) s e = cc
 at_takes n (Err c) s e = absurd cc
 
 -- ---- the first fault of a text whose lines come one by one
+
+pub later : {S : Type 0} (take : S → List ℕ → Result S Cause) (is_last : S → Bool) (n : ℕ) (s m : S) (l : List ℕ)
+    (rest : Lines) (refused : Refused) → is_last s ≡ false → is_long l ≡ false → take s l ≡ Ok m
+    → StopsAt take is_last (n + 1) m rest refused → StopsAt take is_last n s (line l rest) refused
+unfolding ahead Follows
+later take is_last n s m l rest refused last short e r =
+    let counted = r.number in
+    record { front = l ∷ r.front; met = r.met; rest = r.rest; whole = ap (line l) r.whole; good = (last, short, m, e, r.good); number = omega arith; cause = r.cause }
 
 pub bind_assoc : {A B C E : Type 0} (r : Result A E) (f : A → Result B E) (g : B → Result C E) → ((r >>= f) >>= g) ≡ (r >>= λ x. f x >>= g)
 bind_assoc (Ok x) f g = refl

@@ -7,8 +7,9 @@ use Rattle.std.proofs.lemmas.Bool.Decides.{nat_tests}
 use Rattle.std.proofs.lemmas.Fmt.{decimal_by_steps}
 use Rattle.std.proofs.lemmas.List.Elements.{All-from_recursion}
 use Rattle.std.proofs.lemmas.List.Splits.{slice_split_none, slice_split_at, join_with_byte-slice_split}
-use Rattle.tss_io.specs.Lines.{as_line, line, lines_of, words_of, spaced}
+use Rattle.tss_io.specs.Lines.{as_line, Lines, torn, line, lines_of, text_of, words_of, spaced}
 use Rattle.tss_io.specs.Forms.{is_word_byte, is_word}
+use Rattle.tss_io.specs.Runs.{ahead}
 
 -- ---- words
 
@@ -80,7 +81,22 @@ Lacks-spaced (word ∷ next ∷ words) fit =
 
 -- ---- a text of lines
 
+-- lines without a newline, and nothing behind them
+abbrev pub AreLines : Lines → Type 0
+AreLines (torn bytes) = bytes ≡ []
+AreLines (line l rest) = Lacks 10 l × AreLines rest
+
 pub lines_of-line : (l bytes : List ℕ) → Lacks 10 l → lines_of (as_line l ++ bytes) ≡ line l (lines_of bytes)
 unfolding lines_of
 lines_of-line [] bytes h = refl
 lines_of-line (b ∷ l) bytes h = rw (h.0, lines_of-line l bytes h.1) refl
+
+pub lines_of-text_of : (lines : Lines) → AreLines lines → lines_of (text_of lines) ≡ lines
+unfolding text_of lines_of
+lines_of-text_of (torn bytes) h = rw h refl
+lines_of-text_of (line l rest) h = lines_of-line l (text_of rest) h.0 ∙ ap (line l) (lines_of-text_of rest h.1)
+
+pub AreLines-ahead : (more : List (List ℕ)) (rest : Lines) → AllByRecursion (Lacks 10) more → AreLines rest → AreLines (ahead more rest)
+unfolding ahead
+AreLines-ahead [] rest fit h = h
+AreLines-ahead (l ∷ more) rest fit h = (fit.0, AreLines-ahead more rest fit.1 h)

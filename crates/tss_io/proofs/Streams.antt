@@ -57,6 +57,11 @@ pub Yields-within : (a b : Option (List ℕ)) (p : List ℕ) (limit : ℕ) → Y
 Yields-within (Some a) b p limit gives end le = rw (Yields-all (Some a) b p gives end) at le
 Yields-within None b p limit gives end le = tt
 
+-- nothing is gained
+pub Gains-none : (taken : Option (List ℕ)) → Gains taken [] taken
+Gains-none (Some bytes) = sym (append-nil bytes)
+Gains-none None = tt
+
 -- two pieces that are gained one after the other are one piece
 pub Gains-join : (a b c : Option (List ℕ)) (p q : List ℕ) → Gains a p b → Gains b q c → Gains a (p ++ q) c
 Gains-join (Some a) (Some b) (Some c) p q first then = then ∙ ap (λ (t : List ℕ). t ++ q) first ∙ append_assoc a p q
