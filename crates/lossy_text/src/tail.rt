@@ -44,31 +44,19 @@ pub struct Tail {
 fn is_net_due(stage: Stage) -> bool
     ensures { result ≡ is_net_due stage }
 {
-    match stage {
-        Stage::NetDue => true,
-        Stage::InNet => false,
-        Stage::Done => false,
-    }
+    matches!(stage, Stage::NetDue)
 }
 
 fn is_in_net(stage: Stage) -> bool
     ensures { result ≡ is_in_net stage }
 {
-    match stage {
-        Stage::NetDue => false,
-        Stage::InNet => true,
-        Stage::Done => false,
-    }
+    matches!(stage, Stage::InNet)
 }
 
 fn is_done(stage: Stage) -> bool
     ensures { result ≡ is_done stage }
 {
-    match stage {
-        Stage::NetDue => false,
-        Stage::InNet => false,
-        Stage::Done => true,
-    }
+    matches!(stage, Stage::Done)
 }
 
 // The mirror that the word names.

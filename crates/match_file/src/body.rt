@@ -62,33 +62,21 @@ pub struct Body {
 fn is_open(stage: Stage) -> bool
     ensures { result ≡ is_open stage }
 {
-    match stage {
-        Stage::Open => true,
-        Stage::InScript => false,
-        Stage::Ended => false,
-    }
+    matches!(stage, Stage::Open)
 }
 
 /// Whether the lines stand behind the `script` line, and before the last one.
 pub fn is_script(stage: Stage) -> bool
     ensures { result ≡ is_script stage }
 {
-    match stage {
-        Stage::Open => false,
-        Stage::InScript => true,
-        Stage::Ended => false,
-    }
+    matches!(stage, Stage::InScript)
 }
 
 /// Whether the last line of a match was read.
 pub fn is_ended(stage: Stage) -> bool
     ensures { result ≡ is_ended stage }
 {
-    match stage {
-        Stage::Open => false,
-        Stage::InScript => false,
-        Stage::Ended => true,
-    }
+    matches!(stage, Stage::Ended)
 }
 
 impl Body {

@@ -1,5 +1,5 @@
 -- Events made one after another, and lists of mirrors of which one is changed.
-use Rattle.std.proofs.Common.{◌≡◌, ℕ, zero, suc, ◌+◌, ◌-◌, ◌<◌, ◌≤◌, true, false, cond, List, [], ◌∷◌, ◌++◌, length, get_or, set, take, drop, map, refl, ap, ◌∙◌, arith}
+use Rattle.std.proofs.Common.{◌≡◌, ℕ, zero, suc, ◌+◌, ◌-◌, ◌<◌, ◌≤◌, true, false, cond, List, [], ◌∷◌, length, get_or, set, refl, ap, arith}
 use Rattle.std.specs.Prelude.{Result, Ok, Err, OnErr}
 use Rattle.game_trait.specs.declared.event.Event.{Event}
 use Rattle.game_trait.specs.declared.event.Event.TheVariants.{Tick, Arrive, Step, Restagger}
@@ -55,30 +55,6 @@ unfolding told_at
 told_at-get g i [] d below = absurd (omega arith)
 told_at-get g zero (x ∷ xs) d below = refl
 told_at-get g (suc i) (x ∷ xs) d below = told_at-get g i xs d (omega arith)
-
--- behind the element that is changed all stays
-drop-set : {X : Type 0} (xs : List X) (i : ℕ) (y : X) → drop (suc i) (set xs i y) ≡ drop (suc i) xs
-drop-set [] i y = refl
-drop-set (x ∷ xs) zero y = refl
-drop-set (x ∷ xs) (suc i) y = drop-set xs i y
-
-pub drop-set_more : {X : Type 0} (xs ys : List X) (i : ℕ) (y : X) → ys ≡ set xs i y → drop (i + 1) ys ≡ drop (i + 1) xs
-drop-set_more xs ys i y made = (let n : i + 1 ≡ suc i = omega arith in rw (made, n) (drop-set xs i y))
-
--- one element after the other becomes what f makes of it
-map-next :
-    {X : Type 0} (f : X → X) (d : X) (xs : List X) (i : ℕ) → i < length xs
-    → take (suc i) (set xs i (f (get_or xs i d))) ++ map f (drop (suc i) xs) ≡ take i xs ++ map f (drop i xs)
-map-next f d [] i below = absurd (omega arith)
-map-next f d (x ∷ xs) zero below = refl
-map-next f d (x ∷ xs) (suc i) below = ap (λ (zs : List _). x ∷ zs) (map-next f d xs i (omega arith))
-
-pub map-more :
-    {X : Type 0} (f : X → X) (xs ys : List X) (i : ℕ) (d : X) → i < length xs → ys ≡ set xs i (f (get_or xs i d))
-    → take (i + 1) ys ++ map f (drop (i + 1) ys) ≡ take i xs ++ map f (drop i xs)
-map-more f xs ys i d below made =
-    (let n : i + 1 ≡ suc i = omega arith in
-    rw (made, n) (ap (λ (zs : List _). take (suc i) (set xs i (f (get_or xs i d))) ++ map f zs) (drop-set xs i (f (get_or xs i d))) ∙ map-next f d xs i below))
 
 -- ---- answers
 

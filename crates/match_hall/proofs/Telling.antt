@@ -24,9 +24,7 @@ use Rattle.watch_board.specs.Told.{AreTold}
 use Rattle.watch_board.proofs.Told.{AreTold-none, AreTold-more}
 use Rattle.match_hall.specs.Script.{mirror_of, names, events_of, after_line, after_lines, arrives_at, restaggers_at, opening_mirror}
 use Rattle.match_hall.specs.Notes.{note_of, notes_from, notes_of, notes_where, notes_with, IsToldOn}
-use Rattle.match_hall.specs.Waiting.{AreWaiting}
 use Rattle.match_hall.proofs.OnWay.{OnWay, line-fits, line-room, way-line, way-other}
-use Rattle.match_hall.proofs.Waiting.{waiting-none, waiting-append, line-behind}
 
 -- ---- notes
 
@@ -129,16 +127,6 @@ pub told_with-changed :
 told_with-changed number es rs i d q old now new before between after below same changed first second =
     told_with-more number es rs i d q ((record { mirror = number; event = get_or es i d; reply = get_or rs i q }) ∷ []) old now new before between after below same (rw changed refl) first second
 
--- all
-pub told_with-all :
-    (number : ℕ) (es : List Event) (rs : List Reply) (i : ℕ) (old new : List Behaviour) (before after : List ℕ)
-    → length es ≤ i → length rs ≡ length es → AreTold (notes_with number (take i es) (take i rs)) old new before after
-    → AreTold (notes_with number es rs) old new before after
-told_with-all number es rs i old new before after past same told =
-    subst (λ (ns : List Note). AreTold ns old new before after)
-    (ap (λ (fs : List Event). notes_with number fs (take i rs)) (take_all i es past) ∙ ap (λ (qs : List Reply). notes_with number es qs) (take_all i rs (omega arith)))
-    told
-
 -- ---- a mirror that came from one state to another
 
 -- nothing happened
@@ -185,42 +173,39 @@ one-named number l h = rw h refl
 none-named : (number : ℕ) (l : ScriptLine) → names number l ≡ false → filter (names number) (l ∷ []) ≡ []
 none-named number l h = rw h refl
 
--- how far the mirror of this number has come along a front of the script, of which events may wait, and what watchers were told meanwhile
+-- how far the mirror of this number has come along a front of the script, and what watchers were told meanwhile
 pub record IsToldTo {W : Type 0} (m : MatchData) (number : ℕ) (script : List ScriptLine) (i : ℕ)
-    (begun s : MirrorState W) (es : List Event) (old new : List Behaviour) (before after : List ℕ) : Type 0 where
+    (begun s : MirrorState W) (old new : List Behaviour) (before after : List ℕ) : Type 0 where
   pub all : script ≡ m.script
   pub opening : W
-  pub way : OnWay m opening number (drop i script) (after_events s es)
-  pub state : after_events s es ≡ after_lines m.commands (filter (names number) (take i script)) begun
-  pub waiting : AreWaiting s es
+  pub way : OnWay m opening number (drop i script) s
+  pub state : s ≡ after_lines m.commands (filter (names number) (take i script)) begun
   pub told : IsToldOn number begun s old new before after
 
 -- before the first line
 pub told_to-none :
-    {W : Type 0} (m : MatchData) (number : ℕ) (script : List ScriptLine) (s : MirrorState W) (es : List Event) (ws : List Behaviour) (out : List ℕ) → script ≡ m.script
-    → es ≡ [] → (opening : W) × (s ≡ opening_mirror opening m number) → IsToldTo m number script 0 s s es ws ws out out
+    {W : Type 0} (m : MatchData) (number : ℕ) (script : List ScriptLine) (s : MirrorState W) (ws : List Behaviour) (out : List ℕ) → script ≡ m.script
+    → (opening : W) × (s ≡ opening_mirror opening m number) → IsToldTo m number script 0 s s ws ws out out
 unfolding after_events after_lines times
-told_to-none {W} m number script s es ws out all none begun =
-    let same : after_events s es ≡ s = ap (after_events s) none in
-    record {
-      all = all;
-      opening = begun.0;
-      way = record {
-        es = [];
-        reached = same ∙ begun.1;
-        named = tt;
-        arrivals = (let same = ap (λ (ls : List ScriptLine). times (arrives_at number) ls) all in omega arith);
-        restaggers = (let same = ap (λ (ls : List ScriptLine). times (restaggers_at number) ls) all in omega arith);
-      };
-      state = same;
-      waiting = waiting-none s es none;
-      told = told-nothing number s ws out;
-    }
+told_to-none {W} m number script s ws out all begun = record {
+  all = all;
+  opening = begun.0;
+  way = record {
+    es = [];
+    reached = begun.1;
+    named = tt;
+    arrivals = (let same = ap (λ (ls : List ScriptLine). times (arrives_at number) ls) all in omega arith);
+    restaggers = (let same = ap (λ (ls : List ScriptLine). times (restaggers_at number) ls) all in omega arith);
+  };
+  state = refl;
+  told = told-nothing number s ws out;
+}
 
 -- what the next line finds, where it names the mirror
-pub record IsOwnLine {W : Type 0} (m : MatchData) (l : ScriptLine) (s : MirrorState W) (es : List Event) : Type 0 where
+pub record IsOwnLine {W : Type 0} (m : MatchData) (l : ScriptLine) (s : MirrorState W) : Type 0 where
   pub line : IsScriptLine m l
-  pub waiting : AreWaiting s (es ++ events_of m.commands (length s.runs) l)
+  pub fits : AllByRecursion (Fits s) (events_of m.commands (length s.runs) l)
+  pub room : HasRoomAlong s (events_of m.commands (length s.runs) l)
 
 -- a line of the script is one of the match
 script-line : (m : MatchData) (script : List ScriptLine) (i : ℕ) (d : ScriptLine) → IsMatch m → script ≡ m.script → i < length script → IsScriptLine m (get_or script i d)
@@ -230,44 +215,39 @@ script-line m script i d sound all below =
 
 -- the way of the mirror that the next line names
 own-way :
-    {W : Type 0} (m : MatchData) (opening : W) (number : ℕ) (script : List ScriptLine) (i : ℕ) (u : MirrorState W) (d : ScriptLine)
-    → i < length script → names number (get_or script i d) ≡ true → OnWay m opening number (drop i script) u
-    → OnWay m opening (mirror_of (get_or script i d)) (get_or script i d ∷ drop (i + 1) script) u
-own-way {W} m opening number script i u d below named way =
-    subst (λ (n : ℕ). OnWay m opening n (get_or script i d ∷ drop (i + 1) script) u) (sym (eqb-true (mirror_of (get_or script i d)) number named))
-    (subst (λ (ls : List ScriptLine). OnWay m opening number ls u) (drop_more script i d below) way)
+    {W : Type 0} (m : MatchData) (opening : W) (number : ℕ) (script : List ScriptLine) (i : ℕ) (s : MirrorState W) (d : ScriptLine)
+    → i < length script → names number (get_or script i d) ≡ true → OnWay m opening number (drop i script) s
+    → OnWay m opening (mirror_of (get_or script i d)) (get_or script i d ∷ drop (i + 1) script) s
+own-way {W} m opening number script i s d below named way =
+    subst (λ (n : ℕ). OnWay m opening n (get_or script i d ∷ drop (i + 1) script) s) (sym (eqb-true (mirror_of (get_or script i d)) number named))
+    (subst (λ (ls : List ScriptLine). OnWay m opening number ls s) (drop_more script i d below) way)
 
 pub own-line :
-    {W : Type 0} (m : MatchData) (number : ℕ) (script : List ScriptLine) (i : ℕ) (begun s : MirrorState W) (es : List Event) (old new : List Behaviour) (before after : List ℕ) (d : ScriptLine)
-    → IsMatch m → i < length script → names number (get_or script i d) ≡ true → IsToldTo m number script i begun s es old new before after
-    → IsOwnLine m (get_or script i d) s es
-own-line {W} m number script i begun s es old new before after d sound below named told =
+    {W : Type 0} (m : MatchData) (number : ℕ) (script : List ScriptLine) (i : ℕ) (begun s : MirrorState W) (old new : List Behaviour) (before after : List ℕ) (d : ScriptLine)
+    → IsMatch m → i < length script → names number (get_or script i d) ≡ true → IsToldTo m number script i begun s old new before after
+    → IsOwnLine m (get_or script i d) s
+own-line {W} m number script i begun s old new before after d sound below named told =
     let l = get_or script i d in
-    let u = after_events s es in
     let here = script-line m script i d sound told.all below in
-    let way = own-way m told.opening number script i u d below named told.way in
-    let same = line-behind m.commands l s es in
+    let way = own-way m told.opening number script i s d below named told.way in
     record {
       line = here;
-      waiting = waiting-append s es (events_of m.commands (length s.runs) l) told.waiting
-          (subst (AllByRecursion (Fits u)) same (line-fits m told.opening l (drop (i + 1) script) u sound here way))
-          (subst (HasRoomAlong u) same (line-room m told.opening l (drop (i + 1) script) u way));
+      fits = line-fits m told.opening l (drop (i + 1) script) s sound here way;
+      room = line-room m told.opening l (drop (i + 1) script) s way;
     }
 
 -- a line that names the mirror
 pub told_to-own :
-    {W : Type 0} (m : MatchData) (number : ℕ) (script : List ScriptLine) (i : ℕ) (begun s t : MirrorState W) (es fs : List Event) (old now new : List Behaviour) (before between after : List ℕ)
-    (d : ScriptLine)
-    → IsMatch m → i < length script → names number (get_or script i d) ≡ true → IsToldTo m number script i begun s es old now before between
-    → after_events t fs ≡ after_line m.commands (get_or script i d) (after_events s es) → AreWaiting t fs → IsToldOn number s t now new between after
-    → IsToldTo m number script (i + 1) begun t fs old new before after
+    {W : Type 0} (m : MatchData) (number : ℕ) (script : List ScriptLine) (i : ℕ) (begun s t : MirrorState W) (old now new : List Behaviour) (before between after : List ℕ) (d : ScriptLine)
+    → IsMatch m → i < length script → names number (get_or script i d) ≡ true → IsToldTo m number script i begun s old now before between
+    → t ≡ after_line m.commands (get_or script i d) s → IsToldOn number s t now new between after
+    → IsToldTo m number script (i + 1) begun t old new before after
 unfolding after_lines
-told_to-own {W} m number script i begun s t es fs old now new before between after d sound below named told made waiting more =
+told_to-own {W} m number script i begun s t old now new before between after d sound below named told made more =
     let l = get_or script i d in
-    let u = after_events s es in
     let here = script-line m script i d sound told.all below in
-    let way = own-way m told.opening number script i u d below named told.way in
-    let on = way-line m told.opening l (drop (i + 1) script) u here way in
+    let way = own-way m told.opening number script i s d below named told.way in
+    let on = way-line m told.opening l (drop (i + 1) script) s here way in
     let lines : filter (names number) (take (i + 1) script) ≡ filter (names number) (take i script) ++ l ∷ [] =
     ap (filter (names number)) (take_at_read script i d below).1 ∙ filter-append (names number) (take i script) (l ∷ [])
     ∙ ap (λ (ls : List ScriptLine). filter (names number) (take i script) ++ ls) (one-named number l named) in
@@ -275,40 +255,37 @@ told_to-own {W} m number script i begun s t es fs old now new before between aft
       all = told.all;
       opening = told.opening;
       way = subst (λ (v : MirrorState W). OnWay m told.opening number (drop (i + 1) script) v) (sym made)
-          (subst (λ (n : ℕ). OnWay m told.opening n (drop (i + 1) script) (after_line m.commands l u)) (eqb-true (mirror_of l) number named) on);
+          (subst (λ (n : ℕ). OnWay m told.opening n (drop (i + 1) script) (after_line m.commands l s)) (eqb-true (mirror_of l) number named) on);
       state =
           made ∙ ap (after_line m.commands l) told.state
           ∙ sym (after_lines-append m.commands (filter (names number) (take i script)) (l ∷ []) begun)
           ∙ ap (λ (ls : List ScriptLine). after_lines m.commands ls begun) (sym lines);
-      waiting = waiting;
       told = told-more number begun s t old now new before between after told.told more;
     }
 
 -- a line that names another
 pub told_to-other :
-    {W : Type 0} (m : MatchData) (number : ℕ) (script : List ScriptLine) (i : ℕ) (begun s : MirrorState W) (es : List Event) (old new : List Behaviour) (before after : List ℕ) (d : ScriptLine)
-    → i < length script → names number (get_or script i d) ≡ false → IsToldTo m number script i begun s es old new before after
-    → IsToldTo m number script (i + 1) begun s es old new before after
-told_to-other {W} m number script i begun s es old new before after d below named told =
+    {W : Type 0} (m : MatchData) (number : ℕ) (script : List ScriptLine) (i : ℕ) (begun s : MirrorState W) (old new : List Behaviour) (before after : List ℕ) (d : ScriptLine)
+    → i < length script → names number (get_or script i d) ≡ false → IsToldTo m number script i begun s old new before after
+    → IsToldTo m number script (i + 1) begun s old new before after
+told_to-other {W} m number script i begun s old new before after d below named told =
     let l = get_or script i d in
-    let u = after_events s es in
     let lines : filter (names number) (take (i + 1) script) ≡ filter (names number) (take i script) =
     ap (filter (names number)) (take_at_read script i d below).1 ∙ filter-append (names number) (take i script) (l ∷ [])
     ∙ ap (λ (ls : List ScriptLine). filter (names number) (take i script) ++ ls) (none-named number l named) ∙ append-nil (filter (names number) (take i script)) in
     record {
       all = told.all;
       opening = told.opening;
-      way = way-other m told.opening number l (drop (i + 1) script) u
-          (subst (λ (ls : List ScriptLine). OnWay m told.opening number ls u) (drop_more script i d below) told.way);
+      way = way-other m told.opening number l (drop (i + 1) script) s
+          (subst (λ (ls : List ScriptLine). OnWay m told.opening number ls s) (drop_more script i d below) told.way);
       state = told.state ∙ ap (λ (ls : List ScriptLine). after_lines m.commands ls begun) (sym lines);
-      waiting = told.waiting;
       told = told.told;
     }
 
--- no line is left, and what waits is made
+-- no line is left
 pub told_to-all :
-    {W : Type 0} (m : MatchData) (number : ℕ) (script : List ScriptLine) (i : ℕ) (begun s t : MirrorState W) (es : List Event) (old new : List Behaviour) (before after : List ℕ)
-    → length script ≤ i → IsToldTo m number script i begun s es old new before after → t ≡ after_events s es
-    → t ≡ after_lines m.commands (filter (names number) m.script) begun
-told_to-all m number script i begun s t es old new before after past told made =
-    made ∙ told.state ∙ ap (λ (ls : List ScriptLine). after_lines m.commands (filter (names number) ls) begun) (take_all i script past ∙ told.all)
+    {W : Type 0} (m : MatchData) (number : ℕ) (script : List ScriptLine) (i : ℕ) (begun s : MirrorState W) (old new : List Behaviour) (before after : List ℕ)
+    → length script ≤ i → IsToldTo m number script i begun s old new before after
+    → s ≡ after_lines m.commands (filter (names number) m.script) begun
+told_to-all m number script i begun s old new before after past told =
+    told.state ∙ ap (λ (ls : List ScriptLine). after_lines m.commands (filter (names number) ls) begun) (take_all i script past ∙ told.all)

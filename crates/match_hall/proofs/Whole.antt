@@ -1,12 +1,10 @@
 -- A match that is played: its mirrors and its text, part by part.
 use Rattle.std.proofs.Common.{◌≡◌, ◌≤◌, ℕ, zero, suc, List, [], ◌∷◌, length, refl, ap, ◌∙◌, arith}
-use Rattle.std.proofs.lemmas.List.{length-map}
 use Rattle.game_trait.specs.declared.command.Command.{Command}
 use Rattle.sync_model.specs.State.{MirrorState}
-use Rattle.sync_model.specs.Turns.{drain}
 use Rattle.match_file.specs.Data.{MatchData, IsMatch}
 use Rattle.match_file.specs.declared.script_line.ScriptLine.{ScriptLine}
-use Rattle.match_hall.specs.Script.{changed_at, after_line, mirror_of, after_script, opening_mirrors, scripted, played}
+use Rattle.match_hall.specs.Script.{changed_at, after_line, mirror_of, after_script, opening_mirrors}
 use Rattle.match_hall.proofs.OnWay.{all-opening}
 
 -- ---- how many mirrors there are
@@ -28,13 +26,3 @@ opened-count opening m = (all-opening m opening).count
 
 pub opened-few : {W : Type 0} (opening : W) (m : MatchData) → IsMatch m → length (opening_mirrors opening m) ≤ 8
 opened-few opening m sound = (let count = (all-opening m opening).count in let few = sound.mirrors.1 in omega arith)
-
-pub scripted-few : {W : Type 0} (opening : W) (m : MatchData) → IsMatch m → length (scripted opening m) ≤ 8
-scripted-few opening m sound =
-    (let script = after_script-count m.commands m.script (opening_mirrors opening m) in
-    let count = (all-opening m opening).count in
-    let few = sound.mirrors.1 in
-    omega arith)
-
-pub played-few : {W : Type 0} (opening : W) (m : MatchData) → IsMatch m → length (played opening m) ≤ 8
-played-few {W} opening m sound = (let same = length-map (scripted opening m) (λ (s : MirrorState W). drain s) in let few = scripted-few opening m sound in omega arith)

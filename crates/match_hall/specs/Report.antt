@@ -14,7 +14,7 @@ use Rattle.match_file.specs.declared.script_line.ScriptLine.{ScriptLine}
 use Rattle.match_file.specs.declared.script_line.ScriptLine.TheVariants as lines
 use Rattle.report_text.specs.Replies.{repair_line, tick_text, arrival_text, step_text}
 use Rattle.report_text.specs.Mirrors.{mirror_line, run_line}
-pub use Rattle.report_text.specs.Worlds.{Showing, copy_block}
+pub use Rattle.report_text.specs.Worlds.{Showing, showing, copy_block}
 use Rattle.report_text.specs.Ends.{done_line}
 use Rattle.match_hall.specs.Script.{mirror_of, after_line, replies_to, changed_at, told_at, opening_mirrors, scripted, played}
 

@@ -11,7 +11,7 @@ ghost use Rattle.game_trait.specs.declared.limits.TheConstants.{MOST_ROOM};
 ghost use Rattle.sync_model.specs.State.{opening_state};
 ghost use Rattle.match_hall.specs.Script.{all_plans, mirror_of, changed_at, told_at, events_of, after_line, after_script, opening_mirrors, log_of, logs_from};
 ghost use Rattle.match_hall.specs.Ready.{IsReady};
-ghost use Rattle.match_hall.specs.Report.{Showing, line_text, script_text, drains_text, mirrors_text, lines_of_mirrors};
+ghost use Rattle.match_hall.specs.Report.{showing, line_text, script_text, drains_text, mirrors_text, lines_of_mirrors};
 ghost use Rattle.match_hall.specs.Stops.{IsStoppedScript, IsStoppedDraining, IsFrontPut};
 ghost use Rattle.match_hall.specs.Notes.{notes_of_all};
 ghost use Rattle.watch_board.specs.Told.{AreTold};
@@ -66,8 +66,7 @@ fn play_line<G: Game + Shown>(
     requires room { HasRoomAlong mirror.old
         (events_of m.now.commands (length mirror.old.runs) line.now) }
     ensures state { mirror.new ≡ after_line m.now.commands line.now mirror.old }
-    ensures ok { let show : Showing G =
-        record { rules = G.rules; lines = G.lines; names = m.now.names } in
+    ensures ok { let show = showing G.rules G.lines m.now.names in
         OnOk result (out.new.items
         ≡ out.old.items ++ line_text show m.now.commands line.now mirror.old) }
     ensures err { OnErr result (out.new.items ≡ out.old.items) }
@@ -107,12 +106,10 @@ fn play_script<G: Game + Shown>(
     ensures count { length mirrors.new.items ≡ length mirrors.old.items }
     ensures state { OnOk result (mirrors.new.items
         ≡ after_script m.now.commands mirrors.old.items m.now.script) }
-    ensures text { let show : Showing G =
-        record { rules = G.rules; lines = G.lines; names = m.now.names } in
+    ensures text { let show = showing G.rules G.lines m.now.names in
         OnOk result (out.new.items ≡ out.old.items
         ++ script_text show m.now.commands mirrors.old.items m.now.script) }
-    ensures stopped { let show : Showing G =
-        record { rules = G.rules; lines = G.lines; names = m.now.names } in
+    ensures stopped { let show = showing G.rules G.lines m.now.names in
         OnErr result (IsStoppedScript show m.now mirrors.old.items mirrors.new.items
         out.old.items out.new.items) }
 {
@@ -177,11 +174,9 @@ fn push_mirrors<G: Game + Shown>(
 ) -> Result<(), NoMemory>
     requires few { length mirrors.now ≤ 8 }
     requires drained { AllByRecursion (λ s. IsDrained s) mirrors.now }
-    ensures ok { let show : Showing G =
-        record { rules = G.rules; lines = G.lines; names = roster.now } in
+    ensures ok { let show = showing G.rules G.lines roster.now in
         OnOk result (out.new.items ≡ out.old.items ++ mirrors_text show 0 mirrors.now) }
-    ensures err { let show : Showing G =
-        record { rules = G.rules; lines = G.lines; names = roster.now } in
+    ensures err { let show = showing G.rules G.lines roster.now in
         OnErr result (IsFrontPut out.old.items out.new.items (mirrors_text show 0 mirrors.now)) }
 {
     let mut number: MirrorId = 0;
@@ -274,8 +269,7 @@ impl<G: Game + Shown> Hall<G> {
         requires { IsReady m.now line.now self.old }
         ensures state { self.new
             ≡ changed_at (after_line m.now.commands line.now) (mirror_of line.now) self.old }
-        ensures ok { let show : Showing G =
-            record { rules = G.rules; lines = G.lines; names = m.now.names } in
+        ensures ok { let show = showing G.rules G.lines m.now.names in
             OnOk result (out.new.items ≡ out.old.items
             ++ told_at (line_text show m.now.commands line.now) (mirror_of line.now) self.old) }
         ensures err { OnErr result (out.new.items ≡ out.old.items) }
@@ -292,12 +286,10 @@ impl<G: Game + Shown> Hall<G> {
         requires opened { (opening : G) × (self.old ≡ opening_mirrors opening m.now) }
         ensures count { length self.new ≡ length self.old }
         ensures state { OnOk result (self.new ≡ after_script m.now.commands self.old m.now.script) }
-        ensures text { let show : Showing G =
-            record { rules = G.rules; lines = G.lines; names = m.now.names } in
+        ensures text { let show = showing G.rules G.lines m.now.names in
             OnOk result (out.new.items
             ≡ out.old.items ++ script_text show m.now.commands self.old m.now.script) }
-        ensures stopped { let show : Showing G =
-            record { rules = G.rules; lines = G.lines; names = m.now.names } in
+        ensures stopped { let show = showing G.rules G.lines m.now.names in
             OnErr result (IsStoppedScript show m.now self.old self.new
             out.old.items out.new.items) }
     {
@@ -343,11 +335,9 @@ impl<G: Game + Shown> Hall<G> {
     /// that.
     pub fn show(&self, roster: &Roster, out: &mut Vec<u8>) -> Result<(), NoMemory>
         requires { AllByRecursion (λ s. IsDrained s) self.now }
-        ensures ok { let show : Showing G =
-            record { rules = G.rules; lines = G.lines; names = roster.now } in
+        ensures ok { let show = showing G.rules G.lines roster.now in
             OnOk result (out.new.items ≡ out.old.items ++ mirrors_text show 0 self.now) }
-        ensures err { let show : Showing G =
-            record { rules = G.rules; lines = G.lines; names = roster.now } in
+        ensures err { let show = showing G.rules G.lines roster.now in
             OnErr result (IsFrontPut out.old.items out.new.items (mirrors_text show 0 self.now)) }
     {
         push_mirrors(self.mirrors.as_slice(), roster, out)

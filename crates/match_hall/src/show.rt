@@ -6,7 +6,7 @@ ghost use Rattle.sync_model.specs.Turns.{IsDrained};
 ghost use Rattle.report_text.specs.Mirrors.{run_line};
 ghost use Rattle.match_file.specs.declared.script_line.ScriptLine.TheVariants.{Turn};
 ghost use Rattle.match_hall.specs.Stops.{IsFrontPut};
-ghost use Rattle.match_hall.specs.Report.{Showing, run_of, copy_block, copy_blocks, replies_text, line_of_mirror};
+ghost use Rattle.match_hall.specs.Report.{showing, run_of, copy_block, copy_blocks, replies_text, line_of_mirror};
 
 use arena_rules::{Roster, Shown};
 use game_trait::{Arrived, Game, MirrorId, Reply, Stepped};
@@ -63,8 +63,7 @@ pub fn push_copy<G: Game + Shown, M: Mirrored<G>>(
     roster: &Roster,
 ) -> Result<(), NoMemory>
     requires { copy < length (M.state mirror.now).runs }
-    ensures ok { let show : Showing G =
-        record { rules = G.rules; lines = G.lines; names = roster.now } in
+    ensures ok { let show = showing G.rules G.lines roster.now in
         OnOk result (out.new.items ≡ out.old.items
         ++ copy_block show number (M.state mirror.now).opening copy
         (run_of (M.state mirror.now) copy)) }
@@ -152,8 +151,7 @@ fn push_live_copy<G: Game + Shown>(
 ) -> Result<(), NoMemory>
     requires there { copy < length mirror.now.runs }
     requires drained { IsDrained mirror.now }
-    ensures ok { let show : Showing G =
-        record { rules = G.rules; lines = G.lines; names = roster.now } in
+    ensures ok { let show = showing G.rules G.lines roster.now in
         OnOk result (out.new.items ≡ out.old.items
         ++ copy_block show number mirror.now.opening copy (run_of mirror.now copy)) }
     ensures err { OnErr result (out.new.items ≡ out.old.items) }
@@ -172,13 +170,11 @@ pub fn push_mirror<G: Game + Shown>(
     roster: &Roster,
 ) -> Result<(), NoMemory>
     requires { IsDrained mirror.now }
-    ensures ok { let show : Showing G =
-        record { rules = G.rules; lines = G.lines; names = roster.now } in
+    ensures ok { let show = showing G.rules G.lines roster.now in
         OnOk result (out.new.items ≡ out.old.items
         ++ (line_of_mirror number mirror.now
         ++ copy_blocks show number mirror.now.opening 0 mirror.now.runs)) }
-    ensures err { let show : Showing G =
-        record { rules = G.rules; lines = G.lines; names = roster.now } in
+    ensures err { let show = showing G.rules G.lines roster.now in
         OnErr result (IsFrontPut out.old.items out.new.items
         (line_of_mirror number mirror.now
         ++ copy_blocks show number mirror.now.opening 0 mirror.now.runs)) }

@@ -12,6 +12,10 @@ pub record Showing (W : Type 0) : Type 0 where
   pub lines : W → List (List ℕ) → List ℕ
   pub names : List (List ℕ)
 
+abbrev pub showing : {W : Type 0} → Rules W → (W → List (List ℕ) → List ℕ) → List (List ℕ)
+    → Showing W
+showing rules lines names = record { rules = rules; lines = lines; names = names }
+
 -- a block: a head line of these words, and the lines of a world with the players' names
 abbrev pub block_text : {W : Type 0} → (W → List (List ℕ) → List ℕ) → List (List ℕ) → List (List ℕ)
     → W → List ℕ

@@ -18,8 +18,7 @@ use Rattle.run_recorder.specs.declared.race_record.RaceRecord.{RaceRecord}
 use Rattle.run_recorder.specs.Data.{EachNumbered, IsEventOf, IsLogOf, AreWorldsOf, IsRecord}
 use Rattle.run_auditor.specs.declared.verdict.Verdict.{Verdict}
 use Rattle.run_auditor.specs.declared.verdict.Verdict.TheVariants.{Legal, NotLegal}
-use Rattle.run_auditor.specs.declared.walk.Walked.{Walked}
-use Rattle.run_auditor.specs.declared.walk.Walked.TheVariants.{Note, End, Stuck}
+use Rattle.run_auditor.specs.declared.walk.Walked.TheVariants.{Note}
 use Rattle.run_auditor.specs.declared.why.Fault.{Fault}
 use Rattle.run_auditor.specs.declared.why.Why.{Why}
 use Rattle.run_auditor.specs.declared.why.Why.TheVariants as whys
@@ -30,9 +29,6 @@ use Rattle.report_text.specs.Worlds.{Showing, copy_block}
 use Rattle.sync_model.specs.Drafts.{run_of}
 
 -- ---- a walk
-
-pub went_nowhere : {W : Type 0} (w : LogWalk W) → WentOn w w
-went_nowhere w = record { number = refl; begun = refl; log = refl }
 
 went_further : {W : Type 0} (w v : LogWalk W) (e : Event) (es : List Event) → v.left ≡ e ∷ es → changes v.mirror e ≡ true → WentOn w v → WentOn w (record v { mirror = next v.mirror e; left = es })
 went_further w v e es left changed on =
@@ -53,28 +49,6 @@ note_moves w v (x ∷ xs) note here e on =
       | Some why ↦ λ some e. absurd cc
     ] refl e
 
-pub end_stays : {W : Type 0} (w v : LogWalk W) (left : List Event) → v.left ≡ left → told_next v left ≡ End → WentOn w v → WentOn w (moved_on v left) × Stopped (moved_on v left) None
-end_stays w v [] here e on = (on, here)
-end_stays w v (x ∷ xs) here e on =
-    elim (why_of (said v.mirror x)) as (λ o. told_of_event v x o ≡ End → WentOn w (moved v x xs o) × Stopped (moved v x xs o) None) [
-      | None ↦ λ e. absurd cc
-      | Some why ↦ λ e. absurd cc
-    ] e
-
-same_stuck : (a b : ℕ) (x y : Why) → ◌≡◌ {A = Walked} (Stuck a x) (Stuck b y) → (b ≡ a) × (x ≡ y)
-same_stuck a b x y e = (cc, cc)
-
-pub stuck_stays : {W : Type 0} (w v : LogWalk W) (left : List Event) (place : ℕ) (why : Why) → v.left ≡ left
-    → told_next v left ≡ Stuck place why → WentOn w v → WentOn w (moved_on v left)
-    × Stopped (moved_on v left) (Some (record { place = place; why = why }))
-stuck_stays w v [] place why here e on = absurd cc
-stuck_stays w v (x ∷ xs) place why here e on =
-    elim (why_of (said v.mirror x)) as (λ o. why_of (said v.mirror x) ≡ o → told_of_event v x o ≡ Stuck place why
-    → WentOn w (moved v x xs o) × Stopped (moved v x xs o) (Some (record { place = place; why = why }))) [
-      | None ↦ λ none e. absurd cc
-      | Some cause ↦ λ some e. let same = same_stuck (length v.mirror.history) place cause why e in (on, (x, xs, here, same.0, some ∙ ap Some same.1))
-    ] refl e
-
 -- ---- the worlds of a mirror
 
 pub other_bytes : (a b : List ℕ) → bytes_eq a b ≡ false → a ≡ b → ⊥
@@ -85,9 +59,6 @@ pub record ItemsOn {A : Type 0} (Is : ℕ → A → Type 0) (n : ℕ) (rest all 
   pub right : EachNumbered Is n rest → EachNumbered Is 0 all
   pub wrong : (place : ℕ) → IsFirstWrong Is n rest place → IsFirstWrong Is 0 all place
   pub count : n + length rest ≡ length all
-
-pub items_begin : {A : Type 0} (Is : ℕ → A → Type 0) (all : List A) → ItemsOn Is 0 all all
-items_begin Is all = record { right = λ h. h; wrong = λ p h. h; count = omega arith }
 
 pub items_next : {A : Type 0} (Is : ℕ → A → Type 0) (n : ℕ) (rest more all : List A) (a : A) → rest ≡ a ∷ more → Is n a → ItemsOn Is n rest all → ItemsOn Is (n + 1) more all
 unfolding EachNumbered IsFirstWrong
@@ -259,15 +230,6 @@ pub mirrors_end : {W : Type 0} (show : Showing W) (opening : W) (m : MatchData) 
 unfolding AllRight event_count
 mirrors_end show opening m [] worlds all_logs all_worlds events none on = let counted = on.counted in (on.right tt, omega arith)
 mirrors_end show opening m (log ∷ logs) worlds all_logs all_worlds events none on = absurd (omega arith)
-
-pub mirrors_short : {W : Type 0} (show : Showing W) (opening : W) (m : MatchData) (logs others : List MirrorLog)
-    (worlds : List (List (List ℕ))) (log : MirrorLog) (all_logs : List MirrorLog) (all_worlds : List (List (List ℕ)))
-    (events : ℕ) → logs ≡ log ∷ others → length worlds ≡ 0
-    → MirrorsOn show opening m logs worlds all_logs all_worlds events → ⊥
-mirrors_short show opening m logs others worlds log all_logs all_worlds events some none on =
-    let level = on.level in
-    let one : length logs ≡ length others + 1 = ap length some ∙ omega arith in
-    absurd (omega (arith, one))
 
 -- the count so far is small
 pub events_small : {W : Type 0} (show : Showing W) (opening : W) (m : MatchData) (logs others : List MirrorLog)

@@ -61,9 +61,6 @@ has_room s left rest (Arrive x) whole is = let spare : s.spare ≡ times is_arri
 has_room s left rest (Step c) whole is = tt
 has_room s left rest (Restagger p) whole is = let spare : s.plan_spare ≡ times is_restagger (Restagger p ∷ rest) = is.plan_spare ∙ ap (times is_restagger) whole in omega (arith, spare)
 
-pub fits_next : {W : Type 0} (s : MirrorState W) (left rest : List Event) (e : Event) → left ≡ e ∷ rest → IsWalk s left → Fits s e
-fits_next s left rest e whole is = (subst (AllByRecursion (Fits s)) whole is.fits).0
-
 -- an event that changes the mirror
 pub walk_moves : {W : Type 0} (s : MirrorState W) (left rest : List Event) (e : Event) → left ≡ e ∷ rest → changes s e ≡ true → IsWalk s left → IsWalk (next s e) rest
 unfolding times

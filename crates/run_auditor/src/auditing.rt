@@ -4,7 +4,7 @@ ghost use Rattle.std.specs.Prelude.{◌≡◌, ◌≤◌, ◌<◌, ◌↔◌, �
 ghost use Rattle.std.specs.List.{AllByRecursion};
 ghost use Rattle.game_trait.specs.declared.limits.TheConstants.{MOST_ROOM, MOST_COPIES};
 ghost use Rattle.match_file.specs.Data.{IsMatch};
-ghost use Rattle.report_text.specs.Worlds.{Showing, copy_block};
+ghost use Rattle.report_text.specs.Worlds.{showing, copy_block};
 ghost use Rattle.run_recorder.specs.Data.{IsEventOf, IsRecord};
 ghost use Rattle.run_auditor.specs.Audit.{IsStated, FoundFalse, Found, IsLegalRecord, Tells, says_legal};
 ghost use Rattle.run_auditor.specs.Walks.{WentOn, Stopped, walk_of};
@@ -55,11 +55,9 @@ fn is_stated<G: Game + Shown>(
     block: &Block,
 ) -> Result<bool, NoMemory>
     requires { copy < length mirror.now.runs }
-    ensures same { let show : Showing G =
-        record { rules = G.rules; lines = G.lines; names = game.now.names } in
+    ensures same { let show = showing G.rules G.lines game.now.names in
         IfOk result (λ same. same ≡ true → IsStated show number mirror.now copy block.now) }
-    ensures other { let show : Showing G =
-        record { rules = G.rules; lines = G.lines; names = game.now.names } in
+    ensures other { let show = showing G.rules G.lines game.now.names in
         IfOk result (λ same. same ≡ false → IsStated show number mirror.now copy block.now → ⊥) }
 {
     let mut text = Vec::new(alloc);
@@ -84,8 +82,7 @@ fn false_world<G: Game + Shown>(
 ) -> Result<Option<u32>, NoMemory>
     requires copies { length blocks.now ≡ length mirror.now.runs }
     requires few { length blocks.now ≤ MOST_COPIES }
-    ensures { let show : Showing G =
-        record { rules = G.rules; lines = G.lines; names = game.now.names } in
+    ensures { let show = showing G.rules G.lines game.now.names in
         IfOk result (FoundFalse show number mirror.now blocks.now) }
 {
     let mut copy: u8 = 0;
@@ -114,8 +111,7 @@ fn audit_walk<G: Game + Shown>(
         ≡ walk_of walk.old.mirror.opening game.now log.now.mirror log.now.events }
     requires events { AllByRecursion (IsEventOf game.now) log.now.events }
     requires copies { length blocks.now ≡ length game.now.delays }
-    ensures { let show : Showing G =
-        record { rules = G.rules; lines = G.lines; names = game.now.names } in
+    ensures { let show = showing G.rules G.lines game.now.names in
         IfOk result (Found show walk.old.mirror.opening game.now log.now.mirror log.now.events
         blocks.now) }
 {
@@ -149,8 +145,7 @@ fn audit_mirror<G: Game + Shown>(
     requires few { length log.now.events ≤ MOST_ROOM }
     requires events { AllByRecursion (IsEventOf game.now) log.now.events }
     requires copies { length blocks.now ≡ length game.now.delays }
-    ensures { let show : Showing G =
-        record { rules = G.rules; lines = G.lines; names = game.now.names } in
+    ensures { let show = showing G.rules G.lines game.now.names in
         IfOk result (Found show opening.now game.now log.now.mirror log.now.events blocks.now) }
 {
     let mut walk = LogWalk::new(alloc, game, opening, log)?;
@@ -168,12 +163,10 @@ pub fn audit<G: Game + Shown>(
 ) -> Result<Verdict, NoMemory>
     requires { IsRecord r.now }
     // The record is legal exactly where the verdict says so.
-    ensures legal { let show : Showing G =
-        record { rules = G.rules; lines = G.lines; names = r.now.game.names } in
+    ensures legal { let show = showing G.rules G.lines r.now.game.names in
         IfOk result (λ v. (says_legal v ≡ true) ↔ IsLegalRecord show opening.now r.now) }
     // It counts all events, or names the first fault.
-    ensures verdict { let show : Showing G =
-        record { rules = G.rules; lines = G.lines; names = r.now.game.names } in
+    ensures verdict { let show = showing G.rules G.lines r.now.game.names in
         IfOk result (Tells show opening.now r.now) }
 {
     let mut events: u64 = 0;

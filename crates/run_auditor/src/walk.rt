@@ -55,19 +55,13 @@ impl<'a, G: Game> Model for LogWalk<'a, G> {
 fn is_arrival(event: &Event) -> bool
     ensures { result ≡ is_arrival event.now }
 {
-    match event {
-        Event::Arrive(_) => true,
-        Event::Tick | Event::Step(_) | Event::Restagger(_) => false,
-    }
+    matches!(event, Event::Arrive(_))
 }
 
 fn is_restagger(event: &Event) -> bool
     ensures { result ≡ is_restagger event.now }
 {
-    match event {
-        Event::Restagger(_) => true,
-        Event::Tick | Event::Step(_) | Event::Arrive(_) => false,
-    }
+    matches!(event, Event::Restagger(_))
 }
 
 // How many of the events are arrivals.

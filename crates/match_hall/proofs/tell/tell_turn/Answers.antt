@@ -1,4 +1,4 @@
-use Rattle.std.proofs.Common.{List, length, ap, sym, ◌∙◌, arith}
+use Rattle.std.proofs.Common.{List, length, ap, sym, ◌∙◌}
 use Rattle.std.proofs.lemmas.Result.{on_ok_weaker}
 use Rattle.game_trait.specs.declared.event.Event.{Event}
 use Rattle.game_trait.specs.declared.event.Reply.{Reply}
@@ -11,7 +11,7 @@ use Rattle.match_hall.proofs.tell.tell_turn.Goals as goal
 pub tell_changes-requires : goal.tell_changes-requires
 tell_changes-requires g c =
     let events = c.as_slice-events.ensures.value ∙ c.turn_events-turn.ensures ∙ ap turn_events c.copies.ensures in
-    (omega arith, rw events (ap (λ (rs : List Reply). length rs) c.turn-replies.ensures.replies ∙ answers-count _ c.args.mirror.now))
+    rw events (ap (λ (rs : List Reply). length rs) c.turn-replies.ensures.replies ∙ answers-count _ c.args.mirror.now)
 
 pub returns-clause-told : goal.returns-clause-told
 returns-clause-told g c =

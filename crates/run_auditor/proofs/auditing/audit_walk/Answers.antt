@@ -1,6 +1,7 @@
 use Rattle.std.proofs.Common.{subst}
 use Rattle.run_auditor.specs.Walks.{WentOn, Stopped}
 use Rattle.run_auditor.proofs.AuditLaws.{found_stuck, found_false, found_right}
+use Rattle.report_text.specs.Worlds.{showing}
 use Rattle.run_auditor.proofs.auditing.audit_walk.Goals as goal
 
 pub returns-in-Some : goal.returns-in-Some
@@ -8,7 +9,7 @@ returns-in-Some g c =
     let w = c.walk_through-stuck.new.walk in
     let on = subst (λ v. WentOn v w) c.requires.begun c.walk_through-stuck.ensures.on in
     let stopped = subst (Stopped w) c.in-Some.is c.walk_through-stuck.ensures.stopped in
-    found_stuck (record { rules = g.G.Game.rules; lines = g.G.Shown.lines; names = c.args.game.now.names })
+    found_stuck (showing g.G.Game.rules g.G.Shown.lines c.args.game.now.names)
     c.args.walk.now.mirror.opening c.args.game.now c.args.log.now.mirror c.args.log.now.events c.args.blocks.now w
     c.in-Some.fault (rw c.mirror-mirror.ensures at c.always.ensures) on stopped
 
@@ -17,7 +18,7 @@ returns-in-Some-2 g c =
     let w = c.walk_through-stuck.new.walk in
     let on = subst (λ v. WentOn v w) c.requires.begun c.walk_through-stuck.ensures.on in
     let stopped = subst (Stopped w) c.in_default.is c.walk_through-stuck.ensures.stopped in
-    found_false (record { rules = g.G.Game.rules; lines = g.G.Shown.lines; names = c.args.game.now.names })
+    found_false (showing g.G.Game.rules g.G.Shown.lines c.args.game.now.names)
     c.args.walk.now.mirror.opening c.args.game.now c.args.log.now.mirror c.args.log.now.events c.args.blocks.now w
     c.in-Some-2.copy c.requires.events (rw c.mirror-mirror.ensures at c.always.ensures) on stopped
     (rw (c.mirror-mirror.ensures, c.in-Some-2.is) at c.in_ok-copy.ensures)
@@ -27,7 +28,7 @@ returns-in-None g c =
     let w = c.walk_through-stuck.new.walk in
     let on = subst (λ v. WentOn v w) c.requires.begun c.walk_through-stuck.ensures.on in
     let stopped = subst (Stopped w) c.in_default.is c.walk_through-stuck.ensures.stopped in
-    found_right (record { rules = g.G.Game.rules; lines = g.G.Shown.lines; names = c.args.game.now.names })
+    found_right (showing g.G.Game.rules g.G.Shown.lines c.args.game.now.names)
     c.args.walk.now.mirror.opening c.args.game.now c.args.log.now.mirror c.args.log.now.events c.args.blocks.now w
     c.requires.events (rw c.mirror-mirror.ensures at c.always.ensures) on stopped
     (rw (c.mirror-mirror.ensures, c.in-None.is) at c.in_ok-copy.ensures)
