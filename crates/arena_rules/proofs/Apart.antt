@@ -7,20 +7,20 @@ use Rattle.std.proofs.lemmas.Int.{ints}
 use Rattle.std.proofs.lemmas.List.{map-set}
 use Rattle.std.proofs.lemmas.List.Elements.{All-set, All-get_or, All-cons, All-head, All-tail}
 use Rattle.std.proofs.lemmas.Option.{slice_get_within, get_or_from_slice_get}
-use Rattle.arena_rules.specs.Ground.{Grid}
-use Rattle.arena_rules.specs.Setup.{Cell, spot_cell}
+use Rattle.match_setup.specs.Ground.{Grid}
+use Rattle.match_setup.specs.Setup.{Cell, spot_cell}
 use Rattle.arena_rules.specs.Player.{alive, place, place_in, same_place, is_held, gained, lost, with_gain, with_loss, struck, struck_state, changed}
 use Rattle.arena_rules.specs.Pickup.{given}
 use Rattle.arena_rules.specs.World.{IsBody, IsState, IsPlayer, ArePlayers}
-use Rattle.arena_rules.specs.declared.pickup.Kind.{Kind}
-use Rattle.arena_rules.specs.declared.pickup.Kind.TheVariants.{Ammo, Heal, Gold}
+use Rattle.match_setup.specs.declared.pickup.Kind.{Kind}
+use Rattle.match_setup.specs.declared.pickup.Kind.TheVariants.{Ammo, Heal, Gold}
 use Rattle.arena_rules.specs.declared.player.Body.{Body}
 use Rattle.arena_rules.specs.declared.player.Player.{Player}
 use Rattle.arena_rules.specs.declared.player.State.{State}
 use Rattle.arena_rules.specs.declared.player.State.TheVariants.{Live, Dead}
-use Rattle.arena_rules.proofs.Cells.{same_cell-symm, IsDistinct-set}
+use Rattle.match_setup.proofs.Cells.{same_cell-symm, IsDistinct-set}
 use Rattle.arena_rules.proofs.Changes.{length-changed}
-use Rattle.tss_io.proofs.EachLaws.{any_map}
+use Rattle.tss_base.proofs.ListLaws.{any_map}
 
 -- the order in which two places are compared doesn't matter
 same_place-symm : (a b : Option Cell) → same_place a b ≡ same_place b a

@@ -1,6 +1,6 @@
 -- The definitions that the worked worlds compute with.
 use Rattle.std.proofs.Common.{ℕ}
-use Rattle.arena_rules.specs.Ground.{is_walled, with_wall, is_open}
+use Rattle.match_setup.specs.Ground.{is_walled, with_wall, is_open}
 use Rattle.arena_rules.specs.Player.{is_held, changed}
 use Rattle.arena_rules.specs.Command.{gone, applied}
 use Rattle.arena_rules.specs.Beat.{hit, flown, flights, returned, returns, beaten}

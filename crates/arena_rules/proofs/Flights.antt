@@ -3,11 +3,11 @@ use Rattle.std.proofs.Common.{◌≡◌, ℕ, ◌+◌, ◌<◌, ◌≤◌, Optio
 use Rattle.std.proofs.lemmas.List.{drop_more, drop_all}
 use Rattle.std.specs.List.{cons_option}
 use Rattle.std.specs.Option.{option_to_list}
-use Rattle.arena_rules.specs.Ground.{Grid}
+use Rattle.match_setup.specs.Ground.{Grid}
 use Rattle.arena_rules.specs.Beat.{Flight, Flights, flown, flights, with_first}
 use Rattle.arena_rules.specs.declared.player.Player.{Player}
 use Rattle.arena_rules.specs.declared.shot.Shot.{Shot}
-use Rattle.arena_rules.specs.declared.face.Face.TheVariants.{N}
+use Rattle.match_setup.specs.declared.face.Face.TheVariants.{N}
 
 -- one shot more
 flights-cons : (grid : Grid) (players : List Player) (shot : Shot) (shots : List Shot)

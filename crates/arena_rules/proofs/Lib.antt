@@ -1,6 +1,3 @@
-pub mod Walls
-mod Names
-mod Cells
 pub mod Changes
 mod Hits
 mod Flights

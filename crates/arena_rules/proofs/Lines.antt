@@ -1,7 +1,8 @@
 -- The lines of players one after another.
 use Rattle.std.proofs.Common.{◌≡◌, ℕ, ◌+◌, ◌<◌, List, [], ◌∷◌, ◌++◌, length, take, refl, sym, ap, ◌∙◌, append_assoc, append-nil, get_or, length-take, arith}
 use Rattle.std.proofs.lemmas.Grind.{take_at_read}
-use Rattle.arena_rules.specs.Block.{state_line, name_of, state_lines}
+use Rattle.arena_rules.specs.Block.{state_line, state_lines}
+use Rattle.match_setup.specs.Words.{name_of}
 use Rattle.arena_rules.specs.declared.player.Player.{Player}
 
 -- the lines of one player more

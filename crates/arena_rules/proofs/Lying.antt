@@ -2,8 +2,8 @@
 use Rattle.std.proofs.Common.{◌≡◌, true, false, if◌then◌else◌, List, [], ◌∷◌, map, length, refl, arith}
 use Rattle.std.proofs.lemmas.List.{length-map}
 use Rattle.std.proofs.lemmas.List.Elements.{All-map, All-weaker}
-use Rattle.arena_rules.specs.Ground.{Grid}
-use Rattle.arena_rules.specs.Setup.{Cell, pickup_cell}
+use Rattle.match_setup.specs.Ground.{Grid}
+use Rattle.match_setup.specs.Setup.{Cell, pickup_cell}
 use Rattle.arena_rules.specs.Pickup.{emptied, lies_ready, taken, waited}
 use Rattle.arena_rules.specs.World.{IsPickup, ArePickups}
 use Rattle.arena_rules.specs.declared.pickup.Pickup.{Pickup}

@@ -3,7 +3,7 @@ use Rattle.std.proofs.Common.{◌||◌, ◌≡◌, ◌==◌, ◌&&◌, ◌-◌, 
 use Rattle.std.specs.List.{list_any, list_all, prefix_len}
 use Rattle.std.proofs.lemmas.Bool.{and_parts, or_parts, not-false}
 use Rattle.std.proofs.lemmas.Bool.Decides.{nat_tests}
-use Rattle.arena_rules.specs.Setup.{Cell}
+use Rattle.match_setup.specs.Setup.{Cell}
 use Rattle.arena_rules.specs.Player.{place_in, same_place, stands_in, is_held, holder, is_live, is_live_state}
 use Rattle.arena_rules.specs.Pickup.{lies_ready, ready_kind}
 use Rattle.arena_rules.specs.Kept.{cell_number, place_number, seen_at}

@@ -3,9 +3,9 @@ use Rattle.std.proofs.Common.{◌≡◌, ◌==◌, ◌&&◌, ◌+◌, ◌*◌, �
 use Rattle.std.specs.List.{list_any}
 use Rattle.std.proofs.lemmas.Bool.Decides.{nat_tests}
 use Rattle.std.specs.Option.{is_some}
-use Rattle.arena_rules.specs.declared.pickup.Kind.{Kind}
+use Rattle.match_setup.specs.declared.pickup.Kind.{Kind}
 use Rattle.arena_rules.specs.declared.pickup.Pickup.{Pickup}
-use Rattle.arena_rules.specs.Setup.{Cell}
+use Rattle.match_setup.specs.Setup.{Cell}
 use Rattle.arena_rules.specs.Pickup.{lies_ready, ready_kind, taken}
 
 pub no_kind : (kind : Option Kind) → is_some kind ≡ false → kind ≡ None

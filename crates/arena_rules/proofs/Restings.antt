@@ -2,7 +2,7 @@
 use Rattle.std.proofs.Common.{◌≡◌, ◌+◌, ◌-◌, ◌≤◌, ℕ, true, false, if◌then◌else◌, List, [], ◌∷◌, map, length, refl, arith}
 use Rattle.std.proofs.lemmas.List.{length-map}
 use Rattle.std.proofs.lemmas.List.Elements.{All-map, All-weaker}
-use Rattle.arena_rules.specs.Setup.{Cell}
+use Rattle.match_setup.specs.Setup.{Cell}
 use Rattle.arena_rules.specs.Pickup.{lies_ready, ready_kind, emptied, taken, waited}
 use Rattle.arena_rules.specs.Kept.{seen_at, emptied_at, counted_anew, ready_kind_at, cell_number, AreResting}
 use Rattle.arena_rules.specs.declared.resting.Resting.{Resting}

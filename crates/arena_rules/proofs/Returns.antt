@@ -6,7 +6,7 @@ use Rattle.std.specs.List.{list_all}
 use Rattle.std.proofs.lemmas.Bool.{and_parts}
 use Rattle.arena_rules.specs.Beat.{returned, returns}
 use Rattle.arena_rules.specs.Player.{is_live, is_live_state}
-use Rattle.arena_rules.specs.declared.face.Face.TheVariants.{N}
+use Rattle.match_setup.specs.declared.face.Face.TheVariants.{N}
 use Rattle.arena_rules.specs.declared.player.Player.{Player}
 use Rattle.arena_rules.specs.declared.player.State.{State}
 use Rattle.arena_rules.specs.declared.player.State.TheVariants.{Live, Dead}

@@ -5,8 +5,8 @@ use Rattle.std.specs.Bool.{Decides}
 use Rattle.arena_rules.specs.contracts.player.BodyPartialEq.TheImpl.{ghosts as of_bodies}
 use Rattle.arena_rules.specs.contracts.player.StatePartialEq.TheImpl.{ghosts as of_states}
 use Rattle.arena_rules.specs.contracts.player.PlayerPartialEq.TheImpl.{ghosts as of_players}
-use Rattle.arena_rules.specs.contracts.spot.SpotPartialEq.TheImpl.{ghosts as of_spots}
-use Rattle.arena_rules.specs.declared.spot.Spot.{Spot}
+use Rattle.match_setup.specs.contracts.spot.SpotPartialEq.TheImpl.{ghosts as of_spots}
+use Rattle.match_setup.specs.declared.spot.Spot.{Spot}
 use Rattle.arena_rules.specs.declared.player.Body.{Body}
 use Rattle.arena_rules.specs.declared.player.Player.{Player}
 use Rattle.arena_rules.specs.declared.player.State.{State}

@@ -4,16 +4,16 @@ use Rattle.std.specs.List.{All}
 use Rattle.std.specs.Option.{IfSome}
 use Rattle.std.proofs.lemmas.Bool.Decides.{nat_tests}
 use Rattle.std.proofs.lemmas.List.Elements.{All-cons, All-head, All-tail}
-use Rattle.arena_rules.specs.Ground.{Grid, is_open}
-use Rattle.arena_rules.specs.Setup.{spot_cell}
+use Rattle.match_setup.specs.Ground.{Grid, is_open}
+use Rattle.match_setup.specs.Setup.{spot_cell}
 use Rattle.arena_rules.specs.Player.{changed, holder, struck, with_gain, with_loss}
-use Rattle.arena_rules.specs.Command.{ahead, open_spot, open_ahead}
+use Rattle.match_setup.specs.Facing.{ahead, open_spot, open_ahead}
 use Rattle.arena_rules.specs.Beat.{hit, scored, is_live_at, Flight, Flights, flying, flown, flown_to, flown_into, flights, with_first}
 use Rattle.arena_rules.specs.World.{ArePlayers, IsShot}
-use Rattle.arena_rules.specs.declared.face.Face.{Face}
+use Rattle.match_setup.specs.declared.face.Face.{Face}
 use Rattle.arena_rules.specs.declared.player.Player.{Player}
 use Rattle.arena_rules.specs.declared.shot.Shot.{Shot}
-use Rattle.arena_rules.specs.declared.spot.Spot.{Spot}
+use Rattle.match_setup.specs.declared.spot.Spot.{Spot}
 use Rattle.arena_rules.proofs.Changes.{length-changed}
 use Rattle.arena_rules.proofs.Apart.{ArePlayers-changed, Keeps-struck, Keeps-with_gain, Keeps-with_loss}
 

@@ -9,8 +9,8 @@ use Rattle.std.proofs.lemmas.List.Elements.{All-map, All-weaker, All-push, All-n
 use Rattle.std.proofs.lemmas.List.Folds.{list_all-append, list_all-map}
 use Rattle.std.proofs.lemmas.List.Sums.{AllPass-from_list_all}
 use Rattle.std.proofs.lemmas.Option.{slice_get_within}
-use Rattle.arena_rules.specs.Ground.{Grid, is_open}
-use Rattle.arena_rules.specs.Setup.{Layout, Cell, same_cell, spot_cell, pickup_cell, IsLayout}
+use Rattle.match_setup.specs.Ground.{Grid, is_open}
+use Rattle.match_setup.specs.Setup.{Layout, Cell, same_cell, spot_cell, pickup_cell, IsLayout}
 use Rattle.arena_rules.specs.Player.{opening_player, alive, turned_to, place, place_in, same_place, is_held}
 use Rattle.arena_rules.specs.Pickup.{opening_pickup, ready_kind, given, waited}
 use Rattle.game_trait.specs.declared.command.Act.{Act}
@@ -19,20 +19,21 @@ use Rattle.game_trait.specs.declared.command.Command.{Command}
 use Rattle.game_trait.specs.declared.command.Item.{Item}
 use Rattle.game_trait.specs.declared.command.Item.TheVariants.{Cmd, Beat}
 use Rattle.game_trait.specs.Run.{world_of}
-use Rattle.arena_rules.specs.Command.{ahead, open_ahead, with_player, by_player, by_live, live_in, live_of, turned, turned_left, turned_right, gone, gone_to, arrived, fired, shot_by, acted, applied}
+use Rattle.match_setup.specs.Facing.{ahead, open_ahead, turned_left, turned_right}
+use Rattle.arena_rules.specs.Command.{with_player, by_player, by_live, live_in, live_of, turned, gone, gone_to, arrived, fired, shot_by, acted, applied}
 use Rattle.arena_rules.specs.Beat.{flights, returns, shots_flown, dead_returned, pickups_waited, time_risen, beaten}
 use Rattle.arena_rules.specs.World.{World, opening_world, arena_rules, IsBody, IsPlayer, IsShot, AreShots, IsPickup, IsWorld}
-use Rattle.arena_rules.specs.declared.face.Face.{Face}
-use Rattle.arena_rules.specs.declared.pickup.Kind.{Kind}
+use Rattle.match_setup.specs.declared.face.Face.{Face}
+use Rattle.match_setup.specs.declared.pickup.Kind.{Kind}
 use Rattle.arena_rules.specs.declared.pickup.Pickup.{Pickup}
-use Rattle.arena_rules.specs.declared.pickup.PickupSpot.{PickupSpot}
+use Rattle.match_setup.specs.declared.pickup.PickupSpot.{PickupSpot}
 use Rattle.arena_rules.specs.declared.player.Body.{Body}
 use Rattle.arena_rules.specs.declared.player.Player.{Player}
 use Rattle.arena_rules.specs.declared.player.State.{State}
 use Rattle.arena_rules.specs.declared.player.State.TheVariants.{Live, Dead}
 use Rattle.arena_rules.specs.declared.shot.Shot.{Shot}
-use Rattle.arena_rules.specs.declared.spot.Spot.{Spot}
-use Rattle.arena_rules.proofs.Cells.{IsDistinct-back, IsDistinct-front}
+use Rattle.match_setup.specs.declared.spot.Spot.{Spot}
+use Rattle.match_setup.proofs.Cells.{IsDistinct-back, IsDistinct-front}
 use Rattle.arena_rules.proofs.Apart.{ArePlayers-set, ArePlayers-stayed, IsPlayer-alive, IsPlayer-given, place-given, body_at, player_at, unheld}
 use Rattle.arena_rules.proofs.Shots.{open_spot-open, flights-kept}
 use Rattle.arena_rules.proofs.Dead.{returns-kept, length-returns}

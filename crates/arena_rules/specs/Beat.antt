@@ -2,17 +2,17 @@
 use Rattle.std.specs.Prelude.{ℕ, ◌+◌, ◌-◌, min, Bool, false, not, ◌==◌, ◌&&◌, if◌then◌else◌, List, [], ◌∷◌, ◌++◌, map, Option, Some, None, slice_get}
 use Rattle.std.specs.List.{cons_option}
 use Rattle.std.specs.Option.{option_map_or}
-use Rattle.arena_rules.specs.Ground.{Grid}
-use Rattle.arena_rules.specs.Setup.{spot_cell}
+use Rattle.match_setup.specs.Ground.{Grid}
+use Rattle.match_setup.specs.Setup.{spot_cell}
 use Rattle.arena_rules.specs.Player.{alive, body_at_home, changed, holder, is_held, is_live, struck, with_gain, with_loss}
 use Rattle.arena_rules.specs.Pickup.{waited}
-use Rattle.arena_rules.specs.Command.{open_ahead}
+use Rattle.match_setup.specs.Facing.{open_ahead}
 use Rattle.arena_rules.specs.Scene.{World}
 use Rattle.arena_rules.specs.declared.player.Player.{Player}
 use Rattle.arena_rules.specs.declared.player.State.{State}
 use Rattle.arena_rules.specs.declared.player.State.TheVariants.{Live, Dead}
 use Rattle.arena_rules.specs.declared.shot.Shot.{Shot}
-use Rattle.arena_rules.specs.declared.spot.Spot.{Spot}
+use Rattle.match_setup.specs.declared.spot.Spot.{Spot}
 
 -- the player of this number is there and live
 abbrev pub is_live_at : List Player → ℕ → Bool

@@ -1,38 +1,14 @@
 -- The lines that show a world.
-use Rattle.std.specs.Prelude.{ℕ, ◌+◌, List, [], ◌∷◌, ◌++◌, flat_map, codes, decimal, unwrap_or, slice_get}
+use Rattle.std.specs.Prelude.{ℕ, ◌+◌, List, [], ◌∷◌, ◌++◌, flat_map, codes, decimal}
 use Rattle.std.specs.Fmt.{signed_decimal}
-use Rattle.tss_io.specs.Lines.{as_line, spaced}
 use Rattle.arena_rules.specs.World.{World}
-use Rattle.arena_rules.specs.declared.face.Face.{Face}
-use Rattle.arena_rules.specs.declared.face.Face.TheVariants.{N, E, S, W}
-use Rattle.arena_rules.specs.declared.pickup.Kind.{Kind}
-use Rattle.arena_rules.specs.declared.pickup.Kind.TheVariants.{Ammo, Heal, Gold}
 use Rattle.arena_rules.specs.declared.pickup.Pickup.{Pickup}
 use Rattle.arena_rules.specs.declared.player.Player.{Player}
 use Rattle.arena_rules.specs.declared.player.State.{State}
 use Rattle.arena_rules.specs.declared.player.State.TheVariants.{Live, Dead}
 use Rattle.arena_rules.specs.declared.shot.Shot.{Shot}
-
--- a line of words
-abbrev pub line_of : List (List ℕ) → List ℕ
-line_of words = as_line (spaced words)
-
--- the word of a facing
-abbrev pub face_word : Face → List ℕ
-face_word N = codes "n"
-face_word E = codes "e"
-face_word S = codes "s"
-face_word W = codes "w"
-
--- the word of a kind of pickup
-abbrev pub kind_word : Kind → List ℕ
-kind_word Ammo = codes "ammo"
-kind_word Heal = codes "heal"
-kind_word Gold = codes "gold"
-
--- the name of the player of this number, or a question mark where the roster has none
-abbrev pub name_of : List (List ℕ) → ℕ → List ℕ
-name_of names number = unwrap_or (slice_get names number) (codes "?")
+use Rattle.match_setup.specs.Words.{face_word, kind_word, name_of}
+use Rattle.tss_io.specs.Lines.{line_of}
 
 -- the line of a player: a live one's name, cell, facing, health, ammunition and score, a dead one's
 -- name, wait and score

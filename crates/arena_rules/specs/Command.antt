@@ -1,54 +1,21 @@
 -- What commands do to a world.
-use Rattle.std.specs.Prelude.{ℕ, ◌+◌, ◌-◌, ℤ, pos, negsuc, ◌-ℤ◌, ◌==◌, ◌||◌, nat_le, if◌then◌else◌, [], ◌∷◌, ◌++◌, length, Option, Some, None, slice_get, slice_set}
+use Rattle.std.specs.Prelude.{ℕ, ◌+◌, ◌-◌, ◌==◌, ◌||◌, nat_le, if◌then◌else◌, [], ◌∷◌, ◌++◌, length, Option, Some, None, slice_get, slice_set}
 use Rattle.game_trait.specs.declared.command.Act.{Act}
 use Rattle.game_trait.specs.declared.command.Act.TheVariants.{Go, Left, Right, Shoot, Dash}
 use Rattle.game_trait.specs.declared.command.Command.{Command}
-use Rattle.arena_rules.specs.Ground.{Grid, is_open}
-use Rattle.arena_rules.specs.Setup.{Cell, spot_cell}
+use Rattle.match_setup.specs.Setup.{spot_cell}
 use Rattle.arena_rules.specs.Player.{alive, turned_to, is_held}
 use Rattle.arena_rules.specs.Pickup.{ready_kind, taken, given}
 use Rattle.arena_rules.specs.Scene.{World}
-use Rattle.arena_rules.specs.declared.face.Face.{Face}
-use Rattle.arena_rules.specs.declared.face.Face.TheVariants.{N, E, S, W}
+use Rattle.match_setup.specs.declared.face.Face.{Face}
 use Rattle.arena_rules.specs.declared.player.Body.{Body}
 use Rattle.arena_rules.specs.declared.player.Player.{Player}
 use Rattle.arena_rules.specs.declared.player.State.{State}
 use Rattle.arena_rules.specs.declared.player.State.TheVariants.{Live, Dead}
-use Rattle.arena_rules.specs.declared.spot.Spot.{Spot}
+use Rattle.match_setup.specs.declared.spot.Spot.{Spot}
 use Rattle.game_trait.specs.declared.limits.TheConstants.{MOST_SHOTS}
 use Rattle.arena_rules.specs.declared.limits.TheConstants.{REACH}
-
--- the facing after a quarter turn to the left
-abbrev pub turned_left : Face → Face
-turned_left N = W
-turned_left W = S
-turned_left S = E
-turned_left E = N
-
--- the facing after a quarter turn to the right
-abbrev pub turned_right : Face → Face
-turned_right N = E
-turned_right E = S
-turned_right S = W
-turned_right W = N
-
--- the column and the row of the cell ahead, by facing; it may be outside the grid
-abbrev pub ahead : Face → Cell → ℤ × ℤ
-ahead N cell = (pos cell.x, pos cell.y -ℤ pos 1)
-ahead E cell = (pos (cell.x + 1), pos cell.y)
-ahead S cell = (pos cell.x, pos (cell.y + 1))
-ahead W cell = (pos cell.x -ℤ pos 1, pos cell.y)
-
--- the spot at this column and row with this facing, where that is a cell of the grid and not walled
-abbrev pub open_spot : Grid → Face → ℤ × ℤ → Option Spot
-open_spot grid face (pos x, pos y) =
-    if is_open grid x y then Some (record { x = x; y = y; face = face }) else None
-open_spot grid face (pos x, negsuc y) = None
-open_spot grid face (negsuc x, y) = None
-
--- the spot one cell ahead with the same facing, where that is a cell of the grid and not walled
-abbrev pub open_ahead : Grid → Spot → Option Spot
-open_ahead grid spot = open_spot grid spot.face (ahead spot.face (spot_cell spot))
+use Rattle.match_setup.specs.Facing.{turned_left, turned_right, open_ahead}
 
 -- a player who is there and live, and the player's body
 abbrev pub live_in : Player → State → Option (Player × Body)

@@ -3,10 +3,10 @@
 use Rattle.std.specs.Prelude.{◌≡◌, ℕ, ◌+◌, ◌-◌, ◌*◌, ◌≤◌, Bool, true, false, if◌then◌else◌, List, map, take, length, All, Option, option_map, find}
 use Rattle.game_trait.specs.declared.limits.TheConstants.{MOST_PLAYERS, MOST_PICKUPS}
 use Rattle.std.specs.List.{list_all}
-use Rattle.arena_rules.specs.Setup.{Cell}
+use Rattle.match_setup.specs.Setup.{Cell}
 use Rattle.arena_rules.specs.Player.{is_live}
 use Rattle.arena_rules.specs.Pickup.{lies_ready}
-use Rattle.arena_rules.specs.declared.pickup.Kind.{Kind}
+use Rattle.match_setup.specs.declared.pickup.Kind.{Kind}
 use Rattle.arena_rules.specs.declared.pickup.Pickup.{Pickup}
 use Rattle.arena_rules.specs.declared.player.Player.{Player}
 use Rattle.arena_rules.specs.declared.player.State.{State}

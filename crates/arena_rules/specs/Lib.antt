@@ -1,5 +1,3 @@
-pub mod Ground
-pub mod Setup
 pub mod Player
 pub mod Pickup
 pub mod Kept
@@ -7,6 +5,5 @@ pub mod Scene
 pub mod Command
 pub mod Beat
 pub mod World
-pub mod Roster
 pub mod Block
 pub mod Worked

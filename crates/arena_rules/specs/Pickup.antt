@@ -1,11 +1,11 @@
 -- The pickups of the arena: each lies in a cell, ready to be taken or waiting.
 use Rattle.std.specs.Prelude.{◌+◌, ◌-◌, min, Bool, ◌==◌, ◌&&◌, if◌then◌else◌, List, map, Option, Some, None, option_map, find}
-use Rattle.arena_rules.specs.Setup.{Cell, same_cell, pickup_cell}
+use Rattle.match_setup.specs.Setup.{Cell, same_cell, pickup_cell}
 use Rattle.arena_rules.specs.Player.{alive, with_gain}
-use Rattle.arena_rules.specs.declared.pickup.Kind.{Kind}
-use Rattle.arena_rules.specs.declared.pickup.Kind.TheVariants.{Ammo, Heal, Gold}
+use Rattle.match_setup.specs.declared.pickup.Kind.{Kind}
+use Rattle.match_setup.specs.declared.pickup.Kind.TheVariants.{Ammo, Heal, Gold}
 use Rattle.arena_rules.specs.declared.pickup.Pickup.{Pickup}
-use Rattle.arena_rules.specs.declared.pickup.PickupSpot.{PickupSpot}
+use Rattle.match_setup.specs.declared.pickup.PickupSpot.{PickupSpot}
 use Rattle.arena_rules.specs.declared.player.Body.{Body}
 use Rattle.arena_rules.specs.declared.player.Player.{Player}
 use Rattle.arena_rules.specs.declared.limits.TheConstants.{MOST_HEALTH, MOST_AMMO, AMMO_OF_A_PICKUP, BEATS_TAKEN}

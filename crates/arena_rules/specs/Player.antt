@@ -1,9 +1,9 @@
 -- The players of the arena: each has a home and a score, and is live or dead.
 use Rattle.std.specs.Prelude.{ℕ, zero, suc, ◌-◌, ℤ, pos, ◌+ℤ◌, ◌-ℤ◌, int_lt, Bool, true, false, ◌==◌, if◌then◌else◌, List, [], ◌∷◌, Option, Some, None, position}
 use Rattle.std.specs.List.{list_any}
-use Rattle.arena_rules.specs.Setup.{Cell, same_cell, spot_cell}
-use Rattle.arena_rules.specs.declared.face.Face.{Face}
-use Rattle.arena_rules.specs.declared.spot.Spot.{Spot}
+use Rattle.match_setup.specs.Setup.{Cell, same_cell, spot_cell}
+use Rattle.match_setup.specs.declared.face.Face.{Face}
+use Rattle.match_setup.specs.declared.spot.Spot.{Spot}
 use Rattle.arena_rules.specs.declared.player.Body.{Body}
 use Rattle.arena_rules.specs.declared.player.Player.{Player}
 use Rattle.arena_rules.specs.declared.player.State.{State}

@@ -1,6 +1,6 @@
 -- A world as contracts see it.
 use Rattle.std.specs.Prelude.{ℕ, List}
-use Rattle.arena_rules.specs.Ground.{Grid}
+use Rattle.match_setup.specs.Ground.{Grid}
 use Rattle.arena_rules.specs.declared.pickup.Pickup.{Pickup}
 use Rattle.arena_rules.specs.declared.player.Player.{Player}
 use Rattle.arena_rules.specs.declared.shot.Shot.{Shot}

@@ -2,8 +2,8 @@
 use Rattle.std.specs.Prelude.{◌≡◌, ℕ, ◌≤◌, ◌<◌, ◌^◌, ◌≤ℤ◌, true, List, [], map, length, All}
 use Rattle.std.specs.List.{IsDistinct}
 use Rattle.game_trait.specs.Game.{Rules}
-use Rattle.arena_rules.specs.Ground.{Grid, IsGrid, is_open}
-use Rattle.arena_rules.specs.Setup.{Layout, same_cell, pickup_cell}
+use Rattle.match_setup.specs.Ground.{Grid, IsGrid, is_open}
+use Rattle.match_setup.specs.Setup.{Layout, same_cell, pickup_cell}
 use Rattle.arena_rules.specs.Player.{opening_player, place, same_place}
 use Rattle.arena_rules.specs.Pickup.{opening_pickup}
 use Rattle.arena_rules.specs.Command.{applied}

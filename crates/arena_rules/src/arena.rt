@@ -1,29 +1,26 @@
 //! The arena: a world that commands and beats change, and that a block shows.
 
-ghost use Rattle.std.specs.Prelude.{◌≡◌, ◌↔◌, ◌<◌, ◌≤◌, ◌++◌, IsTrue, length, take, OnOk, OnSome, slice_get, option_map};
+ghost use Rattle.std.specs.Prelude.{◌≡◌, ◌↔◌, ◌<◌, ◌++◌, IsTrue, length, take, OnOk, OnSome, slice_get, option_map};
 ghost use Rattle.arena_rules.specs.Block.{block_of};
-ghost use Rattle.arena_rules.specs.Setup.{layout_of, IsLayout};
-ghost use Rattle.arena_rules.specs.Command.{live_of, with_player, arrived, turned, gone, shot_by, applied, turned_left, turned_right};
+ghost use Rattle.match_setup.specs.Setup.{layout_of, IsLayout};
+ghost use Rattle.arena_rules.specs.Command.{live_of, with_player, arrived, turned, gone, shot_by, applied};
+ghost use Rattle.match_setup.specs.Facing.{turned_left, turned_right};
 ghost use Rattle.arena_rules.specs.Beat.{beaten};
 ghost use Rattle.arena_rules.specs.World.{opening_world, IsWorld};
 
 use crate::block::{push_pickups, push_players, push_shots};
-use crate::copying::copy_into;
-use crate::ground::Ground;
 use crate::pickup::Pickup;
 use crate::pickups::Pickups;
 use crate::player::{Body, Player};
 use crate::players::Players;
 use crate::returning::return_all;
-use crate::roster::Roster;
-use crate::setup::Setup;
 use crate::shot::{Shot, fly_shots};
-use crate::shown::Shown;
 use arrayvec::ArrayVec;
 use game_trait::limits::MOST_SHOTS;
 use game_trait::{Act, Command, Game, Tick};
+use match_setup::{Ground, Roster, Setup, Shown, copy_into};
 use std::marker::Model;
-use tss_io::NoMemory;
+use tss_base::NoMemory;
 
 /// A world of the arena: its ground, players, shots, pickups and time. No two live players ever
 /// share a cell, and no live player, shot or pickup stands on a wall or outside the grid. It has a

@@ -6,9 +6,9 @@ ghost use Rattle.arena_rules.specs.Block.{state_lines, shot_line, item_line};
 
 use crate::pickup::Pickup;
 use crate::player::Player;
-use crate::roster::Roster;
 use crate::shot::Shot;
-use tss_io::NoMemory;
+use match_setup::Roster;
+use tss_base::NoMemory;
 
 /// Appends the players' lines. On `NoMemory` some may have been appended.
 pub fn push_players(players: &[Player], roster: &Roster, out: &mut Vec<u8>) -> Result<(), NoMemory>

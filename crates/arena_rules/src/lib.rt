@@ -1,12 +1,8 @@
-//! The rules of the arena: its ground, its players and its worlds, the game that mirrors keep in
-//! step.
+//! The rules of the arena: its players and its worlds, the game that mirrors keep in step.
 #![tactic(auto)]
 
 mod arena;
 mod block;
-mod copying;
-mod face;
-mod ground;
 pub mod limits;
 mod number;
 mod pickup;
@@ -16,19 +12,10 @@ mod players;
 pub mod possible;
 mod resting;
 mod returning;
-mod roster;
-mod setup;
 mod shot;
-mod shown;
-mod spot;
 pub mod worked;
 
 pub use arena::Arena;
-pub use copying::{copied, copy_into};
-pub use face::Face;
-pub use ground::Ground;
-pub use pickup::{Kind, PickupSpot};
-pub use roster::Roster;
-pub use setup::Setup;
-pub use shown::Shown;
-pub use spot::Spot;
+pub use match_setup::{
+    Face, Ground, Kind, PickupSpot, Roster, Setup, Shown, Spot, copied, copy_into,
+};

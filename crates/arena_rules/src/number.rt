@@ -4,6 +4,8 @@ ghost use Rattle.std.specs.Prelude.{◌≡◌, ◌==◌};
 ghost use Rattle.std.specs.List.{list_any};
 ghost use Rattle.arena_rules.specs.Kept.{cell_number};
 
+use match_setup::Spot;
+
 /// The number that is kept for who stands nowhere: that of a cell that no grid has.
 pub const NOWHERE: u16 = 65535;
 
@@ -15,6 +17,13 @@ pub fn cell_number(x: u8, y: u8) -> u16
     ensures { result ≡ cell_number x y }
 {
     u16::from(x) + 256 * u16::from(y)
+}
+
+/// The number of the cell of a spot.
+pub fn spot_number(spot: Spot) -> u16
+    ensures { result ≡ cell_number spot.x spot.y }
+{
+    cell_number(spot.x, spot.y)
 }
 
 /// Whether a number is among others. Each is asked, whatever those before it answer, so that several

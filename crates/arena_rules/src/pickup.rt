@@ -1,32 +1,11 @@
 //! What lies in the arena to be taken.
 
 ghost use Rattle.std.specs.Prelude.{◌≡◌, ◌++◌, OnOk, OnErr};
-ghost use Rattle.arena_rules.specs.Block.{kind_word, item_line};
+ghost use Rattle.arena_rules.specs.Block.{item_line};
 
-use tss_io::{NoMemory, Word, push_line};
-
-/// What a pickup gives to the player who takes it.
-#[derive(Clone, Copy, Debug, Default, PartialEq, Eq)]
-pub enum Kind {
-    /// Four shots more, up to 9 in all.
-    #[default]
-    Ammo,
-    /// One health more, up to 3 in all.
-    Heal,
-    /// A score of 1 more.
-    Gold,
-}
-
-/// A cell in which a pickup lies, and its kind.
-#[derive(Clone, Copy, Debug, Default, PartialEq, Eq)]
-pub struct PickupSpot {
-    /// The column of the cell.
-    pub x: u8,
-    /// The row of the cell.
-    pub y: u8,
-    /// What it gives.
-    pub kind: Kind,
-}
+use match_setup::PickupSpot;
+use tss_base::NoMemory;
+use tss_io::{Word, push_line};
 
 /// A pickup of the arena.
 #[derive(Clone, Copy, Debug, Default, PartialEq, Eq)]
@@ -34,19 +13,6 @@ pub struct Pickup {
     pub place: PickupSpot,
     /// It can't be taken for this number of further beats, from 0 to 20.
     pub wait: u8,
-}
-
-impl Kind {
-    /// The word of the kind, as texts have it.
-    pub fn word(self) -> &'static [u8]
-        ensures { result.now ≡ kind_word self }
-    {
-        match self {
-            Kind::Ammo => b"ammo",
-            Kind::Heal => b"heal",
-            Kind::Gold => b"gold",
-        }
-    }
 }
 
 impl Pickup {

@@ -3,17 +3,16 @@
 ghost use Rattle.std.specs.Prelude.{◌≡◌, ◌-◌, ◌<◌, ◌≤◌, ◌++◌, [], ◌∷◌, None, false, map, length, All};
 ghost use Rattle.game_trait.specs.declared.limits.TheConstants.{MOST_PICKUPS};
 ghost use Rattle.arena_rules.specs.declared.limits.TheConstants.{BEATS_TAKEN};
-ghost use Rattle.arena_rules.specs.Setup.{spot_cell};
+ghost use Rattle.match_setup.specs.Setup.{spot_cell};
 ghost use Rattle.arena_rules.specs.Pickup.{opening_pickup, ready_kind, taken, waited};
 ghost use Rattle.arena_rules.specs.Kept.{seen_at, emptied_at, counted_anew, ready_kind_at};
 
-use crate::copying::copy_into;
-use crate::number::{UNUSED, cell_number, has_number};
-use crate::pickup::{Kind, Pickup, PickupSpot};
+use crate::number::{UNUSED, cell_number, has_number, spot_number};
+use crate::pickup::Pickup;
 use crate::resting::Resting;
-use crate::spot::Spot;
 use arrayvec::ArrayVec;
 use game_trait::limits::MOST_PICKUPS;
+use match_setup::{Kind, PickupSpot, Spot, copy_into};
 use std::marker::Model;
 
 // The most beats that are counted before counting begins anew: a wait more is still a number.
@@ -122,7 +121,7 @@ impl Pickups {
     fn is_numbered(&self, spot: Spot) -> bool
         ensures { result ≡ false → ready_kind self.now (spot_cell spot) ≡ None }
     {
-        has_number(&self.numbers, spot.cell_number())
+        has_number(&self.numbers, spot_number(spot))
     }
 
     /// The kind of the pickup that lies ready in the cell of this spot.

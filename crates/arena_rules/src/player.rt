@@ -2,20 +2,19 @@
 
 ghost use Rattle.std.specs.Prelude.{◌≡◌, ◌++◌, OnOk, OnErr};
 ghost use Rattle.arena_rules.specs.Block.{state_line};
-ghost use Rattle.arena_rules.specs.Setup.{spot_cell};
+ghost use Rattle.match_setup.specs.Setup.{spot_cell};
 ghost use Rattle.arena_rules.specs.Player.{opening_player, body_at_home, turned_to, alive, stands_in, is_held, holder, is_live, struck, with_gain, with_loss};
 ghost use Rattle.arena_rules.specs.Pickup.{given};
 ghost use Rattle.arena_rules.specs.Command.{live_of};
 ghost use Rattle.arena_rules.specs.Kept.{place_number};
 
-use crate::face::Face;
 use crate::limits::{
     AMMO_AT_HOME, AMMO_OF_A_PICKUP, BEATS_DEAD, GREATEST_SCORE, LEAST_SCORE, MOST_AMMO, MOST_HEALTH,
 };
-use crate::number::NOWHERE;
-use crate::pickup::Kind;
-use crate::spot::Spot;
-use tss_io::{NoMemory, Word, push_line};
+use crate::number::{NOWHERE, spot_number};
+use match_setup::{Face, Kind, Spot};
+use tss_base::NoMemory;
+use tss_io::{Word, push_line};
 
 /// A live player's body.
 #[derive(Clone, Copy, Debug, Default, PartialEq, Eq)]
@@ -119,7 +118,7 @@ impl Player {
         ensures { result ≡ place_number self.now.state }
     {
         match self.state {
-            State::Live(body) => body.spot.cell_number(),
+            State::Live(body) => spot_number(body.spot),
             State::Dead { .. } => NOWHERE,
         }
     }

@@ -3,16 +3,15 @@
 ghost use Rattle.std.specs.Prelude.{◌≡◌, ◌<◌, ◌≤◌, ◌++◌, [], ◌∷◌, true, false, map, length, slice_set, slice_index_or};
 ghost use Rattle.std.specs.List.{list_all};
 ghost use Rattle.game_trait.specs.declared.limits.TheConstants.{MOST_PLAYERS};
-ghost use Rattle.arena_rules.specs.Setup.{spot_cell};
+ghost use Rattle.match_setup.specs.Setup.{spot_cell};
 ghost use Rattle.arena_rules.specs.Player.{opening_player, is_held, holder, is_live};
 ghost use Rattle.arena_rules.specs.declared.player.Player.{Player as APlayer};
 
-use crate::copying::copy_into;
-use crate::number::{NOWHERE, UNUSED, has_number};
+use crate::number::{NOWHERE, UNUSED, has_number, spot_number};
 use crate::player::{Player, holder, is_held};
-use crate::spot::Spot;
 use arrayvec::ArrayVec;
 use game_trait::limits::MOST_PLAYERS;
+use match_setup::{Spot, copy_into};
 use std::marker::Model;
 
 /// The players of a world in order. The number of each one's cell is kept beside them, so that one
@@ -101,7 +100,7 @@ impl Players {
     fn is_numbered(&self, spot: Spot) -> bool
         ensures { result ≡ false → is_held self.now (spot_cell spot) ≡ false }
     {
-        has_number(&self.numbers, spot.cell_number())
+        has_number(&self.numbers, spot_number(spot))
     }
 
     /// Whether a live player stands in the cell of this spot.

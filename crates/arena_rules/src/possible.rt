@@ -1,45 +1,11 @@
-//! Layouts and worlds that can be, at every bound, and others that can't: one for each part of what
-//! they must be.
+//! Worlds that can be, at every bound, and others that can't: one for each part of what they must be.
 
-ghost use Rattle.std.specs.Prelude.{ℤ, pos, neg_ℤ, ◌+◌, [], ◌∷◌, replicate};
-ghost use Rattle.arena_rules.specs.declared.face.Face.TheVariants.{N, E, S, W};
-ghost use Rattle.arena_rules.specs.declared.pickup.Kind.TheVariants.{Ammo, Heal, Gold};
-ghost use Rattle.arena_rules.specs.Ground.{open_grid, with_wall};
-ghost use Rattle.arena_rules.specs.Setup.{IsLayout};
+ghost use Rattle.std.specs.Prelude.{pos, neg_ℤ, [], ◌∷◌, replicate};
+ghost use Rattle.match_setup.specs.declared.face.Face.TheVariants.{N, S};
+ghost use Rattle.match_setup.specs.declared.pickup.Kind.TheVariants.{Heal, Gold};
+ghost use Rattle.match_setup.specs.Worked.{at};
 ghost use Rattle.arena_rules.specs.World.{IsWorld};
-ghost use Rattle.arena_rules.specs.Worked.{at, live, dead, shot, item, scene, idle_at, ann_home, bob_home, layout, lying, side_by_side, on_ground, crowd, spread, with_numbers};
-
-/// The largest grid and the smallest; as many pickups and players as can be.
-pub fn layouts()
-    ensures small { IsLayout (on_ground (open_grid 3 1)) }
-    ensures large { IsLayout (on_ground (open_grid 64 64)) }
-    ensures walled { IsLayout (layout (lying 5 2 Gold ∷ []) (at 7 2 E ∷ [])) }
-    ensures full { IsLayout (side_by_side 32 32) }
-{}
-
-/// Sides out of range, and a wall outside the grid.
-pub fn no_grounds()
-    ensures narrow { ¬ IsLayout (on_ground (open_grid 2 1)) }
-    ensures wide { ¬ IsLayout (on_ground (open_grid 65 1)) }
-    ensures flat { ¬ IsLayout (on_ground (open_grid 3 0)) }
-    ensures high { ¬ IsLayout (on_ground (open_grid 3 65)) }
-    ensures wall_outside { ¬ IsLayout (on_ground (with_wall (open_grid 12 4) 12 1)) }
-{}
-
-/// Too many or too few, two in one cell, and someone or something on a wall or outside.
-pub fn no_layouts()
-    ensures nobody { ¬ IsLayout (side_by_side 1 0) }
-    ensures players { ¬ IsLayout (side_by_side 0 33) }
-    ensures pickups { ¬ IsLayout (side_by_side 33 1) }
-    ensures two_players { ¬ IsLayout (layout [] (at 4 1 N ∷ at 4 1 S ∷ [])) }
-    ensures two_pickups { ¬ IsLayout
-        (layout (lying 4 1 Gold ∷ lying 4 1 Heal ∷ []) (at 5 1 S ∷ [])) }
-    ensures player_and_pickup { ¬ IsLayout (layout (lying 4 1 Gold ∷ []) (at 4 1 S ∷ [])) }
-    ensures player_on_wall { ¬ IsLayout (layout [] (at 6 2 S ∷ [])) }
-    ensures pickup_on_wall { ¬ IsLayout (layout (lying 6 2 Gold ∷ []) (at 4 1 S ∷ [])) }
-    ensures player_outside { ¬ IsLayout (layout [] (at 12 1 S ∷ [])) }
-    ensures pickup_outside { ¬ IsLayout (layout (lying 4 4 Gold ∷ []) (at 4 1 S ∷ [])) }
-{}
+ghost use Rattle.arena_rules.specs.Worked.{live, dead, shot, item, scene, idle_at, ann_home, bob_home, crowd, spread, with_numbers};
 
 /// All numbers at their bounds; as many players, shots and pickups as can be; two dead of one home.
 pub fn worlds()

@@ -2,13 +2,13 @@
 
 ghost use Rattle.std.specs.Prelude.{◌≡◌, ◌-◌, ◌≤◌};
 ghost use Rattle.arena_rules.specs.declared.limits.TheConstants.{BEATS_TAKEN};
-ghost use Rattle.arena_rules.specs.Setup.{spot_cell};
+ghost use Rattle.match_setup.specs.Setup.{spot_cell};
 ghost use Rattle.arena_rules.specs.Pickup.{lies_ready};
 ghost use Rattle.arena_rules.specs.Kept.{seen_at, emptied_at, counted_anew};
 
 use crate::limits::BEATS_TAKEN;
-use crate::pickup::{Pickup, PickupSpot};
-use crate::spot::Spot;
+use crate::pickup::Pickup;
+use match_setup::{PickupSpot, Spot};
 
 /// A pickup with the beat from which it lies ready, so that no beat changes it.
 #[derive(Clone, Copy, Debug, Default)]

@@ -1,19 +1,18 @@
 //! The shots, and how they fly: the first part of a beat.
 
-ghost use Rattle.std.specs.Prelude.{◌++◌, OnOk, OnErr, ◌≡◌, ◌≤◌, ◌<◌, All, length};
+ghost use Rattle.std.specs.Prelude.{◌++◌, OnOk, OnErr, ◌≡◌, ◌<◌, All, length};
 ghost use Rattle.game_trait.specs.declared.limits.TheConstants.{MOST_SHOTS};
 ghost use Rattle.arena_rules.specs.declared.limits.TheConstants.{REACH};
 ghost use Rattle.arena_rules.specs.Block.{shot_line};
-ghost use Rattle.arena_rules.specs.Beat.{hit, scored, flying, flown, flights, Flight, Flights};
+ghost use Rattle.arena_rules.specs.Beat.{hit, scored, flying, flown, flights};
 
-use crate::ground::Ground;
 use crate::limits::REACH;
 use crate::players::Players;
-use crate::roster::Roster;
-use crate::spot::Spot;
 use arrayvec::ArrayVec;
 use game_trait::limits::MOST_SHOTS;
-use tss_io::{NoMemory, Word, push_line};
+use match_setup::{Ground, Roster, Spot};
+use tss_base::NoMemory;
+use tss_io::{Word, push_line};
 
 /// A shot that flies.
 #[derive(Clone, Copy, Debug, Default, PartialEq, Eq)]

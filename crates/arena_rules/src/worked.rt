@@ -6,12 +6,13 @@ ghost use Rattle.tss_io.specs.Lines.{as_line};
 ghost use Rattle.arena_rules.specs.Block.{block_of};
 ghost use Rattle.game_trait.specs.declared.command.Act.{Act};
 ghost use Rattle.game_trait.specs.declared.command.Act.TheVariants.{Go, Left, Right, Shoot, Dash};
-ghost use Rattle.arena_rules.specs.declared.face.Face.TheVariants.{N, E, S, W};
-ghost use Rattle.arena_rules.specs.declared.pickup.Kind.TheVariants.{Ammo, Heal, Gold};
+ghost use Rattle.match_setup.specs.declared.face.Face.TheVariants.{N, E, S, W};
+ghost use Rattle.match_setup.specs.declared.pickup.Kind.TheVariants.{Ammo, Heal, Gold};
 ghost use Rattle.arena_rules.specs.Command.{applied};
 ghost use Rattle.arena_rules.specs.Beat.{beaten};
 ghost use Rattle.arena_rules.specs.World.{opening_world};
-ghost use Rattle.arena_rules.specs.Worked.{yard, at, live, dead, shot, item, scene, later, idle_at, by, ann_home, ann_at, alone_at, bob_home, bob_at, layout, lying};
+ghost use Rattle.match_setup.specs.Worked.{yard, at, by, layout, lying};
+ghost use Rattle.arena_rules.specs.Worked.{live, dead, shot, item, scene, later, idle_at, ann_home, ann_at, alone_at, bob_home, bob_at};
 
 /// As a match begins: players at home, pickups ready.
 pub fn opening()

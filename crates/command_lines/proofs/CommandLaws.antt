@@ -13,7 +13,8 @@ use Rattle.tss_io.specs.Kinds.{keyword_step, step, first_failing, Sound}
 use Rattle.tss_io.proofs.FormLaws.{Chosen, ExactForm, number_exact, choice_exact, only_exact, then_exact, made_exact, failing, front_err}
 use Rattle.tss_io.proofs.KindLaws.{ExactKind, keyword_takes, keyword_again, keyword_fault}
 use Rattle.command_lines.specs.declared.ranges.CommandRanges.{CommandRanges}
-use Rattle.command_lines.specs.CommandLine.{act_word, acts_of, has_act, last_player, widest, command_form, CommandFits, line_kind, IsCommandLine, command_line, command_checks}
+use Rattle.command_lines.specs.CommandLine.{act_word, acts_of, last_player, widest, command_form, CommandFits, line_kind, IsCommandLine, command_line, command_checks}
+use Rattle.game_trait.specs.Acts.{has_act}
 use Rattle.command_lines.specs.declared.read.CommandFault.{CommandFault}
 use Rattle.command_lines.specs.Faults.{fault_cause, Reads}
 

@@ -1,5 +1,5 @@
 -- The line of a command, as words.
-use Rattle.std.specs.Prelude.{◌≡◌, ℕ, ◌≤◌, ◌<◌, ◌-◌, Bool, true, false, ◌==◌, List, [], ◌∷◌, Result, if◌then◌else◌, codes}
+use Rattle.std.specs.Prelude.{◌≡◌, ℕ, ◌≤◌, ◌<◌, ◌-◌, Bool, true, ◌==◌, List, [], ◌∷◌, Result, if◌then◌else◌, codes}
 use Rattle.game_trait.specs.declared.command.Act.{Act}
 use Rattle.game_trait.specs.declared.command.Act.TheVariants.{Go, Left, Right, Shoot, Dash}
 use Rattle.game_trait.specs.declared.command.Command.{Command}
@@ -9,6 +9,7 @@ use Rattle.tss_io.specs.Lines.{spaced}
 use Rattle.tss_io.specs.Forms.{number, choice, Form, only, ◌&◌, made, InRange}
 use Rattle.tss_io.specs.Kinds.{Kind, line_words, keyword_checks}
 use Rattle.command_lines.specs.declared.ranges.CommandRanges.{CommandRanges}
+use Rattle.game_trait.specs.Acts.{has_act}
 
 -- the word of an act
 abbrev pub act_word : Act → List ℕ
@@ -22,14 +23,6 @@ act_word Dash = codes "dash"
 abbrev pub acts_of : ℕ → List Act
 acts_of version =
     if version == 1 then Go ∷ Left ∷ Right ∷ Shoot ∷ [] else Go ∷ Left ∷ Right ∷ Shoot ∷ Dash ∷ []
-
--- an act of the version
-abbrev pub has_act : ℕ → Act → Bool
-has_act version Go = true
-has_act version Left = true
-has_act version Right = true
-has_act version Shoot = true
-has_act version Dash = if version == 1 then false else true
 
 -- the greatest number of a player that the lines of a version may have
 abbrev pub last_player : ℕ → ℕ

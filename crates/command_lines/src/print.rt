@@ -6,7 +6,8 @@ ghost use Rattle.command_lines.specs.CommandLine.{act_word, IsCommandLine, comma
 
 use game_trait::{Act, Command};
 use std::alloc::Global;
-use tss_io::{NoMemory, Word, push_line};
+use tss_base::NoMemory;
+use tss_io::{Word, push_line};
 
 fn act_text(act: Act) -> &'static [u8]
     ensures { result.now ≡ act_word act }

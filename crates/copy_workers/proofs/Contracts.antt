@@ -12,7 +12,7 @@ use Rattle.copy_workers.specs.declared.feeder_job.FeederEnd.{FeederEnd}
 use Rattle.copy_workers.specs.declared.feeder_job.FeederJob.{FeederJob}
 use Rattle.copy_workers.specs.Messages.{messages, commands_in, last_mark, mark_after, IsOrderly}
 use Rattle.copy_workers.specs.Asking.{ArrivesAt, ArrivesBy}
-use Rattle.tss_io.specs.Totals.{total}
+use Rattle.tss_base.specs.Totals.{total}
 use Rattle.copy_workers.specs.Feed.{Hearing, least_mark}
 use Rattle.copy_workers.specs.Feeding.{Hears, IsFair, InTime, IsBound, joined}
 use Rattle.copy_workers.specs.Sending.{IsSent}

@@ -6,7 +6,7 @@ use Rattle.game_trait.specs.declared.command.Command.{Command}
 use Rattle.game_trait.proofs.KeyOrder.{all-weaker}
 use Rattle.link_ring.specs.declared.message.Message.TheVariants.{Cmd, Mark}
 use Rattle.copy_workers.specs.Messages.{commands_in, IsOrderly}
-use Rattle.tss_io.specs.Totals.{total}
+use Rattle.tss_base.specs.Totals.{total}
 use Rattle.copy_workers.specs.Feed.{Task, Hearing, least_mark, missed, with_mark, with_command}
 use Rattle.copy_workers.specs.Feeding.{Hears, IsFair}
 use Rattle.copy_workers.proofs.Lists.{total-at, all-at, all-changed}

@@ -13,7 +13,7 @@ use Rattle.link_ring.specs.declared.message.Message.TheVariants.{Cmd, Mark}
 use Rattle.copy_workers.specs.declared.post.Asked.{Asked}
 use Rattle.copy_workers.specs.Messages.{tick_messages, messages, commands_in, last_mark, mark_after, IsOrderly}
 use Rattle.copy_workers.specs.Asking.{IsFeeding, is_moved, is_tick, is_arrival_of, arrival, moves_in, ticks_in, arrivals_of, ArrivesAt, ArrivesBy, AreArrivals}
-use Rattle.tss_io.specs.Totals.{total}
+use Rattle.tss_base.specs.Totals.{total}
 use Rattle.copy_workers.specs.Feed.{Task, Hearing, Feed, issued, missed, with_mark, with_command, heard, fed}
 use Rattle.copy_workers.specs.Feeding.{Turns, Hears, IsFair, InTime, IsBound, Keeps, IsFed}
 use Rattle.copy_workers.proofs.Lists.{all-at, all-changed, total-at, joined-more}

@@ -10,7 +10,7 @@ use Rattle.link_ring.specs.declared.message.Message.{Message}
 use Rattle.copy_workers.specs.declared.post.Asked.{Asked}
 use Rattle.copy_workers.specs.Messages.{messages, commands_in, last_mark, mark_after, IsOrderly}
 use Rattle.copy_workers.specs.Asking.{IsFeeding, is_moved, is_tick, is_arrival_of, ticking, moves_in, ticks_in, arrivals_of, ArrivesAt}
-use Rattle.tss_io.specs.Totals.{total}
+use Rattle.tss_base.specs.Totals.{total}
 use Rattle.copy_workers.specs.Feed.{Task, Hearing, Feed, ending_clock, least_mark, IsHeldByMarks, ticked, rested, at_start}
 use Rattle.copy_workers.specs.Feeding.{Hears, InTime, IsBound, IsFed, IsBetween, GoesOn, joined}
 use Rattle.copy_workers.proofs.Lists.{joined-end, joined-rest, push-last}

@@ -14,7 +14,7 @@ use Rattle.copy_workers.specs.declared.feeder_job.FeederEnd.{FeederEnd}
 use Rattle.copy_workers.specs.declared.feeder_job.FeederJob.{FeederJob}
 use Rattle.copy_workers.specs.Messages.{messages, commands_in, last_mark, IsOrderly}
 use Rattle.copy_workers.specs.Asking.{IsFeeding, moves_in, ticks_in, arrivals_of, ArrivesAt, ArrivesBy}
-use Rattle.tss_io.specs.Totals.{total}
+use Rattle.tss_base.specs.Totals.{total}
 use Rattle.copy_workers.specs.Feeding.{joined, GoesOn}
 use Rattle.copy_workers.specs.Sending.{IsSent}
 

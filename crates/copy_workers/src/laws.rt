@@ -7,7 +7,7 @@ ghost use Rattle.link_ring.specs.declared.message.Message.{Message};
 ghost use Rattle.link_ring.specs.Ends.{received_of, waiting_of, misses_of};
 ghost use Rattle.std.specs.List.{AllByRecursion};
 ghost use Rattle.sync_model.specs.Schedule.{clock_end};
-ghost use Rattle.tss_io.specs.Totals.{total};
+ghost use Rattle.tss_base.specs.Totals.{total};
 ghost use Rattle.copy_workers.specs.declared.copy_job.CopyEnd.{CopyEnd};
 ghost use Rattle.copy_workers.specs.declared.copy_job.CopyJob.{CopyJob};
 ghost use Rattle.copy_workers.specs.declared.feeder_job.FeederEnd.{FeederEnd};

@@ -10,7 +10,7 @@ use crate::ends::{beats_in, beats_of, fill, raise};
 use game_trait::{Item, Tick};
 use std::alloc::Global;
 use std::marker::Model;
-use tss_io::NoMemory;
+use tss_base::NoMemory;
 
 /// The runs of a mirror's copies, which are all fronts of copy 0's run, kept as one list of items
 /// with an end for each copy: a copy's run is the list up to its end (this project's own). No

@@ -1,3 +1,4 @@
+pub mod Acts
 pub mod Game
 pub mod Keys
 pub mod Run

@@ -25,7 +25,7 @@ use mirror_core::{DeferredMirror, Mirrored};
 use stagger_clock::Stagger;
 use std::alloc::Global;
 use std::marker::Model;
-use tss_io::NoMemory;
+use tss_base::NoMemory;
 
 /// A mirror that joins a match late, opened from another mirror's snapshot (this project's own).
 /// It has a mirror of its own over the remaining ticks, whose repaired copies execute when they are

@@ -11,7 +11,8 @@ use crate::answerer::Answerer;
 use crate::course::{TalkEnd, TalkFault, talk, tell_flushed};
 use crate::ear::Ear;
 use crate::peer::Peer;
-use tss_io::{Failed, NoMemory};
+use tss_base::NoMemory;
+use tss_io::Failed;
 
 /// How a whole talk ended.
 #[derive(Clone, Copy, Debug, PartialEq, Eq)]

@@ -9,7 +9,7 @@ ghost use Rattle.link_mesh.specs.Mesh.{sender_at, place_at, SameSent, SameReceiv
 
 use link_ring::{LinkReceive, LinkSend, link, rest};
 use std::alloc::Global;
-use tss_io::NoMemory;
+use tss_base::NoMemory;
 
 // Makes one more link, and puts its ends behind the others.
 fn join_mirrors(

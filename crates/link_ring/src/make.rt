@@ -7,7 +7,7 @@ use crate::receive::LinkReceive;
 use crate::send::LinkSend;
 use rtrb::RingBuffer;
 use std::alloc::Global;
-use tss_io::NoMemory;
+use tss_base::NoMemory;
 
 /// A link for at most `room` messages in all, at least 1: the end that sends and the end that
 /// receives. Nothing was sent, and nothing missed. On `NoMemory` nothing is created.

@@ -9,11 +9,11 @@ use Rattle.game_trait.specs.declared.event.Event.{Event}
 use Rattle.game_trait.specs.declared.event.Event.TheVariants as events
 use Rattle.game_trait.specs.declared.limits.TheConstants.{GREATEST_NUMBER}
 use Rattle.arena_rules.specs.World.{World, opening_world}
-use Rattle.command_lines.specs.CommandLine.{has_act}
+use Rattle.game_trait.specs.Acts.{has_act}
 use Rattle.sync_model.specs.History.{changing}
 use Rattle.sync_model.specs.Turns.{turn_events, turns_of}
 use Rattle.sync_model.proofs.Legal.{all-changing}
-use Rattle.match_file.specs.Data.{MatchData, IsMatch, IsCommand}
+use Rattle.match_data.specs.Data.{MatchData, IsMatch, IsCommand}
 use Rattle.live_text.specs.declared.request.Request.{Request}
 use Rattle.live_text.specs.declared.request.Request.TheVariants.{Own, Cmd, Tick, Turn, Step, Restagger, World as AskWorld, Run, Commands, End}
 use Rattle.live_text.specs.Texts.{MayAsk, AreTerms}

@@ -19,7 +19,7 @@ use Rattle.sync_model.proofs.History.{history_grows, changing_events_suffice, ch
 use Rattle.sync_model.proofs.Legal.{all-changing}
 use Rattle.sync_model.proofs.Room.{after-same, opening_from_history}
 use Rattle.sync_model.proofs.Staggered.{opening_staggered}
-use Rattle.match_file.specs.Data.{MatchData, IsMatch, schedule_of, all_plans}
+use Rattle.match_data.specs.Data.{MatchData, IsMatch, schedule_of, all_plans}
 use Rattle.live_text.specs.declared.request.Request.{Request}
 use Rattle.live_mirror.specs.Events.{after_requests, FitAlong, IsAmong, audited_from}
 use Rattle.live_mirror.specs.Session.{opening_session}

@@ -14,7 +14,7 @@ use Rattle.sync_model.specs.Consistent.{IsConsistent}
 use Rattle.sync_model.specs.History.{HasRoom, HasRoomAlong}
 use Rattle.sync_model.specs.State.{MirrorState}
 use Rattle.sync_model.proofs.Cases.{SameParts, after-fixed, tick-cases, arrive-cases, step-cases, restagger-cases}
-use Rattle.match_file.specs.Data.{MatchData, IsMatch, all_plans, most_commands}
+use Rattle.match_data.specs.Data.{MatchData, IsMatch, all_plans, most_commands}
 use Rattle.live_text.specs.declared.request.Request.{Request}
 use Rattle.run_auditor.proofs.Lengths.{IsCounted, counted-after, opening-counted, history-most}
 use Rattle.live_mirror.specs.Events.{after_requests, FitAlong}

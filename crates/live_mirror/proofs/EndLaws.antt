@@ -12,8 +12,8 @@ use Rattle.tss_io.specs.Lines.{Lines, torn, line, lines_of}
 use Rattle.tss_io.specs.Results.{◌>>=◌}
 use Rattle.line_talk.specs.Hearing.{Hearing, hear, told_of, fresh, led_on, kept}
 use Rattle.match_file.specs.Around.{Around, first_due, in_match, behind}
-use Rattle.match_file.specs.Data.{MatchData, IsCommand, most_commands}
-use Rattle.command_lines.specs.CommandLine.{has_act}
+use Rattle.match_data.specs.Data.{MatchData, IsCommand, most_commands}
+use Rattle.game_trait.specs.Acts.{has_act}
 use Rattle.game_trait.specs.declared.command.Command.{Command}
 use Rattle.game_trait.specs.declared.event.Event.TheVariants as events
 use Rattle.game_trait.proofs.KeyOrder.{all-weaker}

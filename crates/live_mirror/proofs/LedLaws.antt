@@ -9,7 +9,7 @@ use Rattle.tss_io.specs.Lines.{Lines, torn, line, lines_of}
 use Rattle.tss_io.specs.Results.{◌>>=◌}
 use Rattle.line_talk.specs.Hearing.{Hearing, hear, fresh, led_on, kept}
 use Rattle.match_file.specs.Around.{Around, first_due, in_match, behind}
-use Rattle.match_file.specs.Data.{MatchData, IsMatch}
+use Rattle.match_data.specs.Data.{MatchData, IsMatch}
 use Rattle.match_file.proofs.AroundLaws.{ExactTail, IsAround, around_exact}
 use Rattle.live_text.specs.declared.request.Request.{Request}
 use Rattle.live_text.specs.declared.request.Request.TheVariants.{Own, Cmd, Tick, Turn, Step, Restagger, World as AskWorld, Run, Commands, End}

@@ -11,7 +11,7 @@ use Rattle.sync_model.specs.Drafts.{run_of}
 use Rattle.sync_model.specs.History.{repairs}
 use Rattle.sync_model.specs.State.{MirrorState}
 use Rattle.sync_model.specs.Turns.{drain, drain_bound}
-use Rattle.match_file.specs.Data.{MatchData, IsCommand, IsMatch}
+use Rattle.match_data.specs.Data.{MatchData, IsCommand, IsMatch}
 use Rattle.match_file.specs.Text.{match_text}
 use Rattle.report_text.specs.Mirrors.{mirror_line}
 use Rattle.report_text.specs.Worlds.{Showing, copy_block}

@@ -5,7 +5,7 @@ use Rattle.std.proofs.lemmas.List.{length-map}
 use Rattle.game_trait.specs.declared.command.Command.{Command}
 use Rattle.game_trait.specs.declared.command.Item.{Item}
 use Rattle.arena_rules.specs.World.{World, opening_world}
-use Rattle.match_file.specs.Data.{MatchData, IsMatch}
+use Rattle.match_data.specs.Data.{MatchData, IsMatch}
 use Rattle.report_text.specs.Worlds.{Showing}
 use Rattle.run_auditor.specs.Arena.{arena_shown}
 use Rattle.run_auditor.specs.Audit.{Tells, event_count}

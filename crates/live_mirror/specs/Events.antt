@@ -7,7 +7,7 @@ use Rattle.sync_model.specs.Change.{after}
 use Rattle.sync_model.specs.History.{changing}
 use Rattle.sync_model.specs.State.{MirrorState, opening_state}
 use Rattle.sync_model.specs.Turns.{turn_events, turns_of, drain}
-use Rattle.match_file.specs.Data.{MatchData, IsCommand, all_plans}
+use Rattle.match_data.specs.Data.{MatchData, IsCommand, all_plans}
 use Rattle.live_text.specs.declared.request.Request.{Request}
 use Rattle.live_text.specs.declared.request.Request.TheVariants.{Own, Cmd, Tick, Turn, Step, Restagger, World, Run, Commands, End}
 use Rattle.live_text.specs.Requests.{FitsTerms}

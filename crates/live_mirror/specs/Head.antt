@@ -7,7 +7,7 @@ use Rattle.tss_io.specs.Kinds.{is_long}
 use Rattle.tss_io.specs.Machines.{Machine}
 use Rattle.tss_io.specs.Results.{◌>>=◌}
 use Rattle.match_file.specs.Around.{Around, first_due, in_match, behind, around}
-use Rattle.match_file.specs.Data.{MatchData}
+use Rattle.match_data.specs.Data.{MatchData}
 use Rattle.live_mirror.specs.Session.{SessionState, opening_session}
 
 -- the first line of a live mirror's text

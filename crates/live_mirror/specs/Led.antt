@@ -2,7 +2,7 @@
 use Rattle.std.specs.List.{AllByRecursion}
 use Rattle.std.specs.Prelude.{◌≡◌, ℕ, ◌<◌, List}
 use Rattle.arena_rules.specs.World.{World, opening_world}
-use Rattle.match_file.specs.Data.{MatchData, IsMatch, all_plans}
+use Rattle.match_data.specs.Data.{MatchData, IsMatch, all_plans}
 use Rattle.live_text.specs.declared.request.Request.{Request}
 use Rattle.live_mirror.specs.Events.{after_requests, FitAlong, IsOfMatch}
 use Rattle.live_mirror.specs.Session.{SessionState, opening_session}

@@ -6,10 +6,10 @@ use Rattle.game_trait.specs.declared.command.Item.{Item}
 use Rattle.game_trait.specs.Keys.{NamesDiffer}
 use Rattle.arena_rules.specs.World.{World, opening_world}
 use Rattle.tss_io.specs.Lines.{as_line}
-use Rattle.match_file.specs.Data.{MatchData, IsCommand, most_commands}
+use Rattle.match_data.specs.Data.{MatchData, IsCommand, most_commands}
 use Rattle.match_file.specs.Text.{match_text}
 use Rattle.report_text.specs.Worlds.{Showing, copy_block}
-use Rattle.run_recorder.specs.declared.log.MirrorLog.{MirrorLog}
+use Rattle.match_data.specs.declared.log.MirrorLog.{MirrorLog}
 use Rattle.run_recorder.specs.declared.race_record.RaceRecord.{RaceRecord}
 use Rattle.run_recorder.specs.Text.{record_head, last_line}
 use Rattle.live_text.specs.declared.request.Request.{Request}

@@ -5,7 +5,7 @@ use Rattle.game_trait.specs.declared.command.Command.{Command}
 use Rattle.game_trait.specs.declared.event.Event.TheVariants as events
 use Rattle.game_trait.specs.Keys.{NamesDiffer}
 use Rattle.arena_rules.specs.World.{World}
-use Rattle.match_file.specs.Data.{MatchData, most_commands}
+use Rattle.match_data.specs.Data.{MatchData, most_commands}
 use Rattle.live_mirror.specs.Events.{IsAmong}
 use Rattle.live_mirror.specs.Head.{asking}
 use Rattle.live_mirror.specs.Led.{IsOfSetup}

@@ -23,7 +23,8 @@ use report_text::refused_line;
 use std::alloc::Global;
 use std::marker::Model;
 use std::mem;
-use tss_io::{Cause, LONGEST_LINE, LineFault, NoMemory, Refused, Word, check, push_line};
+use tss_base::NoMemory;
+use tss_io::{Cause, LONGEST_LINE, LineFault, Refused, Word, check, push_line};
 
 // What a live mirror heard of its head.
 #[derive(Drop)]

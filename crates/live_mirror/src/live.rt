@@ -13,7 +13,7 @@ use line_talk::Ear;
 use mirror_core::Mirror;
 use std::alloc::Global;
 use std::marker::Model;
-use tss_io::NoMemory;
+use tss_base::NoMemory;
 
 /// A mirror of a match that is fed bytes, cut anywhere, and answers each line of them at once.
 /// Contracts see what it heard: where it stands in its text, and what stands behind the last

@@ -12,7 +12,8 @@ use Rattle.tss_io.proofs.FormLaws.{Chosen, ExactForm, same_words, through, numbe
 use Rattle.tss_io.proofs.KindLaws.{ExactKind, TookOne, keyword_takes, step_again, line_front, line_text, not_alone}
 use Rattle.game_trait.specs.declared.command.Act.{Act}
 use Rattle.game_trait.specs.declared.command.Act.TheVariants.{Go, Left, Right, Shoot, Dash}
-use Rattle.command_lines.specs.CommandLine.{act_word, acts_of, has_act, last_player, CommandFits}
+use Rattle.command_lines.specs.CommandLine.{act_word, acts_of, last_player, CommandFits}
+use Rattle.game_trait.specs.Acts.{has_act}
 use Rattle.command_lines.proofs.CommandLaws.{command_form_exact, last_small}
 use Rattle.live_text.specs.declared.request.Terms.{Terms}
 use Rattle.live_text.specs.declared.request.Request.{Request}

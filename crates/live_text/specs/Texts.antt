@@ -1,7 +1,8 @@
 -- The text that a request has.
 use Rattle.std.specs.Prelude.{◌≡◌, ℕ, ◌<◌, ◌≤◌, ◌-◌, true, List, [], ◌∷◌, codes, decimal}
 use Rattle.game_trait.specs.declared.limits.TheConstants.{LONGEST_MATCH, MOST_COPIES, MOST_MIRRORS, MOST_PLANS}
-use Rattle.command_lines.specs.CommandLine.{act_word, command_line, has_act, last_player, CommandFits}
+use Rattle.command_lines.specs.CommandLine.{act_word, command_line, last_player, CommandFits}
+use Rattle.game_trait.specs.Acts.{has_act}
 use Rattle.tss_io.specs.Lines.{spaced}
 use Rattle.live_text.specs.declared.request.Terms.{Terms}
 use Rattle.live_text.specs.declared.request.Request.{Request}

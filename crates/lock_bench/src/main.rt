@@ -6,7 +6,7 @@
 
 ghost use Rattle.std.specs.Prelude.{◌≡◌, ◌<◌, ◌≤◌, ◌^◌, length};
 ghost use Rattle.std.specs.List.{All};
-ghost use Rattle.tss_io.specs.Totals.{total};
+ghost use Rattle.tss_base.specs.Totals.{total};
 ghost use Rattle.turn_lock.specs.Naming.{lock_name, seat_name};
 
 use std::alloc::Global;

@@ -15,7 +15,7 @@ use Rattle.game_trait.proofs.OrderedParts.{ticks-same}
 use Rattle.sync_model.specs.State.{MirrorState}
 use Rattle.sync_model.specs.Turns.{drain}
 use Rattle.sync_model.proofs.Drain.{draining_delivers_nothing}
-use Rattle.match_file.specs.Data.{MatchData, IsMatch, IsCommand}
+use Rattle.match_data.specs.Data.{MatchData, IsMatch, IsCommand}
 use Rattle.match_hall.proofs.Headline.{drained-IsPlayed}
 use Rattle.lossy_text.specs.declared.net_line.NetLine.{NetLine}
 use Rattle.lossy_text.specs.Data.{LossyData, IsLossy}

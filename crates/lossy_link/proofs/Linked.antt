@@ -10,7 +10,7 @@ use Rattle.game_trait.specs.Keys.{is_named}
 use Rattle.game_trait.proofs.Counts.{times-filter, times-agree}
 use Rattle.game_trait.proofs.Lists.{all-weaker, all-take}
 use Rattle.sync_model.specs.State.{MirrorState}
-use Rattle.match_file.specs.Data.{MatchData}
+use Rattle.match_data.specs.Data.{MatchData}
 use Rattle.lossy_text.specs.declared.net_line.NetLine.{NetLine}
 use Rattle.lossy_text.specs.declared.net_line.NetLine.TheVariants.{Issue, Send, Carry, Ack, Hear, Turn}
 use Rattle.lossy_text.specs.Data.{LossyData, IsLossy, IsNetLine}

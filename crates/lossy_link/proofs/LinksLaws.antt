@@ -12,7 +12,7 @@ use Rattle.game_trait.specs.Keys.{NamesDiffer}
 use Rattle.game_trait.specs.CommandList.{command_named, has_command}
 use Rattle.game_trait.proofs.CommandLists.{names-push, command_named-Contains}
 use Rattle.game_trait.proofs.Lists.{all-push}
-use Rattle.match_file.specs.Data.{MatchData}
+use Rattle.match_data.specs.Data.{MatchData}
 use Rattle.match_hall.specs.Script.{changed_at}
 use Rattle.match_hall.proofs.Along.{changed_at-set}
 use Rattle.lossy_text.specs.declared.net_line.NetLine.{NetLine}

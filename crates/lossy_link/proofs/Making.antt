@@ -7,8 +7,8 @@ use Rattle.std.proofs.lemmas.Grind.{take_at_read}
 use Rattle.game_trait.specs.declared.command.Command.{Command}
 use Rattle.game_trait.proofs.Lists.{all-at}
 use Rattle.sync_model.specs.State.{MirrorState, opening_state}
-use Rattle.match_file.specs.Data.{MatchData, IsMatch, all_plans}
-use Rattle.match_file.specs.declared.script_line.ScriptLine.{ScriptLine}
+use Rattle.match_data.specs.Data.{MatchData, IsMatch, all_plans}
+use Rattle.match_data.specs.declared.script_line.ScriptLine.{ScriptLine}
 use Rattle.match_hall.specs.Script.{mirror_of, changed_at, told_at, after_line, after_script}
 use Rattle.match_hall.specs.Report.{Showing, line_text, script_text}
 use Rattle.match_hall.specs.Stops.{IsFrontPut}

@@ -17,9 +17,9 @@ use Rattle.sync_model.specs.State.{MirrorState}
 use Rattle.sync_model.specs.Change.{next, after}
 use Rattle.sync_model.specs.History.{HasRoomAlong}
 use Rattle.sync_model.specs.Turns.{turn}
-use Rattle.match_file.specs.Data.{MatchData, IsMatch}
-use Rattle.match_file.specs.declared.script_line.ScriptLine.{ScriptLine}
-use Rattle.match_file.specs.declared.script_line.ScriptLine.TheVariants as lines
+use Rattle.match_data.specs.Data.{MatchData, IsMatch}
+use Rattle.match_data.specs.declared.script_line.ScriptLine.{ScriptLine}
+use Rattle.match_data.specs.declared.script_line.ScriptLine.TheVariants as lines
 use Rattle.match_hall.specs.Script.{events_of, arrival_of, changed_at, told_at, after_line, after_script}
 use Rattle.match_hall.specs.Ready.{IsReady}
 use Rattle.match_hall.proofs.Along.{changed_at-set, told_at-get}

@@ -7,9 +7,9 @@ use Rattle.game_trait.specs.Count.{times}
 use Rattle.game_trait.specs.Keys.{NamesDiffer}
 use Rattle.game_trait.specs.CommandList.{command_named, has_command}
 use Rattle.tss_io.specs.Lines.{as_line, spaced}
-use Rattle.match_file.specs.Data.{MatchData}
-use Rattle.match_file.specs.declared.script_line.ScriptLine.{ScriptLine}
-use Rattle.match_file.specs.declared.script_line.ScriptLine.TheVariants as lines
+use Rattle.match_data.specs.Data.{MatchData}
+use Rattle.match_data.specs.declared.script_line.ScriptLine.{ScriptLine}
+use Rattle.match_data.specs.declared.script_line.ScriptLine.TheVariants as lines
 use Rattle.match_hall.specs.Script.{changed_at, told_at}
 use Rattle.lossy_text.specs.declared.net_line.NetLine.{NetLine}
 use Rattle.lossy_text.specs.declared.net_line.NetLine.TheVariants.{Issue, Send, Carry, Ack, Hear, Turn}

@@ -8,7 +8,7 @@ use Rattle.game_trait.specs.Keys.{is_named, NamesDiffer}
 use Rattle.sync_model.specs.State.{MirrorState}
 use Rattle.sync_model.specs.Change.{after}
 use Rattle.sync_model.specs.Legal.{NamesWhatIsThere}
-use Rattle.match_file.specs.Data.{MatchData}
+use Rattle.match_data.specs.Data.{MatchData}
 use Rattle.lossy_text.specs.declared.net_line.NetLine.{NetLine}
 use Rattle.lossy_text.specs.declared.net_line.NetLine.TheVariants.{Issue, Send, Carry, Ack, Hear, Turn}
 use Rattle.lossy_link.specs.Links.{AreLinks, is_from, link_at}

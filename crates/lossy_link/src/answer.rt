@@ -7,12 +7,12 @@ ghost use Rattle.lossy_link.specs.Net.{made_net};
 ghost use Rattle.lossy_link.specs.Finish.{ended_net, lossy_text};
 
 use crate::net::Net;
-use arena_rules::Shown;
 use game_trait::Game;
 use lossy_text::LossyText;
-use run_recorder::MirrorLog;
+use match_data::MirrorLog;
+use match_setup::Shown;
 use std::alloc::Global;
-use tss_io::{NoMemory, Seq};
+use tss_base::{NoMemory, Seq};
 
 /// The answer of a match over a lossy net: its text, and the logs of its mirrors, mirror 0 first.
 #[derive(Drop)]

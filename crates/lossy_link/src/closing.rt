@@ -8,7 +8,7 @@ use crate::link::Link;
 use crate::links::Links;
 use game_trait::MirrorId;
 use lossy_text::NetLine;
-use tss_io::NoMemory;
+use tss_base::NoMemory;
 
 // Appends the lines of what is left in a link.
 #[tactic(auto, unfolding(crate::specs::Finish::packet_lines))]

@@ -9,7 +9,7 @@ ghost use Rattle.game_trait.specs.Keys.{is_named, NamesDiffer};
 ghost use Rattle.game_trait.specs.Run.{world_of};
 ghost use Rattle.game_trait.specs.Ordered.{time_ordered};
 ghost use Rattle.sync_model.specs.State.{MirrorState};
-ghost use Rattle.match_file.specs.Data.{MatchData};
+ghost use Rattle.match_data.specs.Data.{MatchData};
 ghost use Rattle.match_hall.specs.Headline.{IsPlayed};
 ghost use Rattle.lossy_text.specs.Data.{LossyData, IsLossy};
 ghost use Rattle.lossy_text.specs.declared.net_line.NetLine.{NetLine};

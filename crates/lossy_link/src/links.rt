@@ -12,10 +12,10 @@ use crate::link::{Carried, Link};
 use crate::row::Row;
 use game_trait::{Command, CommandList, MirrorId, Number};
 use lossy_text::NetLine;
-use match_file::{Match, ScriptLine, find_command};
+use match_data::{Match, ScriptLine, find_command};
 use std::alloc::Global;
 use std::marker::Model;
-use tss_io::NoMemory;
+use tss_base::NoMemory;
 
 /// All links of a net, and the commands that were issued. Only `new` takes memory.
 #[derive(Drop)]

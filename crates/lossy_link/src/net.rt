@@ -3,7 +3,7 @@
 ghost use Rattle.std.specs.Prelude.{◌≡◌, ◌<◌, ◌++◌, ℕ, Some, length, take, slice_get, OnOk, OnErr, IfOk};
 ghost use Rattle.std.specs.List.{AllByRecursion};
 ghost use Rattle.sync_model.specs.Turns.{IsDrained};
-ghost use Rattle.match_file.specs.Data.{IsMatch};
+ghost use Rattle.match_data.specs.Data.{IsMatch};
 ghost use Rattle.match_hall.specs.Report.{Showing};
 ghost use Rattle.match_hall.specs.Stops.{IsFrontPut};
 ghost use Rattle.match_hall.specs.Script.{logs_from};
@@ -18,17 +18,16 @@ use crate::in_end::InEnd;
 use crate::links::{Links, script_line};
 use crate::notes::push_note;
 use crate::out_end::OutEnd;
-use arena_rules::Shown;
 use game_trait::{Game, MirrorId};
 use lossy_text::{LossyText, NetLine};
-use match_file::Match;
+use match_data::{Match, MirrorLog};
 use match_hall::Hall;
+use match_setup::Shown;
 use mirror_core::DeferredMirror;
 use report_text::done_line;
-use run_recorder::MirrorLog;
 use std::alloc::Global;
 use std::marker::Model;
-use tss_io::{NoMemory, Seq};
+use tss_base::{NoMemory, Seq};
 
 /// The net of a match: a link from each mirror to each, and the mirrors. Only `over`, `finish` and
 /// `logs` take memory.

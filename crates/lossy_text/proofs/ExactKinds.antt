@@ -4,7 +4,7 @@ use Rattle.game_trait.specs.declared.limits.TheConstants.{GREATEST_NET_NUMBER}
 use Rattle.tss_io.specs.Forms.{is_word, InRange, number}
 use Rattle.tss_io.proofs.FormLaws.{ExactField, number_exact, only_exact, then_exact}
 use Rattle.tss_io.proofs.KindLaws.{ExactKind}
-use Rattle.match_file.specs.Data.{MatchData, IsMatch}
+use Rattle.match_data.specs.Data.{MatchData, IsMatch}
 use Rattle.game_trait.specs.declared.limits.TheConstants.{MOST_NET_LINES}
 use Rattle.lossy_text.specs.declared.tail.Tail.{Tail}
 use Rattle.lossy_text.specs.Kinds.{net_kind, issue_kind, send_kind, carry_kind, ack_kind, hear_kind, turn_kind}

@@ -14,16 +14,17 @@ use Rattle.tss_io.specs.Machines.{take_by, take_words, take_whole}
 use Rattle.tss_io.specs.Lines.{Lines}
 use Rattle.tss_io.specs.Runs.{Follows, Stop, run_to}
 use Rattle.tss_io.proofs.AboveLaws.{not_above}
-use Rattle.tss_io.proofs.EachLaws.{all_push}
+use Rattle.tss_base.proofs.ListLaws.{all_push}
 use Rattle.tss_io.proofs.FormLaws.{number_exact}
 use Rattle.tss_io.proofs.Lengths.{section_length}
 use Rattle.tss_io.proofs.KindLaws.{ExactKind, line_text, line_fits, line_length}
 use Rattle.tss_io.proofs.MachineLaws.{Said, in_text, table_exact, ran_said}
 use Rattle.tss_io.proofs.Printing.{lines_text-append}
-use Rattle.tss_io.proofs.RunLaws.{follows_more, all_append}
+use Rattle.tss_io.proofs.RunLaws.{follows_more}
+use Rattle.tss_base.proofs.ListLaws.{all_append}
 use Rattle.tss_io.proofs.Spaced.{Lacks, Lacks-spaced}
 use Rattle.tss_io.proofs.TableLaws.{ExactTable, entry_exact, alone_exact, entry_again, not_this}
-use Rattle.match_file.specs.Data.{MatchData, IsMatch}
+use Rattle.match_data.specs.Data.{MatchData, IsMatch}
 use Rattle.match_file.proofs.AroundLaws.{ExactTail}
 use Rattle.game_trait.specs.declared.limits.TheConstants.{MOST_NET_LINES}
 use Rattle.lossy_text.specs.declared.net_line.NetLine.{NetLine}

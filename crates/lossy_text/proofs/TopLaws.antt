@@ -13,7 +13,7 @@ use Rattle.tss_io.proofs.FormLaws.{through}
 use Rattle.tss_io.proofs.MachineLaws.{gives_found, gives_only, gives_refused}
 use Rattle.tss_io.proofs.Printing.{lines_text-append}
 use Rattle.tss_io.proofs.Spaced.{Lacks}
-use Rattle.match_file.specs.Data.{MatchData}
+use Rattle.match_data.specs.Data.{MatchData}
 use Rattle.match_file.specs.Around.{read_around}
 use Rattle.match_file.specs.Text.{match_lines, match_text}
 use Rattle.match_file.proofs.AroundLaws.{around_found, around_first, around_again}

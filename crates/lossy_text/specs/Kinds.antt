@@ -8,7 +8,7 @@ use Rattle.tss_io.specs.declared.cause.Cause.TheVariants.{Name, Number}
 use Rattle.tss_io.specs.Forms.{last_at, number, Form, only, ◌&◌, is_above}
 use Rattle.tss_io.specs.Kinds.{Kind}
 use Rattle.tss_io.specs.Machines.{entry, alone, Table, Machine, machine_of}
-use Rattle.match_file.specs.Data.{MatchData}
+use Rattle.match_data.specs.Data.{MatchData}
 use Rattle.game_trait.specs.declared.limits.TheConstants.{MOST_NET_LINES}
 use Rattle.lossy_text.specs.declared.net_line.NetLine.{NetLine}
 use Rattle.lossy_text.specs.declared.net_line.NetLine.TheVariants.{Issue, Send, Carry, Ack, Hear, Turn}

@@ -5,7 +5,7 @@ use Rattle.tss_io.specs.declared.fault.TextFault.{TextFault}
 use Rattle.tss_io.specs.declared.fault.TextFault.TheVariants as text_faults
 use Rattle.tss_io.specs.Machines.{IsFirstOf}
 use Rattle.tss_io.specs.Results.{◌>>=◌}
-use Rattle.match_file.specs.Data.{MatchData}
+use Rattle.match_data.specs.Data.{MatchData}
 use Rattle.match_file.specs.Around.{first_due, around, read_around}
 use Rattle.game_trait.specs.declared.limits.TheConstants.{LONGEST_LOSSY_TEXT}
 use Rattle.lossy_text.specs.declared.tail.Tail.{Tail}

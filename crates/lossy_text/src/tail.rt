@@ -7,17 +7,18 @@ ghost use Rattle.tss_io.specs.Lines.{lines_of, words_of};
 ghost use Rattle.tss_io.specs.Machines.{take_words, take_by};
 ghost use Rattle.tss_io.specs.Reading.{Answers, GivesLine, Placed};
 ghost use Rattle.tss_io.specs.Runs.{line_step, run_to, stopped};
-ghost use Rattle.match_file.specs.Data.{MatchData, IsMatch};
+ghost use Rattle.match_data.specs.Data.{MatchData, IsMatch};
 ghost use Rattle.lossy_text.specs.Data.{IsLossy};
 ghost use Rattle.lossy_text.specs.Kinds.{is_net_due, is_in_net, is_done, is_event_due, is_end_due, with_line, net_kind, issue_kind, send_kind, carry_kind, ack_kind, hear_kind, turn_kind, net_table, is_last, no_tail};
 
 use crate::net_line::NetLine;
 use game_trait::MirrorId;
 use game_trait::limits::{GREATEST_NET_NUMBER, MOST_NET_LINES};
-use match_file::Match;
+use match_data::Match;
 use std::alloc::Global;
+use tss_base::{NoMemory, Seq};
 use tss_io::words::{front, last, next_line, number};
-use tss_io::{Cause, LineFault, NoMemory, Seq, check, is_above};
+use tss_io::{Cause, LineFault, check, is_above};
 
 /// How far a lossy text was read behind its match.
 #[derive(Clone, Copy, Debug, PartialEq, Eq)]

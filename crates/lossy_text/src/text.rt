@@ -1,9 +1,9 @@
 //! What a lossy text says.
 
 use crate::net_line::NetLine;
-use match_file::Match;
+use match_data::Match;
 use std::marker::Model;
-use tss_io::Seq;
+use tss_base::Seq;
 
 /// A match, and what a net does with its commands, line by line: what a lossy text can say, and
 /// nothing else. Contracts see it as a record of plain lists.

@@ -15,13 +15,14 @@ use Rattle.tss_io.specs.Runs.{at, is_end, ahead, Follows, Stop, run_to, ended}
 use Rattle.tss_io.proofs.FormLaws.{through, same_words, bytes_eq-same}
 use Rattle.tss_io.proofs.KindLaws.{line_again, one_test}
 use Rattle.tss_io.proofs.Results.{then, unless_ok}
-use Rattle.tss_io.proofs.RunLaws.{all_append, bind_assoc}
+use Rattle.tss_base.proofs.ListLaws.{all_append}
+use Rattle.tss_io.proofs.RunLaws.{bind_assoc}
 use Rattle.tss_io.proofs.RunToLaws.{to_again}
 use Rattle.tss_io.proofs.Spaced.{Lacks}
 use Rattle.tss_io.proofs.MachineLaws.{SaidText, ExactText, one_more, text_found, text_first, lines_whole, run_step, run_inside, run_as, bind_same}
 use Rattle.match_file.specs.declared.body.Body.{Body}
 use Rattle.match_file.specs.declared.opening.Opening.{Opening}
-use Rattle.match_file.specs.Data.{MatchData, IsMatch}
+use Rattle.match_data.specs.Data.{MatchData, IsMatch}
 use Rattle.match_file.specs.Reading.{is_last, match_of, as_match, match_at, read_match, At, head_due, length_due, grid_due, mirrors_due, delays_due, pace_due, in_body, take_line, at_last}
 use Rattle.match_file.specs.Sections.{IsRead}
 use Rattle.match_file.specs.Text.{match_lines, match_text}

@@ -4,7 +4,7 @@ use Rattle.std.specs.Prelude.{codes, not}
 use Rattle.std.proofs.lemmas.Bool.{and_parts, or_cases}
 use Rattle.std.proofs.lemmas.List.{append-nil, map-append}
 use Rattle.game_trait.specs.declared.command.Command.{Command}
-use Rattle.arena_rules.specs.declared.pickup.PickupSpot.{PickupSpot}
+use Rattle.match_setup.specs.declared.pickup.PickupSpot.{PickupSpot}
 use Rattle.command_lines.specs.CommandLine.{command_line}
 use Rattle.tss_io.specs.declared.cause.Cause.TheVariants.{Shape}
 use Rattle.tss_io.specs.Lines.{words_of}
@@ -19,8 +19,8 @@ use Rattle.match_file.specs.declared.body.Stage.TheVariants.{Open, InScript, End
 use Rattle.match_file.specs.declared.cell.Cell.{Cell}
 use Rattle.match_file.specs.declared.opening.Opening.{Opening}
 use Rattle.match_file.specs.declared.player.Player.{Player}
-use Rattle.match_file.specs.declared.script_line.ScriptLine.{ScriptLine}
-use Rattle.match_file.specs.declared.script_line.ScriptLine.TheVariants.{Tick, Turn, Arrive, Step, World, Run, Restagger}
+use Rattle.match_data.specs.declared.script_line.ScriptLine.{ScriptLine}
+use Rattle.match_data.specs.declared.script_line.ScriptLine.TheVariants.{Tick, Turn, Arrive, Step, World, Run, Restagger}
 use Rattle.match_file.specs.Kinds.{is_open, is_script, is_none, plan_kind, wall_kind, pickup_kind, player_kind, command_kind}
 use Rattle.tss_io.specs.Machines.{take_words, take_by, take_whole}
 use Rattle.tss_io.proofs.TableLaws.{ExactTable, entry_exact, alone_exact, table_says, entry_again, not_this}

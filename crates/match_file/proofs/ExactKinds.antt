@@ -5,20 +5,20 @@ use Rattle.std.specs.List.{list_all}
 use Rattle.std.proofs.lemmas.Bool.{leb-true, and_parts}
 use Rattle.std.proofs.lemmas.List.{length-map}
 use Rattle.game_trait.specs.declared.limits.TheConstants.{LONGEST_MATCH, NARROWEST_GRID, WIDEST_GRID, TALLEST_GRID, MOST_MIRRORS, MOST_COPIES, LONGEST_DELAY}
-use Rattle.arena_rules.specs.declared.face.Face.{Face}
-use Rattle.arena_rules.specs.declared.face.Face.TheVariants.{N, E, S, W}
-use Rattle.arena_rules.specs.declared.pickup.Kind.{Kind}
-use Rattle.arena_rules.specs.declared.pickup.Kind.TheVariants.{Ammo, Heal, Gold}
+use Rattle.match_setup.specs.declared.face.Face.{Face}
+use Rattle.match_setup.specs.declared.face.Face.TheVariants.{N, E, S, W}
+use Rattle.match_setup.specs.declared.pickup.Kind.{Kind}
+use Rattle.match_setup.specs.declared.pickup.Kind.TheVariants.{Ammo, Heal, Gold}
 use Rattle.command_lines.proofs.CommandLaws.{command_form_exact, last_small}
 use Rattle.tss_io.specs.Forms.{is_word, InRange, AreNumbers, number}
 use Rattle.tss_io.proofs.FormLaws.{Chosen, ExactField, number_exact, choice_exact, any_word_exact, only_exact, then_exact, made_exact, numbers_exact, numbers_of_exact}
 use Rattle.tss_io.proofs.KindLaws.{ExactKind}
 use Rattle.match_file.specs.declared.opening.Opening.{Opening}
-use Rattle.match_file.specs.Names.{is_letter, is_name_byte, is_name}
+use Rattle.match_data.specs.Names.{is_letter, is_name_byte, is_name}
 use Rattle.match_file.specs.Kinds.{greatest, number_kind, length_kind, grid_kind, mirrors_kind, delays_kind, pace_kind, plan_kind, wall_kind, pickup_kind}
 use Rattle.match_file.specs.Kinds.{player_kind, command_kind, tick_kind, turn_kind, arrive_kind, step_kind, world_kind, run_kind, restagger_kind}
 use Rattle.match_file.specs.Sections.{PlanFits, WallFits, PickupFits, PlayerFits, OrderFits, MirrorFits, CopyFits, ArriveFits, NextPlanFits}
-use Rattle.arena_rules.specs.Block.{face_word, kind_word}
+use Rattle.match_setup.specs.Words.{face_word, kind_word}
 
 -- an opening whose numbers are small enough for its lines
 pub record IsSmall (o : Opening) : Type 0 where

@@ -11,25 +11,26 @@ use Rattle.game_trait.specs.declared.limits.TheConstants.{MOST_COPIES, LONGEST_D
 use Rattle.game_trait.specs.CommandList.{has_command}
 use Rattle.game_trait.specs.Keys.{same_name, NamesDiffer}
 use Rattle.game_trait.proofs.KeyOrder.{same_name-sym}
-use Rattle.arena_rules.specs.declared.pickup.PickupSpot.{PickupSpot}
-use Rattle.arena_rules.specs.declared.spot.Spot.{Spot}
-use Rattle.arena_rules.specs.Ground.{open_grid, is_walled, is_open}
-use Rattle.arena_rules.specs.Setup.{same_cell, spot_cell, pickup_cell}
+use Rattle.match_setup.specs.declared.pickup.PickupSpot.{PickupSpot}
+use Rattle.match_setup.specs.declared.spot.Spot.{Spot}
+use Rattle.match_setup.specs.Ground.{open_grid, is_walled, is_open}
+use Rattle.match_setup.specs.Setup.{same_cell, spot_cell, pickup_cell}
 use Rattle.command_lines.specs.CommandLine.{last_player}
 use Rattle.sync_model.specs.Schedule.{DelaysRise}
 use Rattle.std.proofs.lemmas.Bool.Decides.{nat_tests}
 use Rattle.sync_model.specs.Lists.{last_of}
 use Rattle.tss_io.specs.Forms.{InRange, is_word, is_word_byte}
-use Rattle.tss_io.proofs.EachLaws.{each_split, all_at, all_unmap, all_to, distinct_at, any_map, any_append, list_all_of, of_list_all}
+use Rattle.tss_io.proofs.EachLaws.{each_split}
+use Rattle.tss_base.proofs.ListLaws.{all_at, all_unmap, all_to, distinct_at, any_map, any_append, list_all_of, of_list_all}
 use Rattle.match_file.specs.declared.body.Body.{Body}
 use Rattle.match_file.specs.declared.body.Stage.TheVariants.{Ended}
 use Rattle.match_file.specs.declared.cell.Cell.{Cell}
 use Rattle.match_file.specs.declared.opening.Opening.{Opening}
 use Rattle.match_file.specs.declared.player.Player.{Player}
-use Rattle.match_file.specs.declared.script_line.ScriptLine.{ScriptLine}
-use Rattle.match_file.specs.declared.script_line.ScriptLine.TheVariants.{Tick, Turn, Arrive, Step, World, Run, Restagger}
-use Rattle.match_file.specs.Data.{MatchData, most_players, most_commands, IsCommand, IsScriptLine, shows, IsMatch}
-use Rattle.match_file.specs.Names.{is_letter, is_name_byte, is_name}
+use Rattle.match_data.specs.declared.script_line.ScriptLine.{ScriptLine}
+use Rattle.match_data.specs.declared.script_line.ScriptLine.TheVariants.{Tick, Turn, Arrive, Step, World, Run, Restagger}
+use Rattle.match_data.specs.Data.{MatchData, most_players, most_commands, IsCommand, IsScriptLine, shows, IsMatch}
+use Rattle.match_data.specs.Names.{is_letter, is_name_byte, is_name}
 use Rattle.match_file.specs.Kinds.{is_none, in_grid, has_wall, has_pickup, has_home, has_name, rises, rises_from, greatest}
 use Rattle.match_file.specs.Reading.{walled, match_of}
 use Rattle.match_file.specs.Sections.{PlanRight, WallRight, PickupRight, PlayerRight, CommandRight, ScriptRight, IsOpening, IsRead}

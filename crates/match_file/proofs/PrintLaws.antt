@@ -4,13 +4,13 @@ use Rattle.std.specs.Prelude.{codes, not, slice_get, unwrap_or}
 use Rattle.std.proofs.lemmas.Bool.{lt-ltb, and_parts, not-true}
 use Rattle.std.proofs.lemmas.Bool.Decides.{nat_tests}
 use Rattle.std.proofs.lemmas.List.{map-append}
-use Rattle.arena_rules.specs.declared.spot.Spot.{Spot}
-use Rattle.arena_rules.specs.Ground.{Grid, is_walled, is_open}
+use Rattle.match_setup.specs.declared.spot.Spot.{Spot}
+use Rattle.match_setup.specs.Ground.{Grid, is_walled, is_open}
 use Rattle.command_lines.specs.CommandLine.{command_line}
 use Rattle.tss_io.specs.Lines.{as_line, lines_text}
 use Rattle.tss_io.proofs.Printing.{lines_none, puts, puts_one}
-use Rattle.match_file.specs.declared.script_line.ScriptLine.{ScriptLine}
-use Rattle.match_file.specs.Data.{MatchData}
+use Rattle.match_data.specs.declared.script_line.ScriptLine.{ScriptLine}
+use Rattle.match_data.specs.Data.{MatchData}
 use Rattle.match_file.specs.Text.{head_line, number_line, grid_line, delays_line, wall_line, wall_at, walls_in_row, walls_of, plan_line, pickup_line}
 use Rattle.match_file.specs.Text.{player_line, player_lines, script_line, script_lines, opening_lines, match_lines, match_text}
 

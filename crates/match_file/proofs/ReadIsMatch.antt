@@ -11,31 +11,32 @@ use Rattle.game_trait.specs.declared.command.Command.{Command}
 use Rattle.game_trait.specs.declared.limits.TheConstants.{LONGEST_MATCH, MOST_COPIES, LONGEST_DELAY, MOST_PICKUPS, MOST_PLAYERS, MOST_PLAYERS_IN_1, MOST_SCRIPT_LINES, MOST_SHOWING_LINES}
 use Rattle.game_trait.specs.Keys.{NamesDiffer}
 use Rattle.game_trait.proofs.CommandLists.{names-push}
-use Rattle.arena_rules.specs.declared.pickup.PickupSpot.{PickupSpot}
-use Rattle.arena_rules.specs.declared.spot.Spot.{Spot}
-use Rattle.arena_rules.specs.Ground.{Grid, IsGrid, open_grid, is_walled, is_open}
-use Rattle.arena_rules.specs.Setup.{same_cell, spot_cell, pickup_cell}
-use Rattle.arena_rules.proofs.Walls.{is_walled-open_grid, IsGrid-open_grid}
+use Rattle.match_setup.specs.declared.pickup.PickupSpot.{PickupSpot}
+use Rattle.match_setup.specs.declared.spot.Spot.{Spot}
+use Rattle.match_setup.specs.Ground.{Grid, IsGrid, open_grid, is_walled, is_open}
+use Rattle.match_setup.specs.Setup.{same_cell, spot_cell, pickup_cell}
+use Rattle.match_setup.proofs.Walls.{is_walled-open_grid, IsGrid-open_grid}
 use Rattle.sync_model.specs.Schedule.{IsSchedule, DelaysRise}
 use Rattle.tss_io.specs.Forms.{InRange, AreNumbers}
 use Rattle.tss_io.specs.Kinds.{EachAfter}
-use Rattle.tss_io.proofs.EachLaws.{each_keeps, each_of, each_fewer, all_push, all_map, all_to, distinct_push, any_map, any_append, list_all_of}
+use Rattle.tss_io.proofs.EachLaws.{each_keeps, each_of, each_fewer}
+use Rattle.tss_base.proofs.ListLaws.{all_push, all_map, all_to, distinct_push, any_map, any_append, list_all_of}
 use Rattle.match_file.specs.declared.body.Body.{Body}
 use Rattle.match_file.specs.declared.body.Stage.{Stage}
 use Rattle.match_file.specs.declared.body.Stage.TheVariants.{Open, InScript, Ended}
 use Rattle.match_file.specs.declared.cell.Cell.{Cell}
 use Rattle.match_file.specs.declared.opening.Opening.{Opening}
 use Rattle.match_file.specs.declared.player.Player.{Player}
-use Rattle.match_file.specs.declared.script_line.ScriptLine.{ScriptLine}
-use Rattle.match_file.specs.declared.script_line.ScriptLine.TheVariants.{Tick, Turn, Arrive, Step, World, Run, Restagger}
-use Rattle.match_file.specs.Data.{most_players, most_commands, IsScriptLine, shows, IsMatch}
-use Rattle.match_file.specs.Names.{is_name}
+use Rattle.match_data.specs.declared.script_line.ScriptLine.{ScriptLine}
+use Rattle.match_data.specs.declared.script_line.ScriptLine.TheVariants.{Tick, Turn, Arrive, Step, World, Run, Restagger}
+use Rattle.match_data.specs.Data.{most_players, most_commands, IsScriptLine, shows, IsMatch}
+use Rattle.match_data.specs.Names.{is_name}
 use Rattle.match_file.specs.Kinds.{is_open as stage_open, is_ended, is_none, in_grid, last_cell, has_wall, has_pickup, has_home, has_name, rises, rises_from}
 use Rattle.match_file.specs.Reading.{walled, match_of}
 use Rattle.match_file.specs.Sections.{PlanRight, WallRight, PickupRight, PlayerRight, CommandRight, ScriptRight, IsRead}
 use Rattle.match_file.proofs.OpeningLaws.{opening_small}
 use Rattle.match_file.proofs.WallLaws.{place, InGrid, LastSmall, next_place, last_push, last_step, behind_place, walled_width, walled_height, walled_grid, walled_has, rises_push}
-use Rattle.tss_io.proofs.RunLaws.{all_append}
+use Rattle.tss_base.proofs.ListLaws.{all_append}
 
 -- ---- delays
 

@@ -7,8 +7,8 @@ use Rattle.std.proofs.lemmas.Bool.{or_parts}
 use Rattle.std.proofs.lemmas.Slice.Eq.{bytes_eq-Decides}
 use Rattle.std.proofs.lemmas.Grind.{take_at_read}
 use Rattle.std.proofs.lemmas.List.{map-append, take-append-drop}
-use Rattle.arena_rules.specs.Roster.{is_known, with_name}
-use Rattle.tss_io.proofs.EachLaws.{distinct_at}
+use Rattle.match_setup.specs.Roster.{is_known, with_name}
+use Rattle.tss_base.proofs.ListLaws.{distinct_at}
 use Rattle.match_file.specs.declared.player.Player.{Player}
 
 bytes_eq-sym : (a b : List ℕ) → bytes_eq a b ≡ false → bytes_eq b a ≡ false

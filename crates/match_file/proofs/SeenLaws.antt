@@ -17,8 +17,8 @@ use Rattle.match_file.specs.declared.body.Body.{Body}
 use Rattle.match_file.specs.declared.body.Stage.{Stage}
 use Rattle.match_file.specs.declared.body.Stage.TheVariants.{Open, InScript, Ended}
 use Rattle.match_file.specs.declared.opening.Opening.{Opening}
-use Rattle.match_file.specs.declared.script_line.ScriptLine.TheVariants.{Turn, Arrive}
-use Rattle.match_file.specs.Data.{most_commands}
+use Rattle.match_data.specs.declared.script_line.ScriptLine.TheVariants.{Turn, Arrive}
+use Rattle.match_data.specs.Data.{most_commands}
 use Rattle.match_file.specs.Kinds.{is_open, is_script, is_ended, has_room, ranges_of}
 use Rattle.match_file.specs.Reading.{body_entries, body_table, may_open, take, is_last}
 use Rattle.match_file.specs.Sections.{IsOpening}

@@ -7,8 +7,8 @@ use Rattle.std.proofs.Math.Seq.{drop-append_seam}
 use Rattle.std.proofs.lemmas.List.{take-append-drop}
 use Rattle.std.proofs.lemmas.Bool.{le-ltb, ltb-true, ltb-false}
 use Rattle.game_trait.specs.declared.limits.TheConstants.{LONGEST_MATCH_TEXT}
-use Rattle.arena_rules.specs.Ground.{open_grid}
-use Rattle.arena_rules.proofs.Walls.{IsGrid-open_grid}
+use Rattle.match_setup.specs.Ground.{open_grid}
+use Rattle.match_setup.proofs.Walls.{IsGrid-open_grid}
 use Rattle.command_lines.specs.CommandLine.{command_line}
 use Rattle.tss_io.specs.declared.cause.Cause.TheVariants.{End, Long}
 use Rattle.tss_io.specs.declared.fault.Refused.{Refused}
@@ -31,8 +31,8 @@ use Rattle.match_file.specs.declared.body.Stage.{Stage}
 use Rattle.match_file.specs.declared.body.Stage.TheVariants.{Open, InScript, Ended}
 use Rattle.match_file.specs.declared.opening.Opening.{Opening}
 use Rattle.match_file.specs.declared.player.Player.{Player}
-use Rattle.match_file.specs.declared.script_line.ScriptLine.{ScriptLine}
-use Rattle.match_file.specs.Data.{MatchData, IsMatch}
+use Rattle.match_data.specs.declared.script_line.ScriptLine.{ScriptLine}
+use Rattle.match_data.specs.Data.{MatchData, IsMatch}
 use Rattle.match_file.specs.Kinds.{is_ended}
 use Rattle.match_file.specs.Reading.{walled, match_at, match_of, as_match, read_match, read_text, IsFirst, head_due, take_line, checks_of, at_last, IsFirstAt}
 use Rattle.match_file.specs.Sections.{IsRead, home_line, body_lines, front_lines, closing_lines}

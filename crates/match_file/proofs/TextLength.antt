@@ -15,8 +15,8 @@ use Rattle.match_file.specs.declared.body.Stage.{Stage}
 use Rattle.match_file.specs.declared.body.Stage.TheVariants.{Open, InScript, Ended}
 use Rattle.match_file.specs.declared.opening.Opening.{Opening}
 use Rattle.match_file.specs.declared.player.Player.{Player}
-use Rattle.match_file.specs.declared.script_line.ScriptLine.{ScriptLine}
-use Rattle.match_file.specs.declared.script_line.ScriptLine.TheVariants.{Tick, Turn, Arrive, Step, World, Run, Restagger}
+use Rattle.match_data.specs.declared.script_line.ScriptLine.{ScriptLine}
+use Rattle.match_data.specs.declared.script_line.ScriptLine.TheVariants.{Tick, Turn, Arrive, Step, World, Run, Restagger}
 use Rattle.match_file.specs.Sections.{PlanRight, WallRight, PickupRight, PlayerRight, CommandRight, ScriptRight, IsRead, IsOpening, home_line, closing_lines, body_lines, front_lines}
 use Rattle.match_file.specs.Text.{plan_line, wall_line, pickup_line, script_line}
 use Rattle.match_file.proofs.ExactKinds.{IsSmall, short_name, length_exact, grid_exact, mirrors_exact, delays_exact, pace_exact, plan_exact, wall_exact}

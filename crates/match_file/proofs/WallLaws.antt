@@ -9,15 +9,15 @@ use Rattle.std.proofs.lemmas.Bool.Decides.{nat_tests}
 use Rattle.std.proofs.lemmas.List.{map-append, ext_get_or}
 use Rattle.std.proofs.lemmas.Grind.{take_at_read}
 use Rattle.std.proofs.lemmas.Nat.Bits.{same_from_bits_below, bit_at-lt}
-use Rattle.arena_rules.specs.Ground.{Grid, IsGrid, open_grid, is_walled, with_wall}
-use Rattle.arena_rules.proofs.Walls.{is_walled-open_grid, is_walled-with_wall, IsGrid-open_grid, IsGrid-with_wall}
+use Rattle.match_setup.specs.Ground.{Grid, IsGrid, open_grid, is_walled, with_wall}
+use Rattle.match_setup.proofs.Walls.{is_walled-open_grid, is_walled-with_wall, IsGrid-open_grid, IsGrid-with_wall}
 use Rattle.sync_model.specs.Schedule.{DelaysRise}
-use Rattle.tss_io.proofs.EachLaws.{any_append, all_push, all_to}
+use Rattle.tss_base.proofs.ListLaws.{any_append, all_push, all_to}
 use Rattle.match_file.specs.declared.cell.Cell.{Cell}
 use Rattle.match_file.specs.Kinds.{has_wall, is_behind, last_cell}
 use Rattle.match_file.specs.Reading.{walled}
 use Rattle.match_file.specs.Text.{walls_in_row, walls_of}
-use Rattle.tss_io.proofs.RunLaws.{all_append}
+use Rattle.tss_base.proofs.ListLaws.{all_append}
 
 -- ---- cells as numbers
 

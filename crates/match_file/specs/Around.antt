@@ -9,7 +9,7 @@ use Rattle.tss_io.specs.Machines.{Machine}
 use Rattle.tss_io.specs.Reading.{refused_at}
 use Rattle.tss_io.specs.Results.{◌>>=◌}
 use Rattle.tss_io.specs.Runs.{at, run_to, ended}
-use Rattle.match_file.specs.Data.{MatchData}
+use Rattle.match_data.specs.Data.{MatchData}
 use Rattle.match_file.specs.Reading.{At, head_due, length_due, grid_due, mirrors_due, delays_due, pace_due, in_body, take_line, checks_of, at_last, match_of, read_match}
 
 -- the machine of a match text

@@ -8,11 +8,11 @@ use Rattle.game_trait.specs.declared.limits.TheConstants.{LONGEST_MATCH, NARROWE
 use Rattle.game_trait.specs.declared.limits.TheConstants.{LONGEST_DELAY, MOST_PLANS, MOST_PICKUPS, MOST_SCRIPT_LINES, MOST_SHOWING_LINES}
 use Rattle.game_trait.specs.declared.limits.TheConstants.{GREATEST_NUMBER}
 use Rattle.game_trait.specs.CommandList.{has_command}
-use Rattle.arena_rules.specs.declared.face.Face.{Face}
-use Rattle.arena_rules.specs.declared.face.Face.TheVariants.{N, E, S, W}
-use Rattle.arena_rules.specs.declared.pickup.Kind as pickup_kinds
-use Rattle.arena_rules.specs.declared.pickup.Kind.TheVariants.{Ammo, Heal, Gold}
-use Rattle.arena_rules.specs.declared.pickup.PickupSpot.{PickupSpot}
+use Rattle.match_setup.specs.declared.face.Face.{Face}
+use Rattle.match_setup.specs.declared.face.Face.TheVariants.{N, E, S, W}
+use Rattle.match_setup.specs.declared.pickup.Kind as pickup_kinds
+use Rattle.match_setup.specs.declared.pickup.Kind.TheVariants.{Ammo, Heal, Gold}
+use Rattle.match_setup.specs.declared.pickup.PickupSpot.{PickupSpot}
 use Rattle.sync_model.specs.Schedule.{longest_delay}
 use Rattle.command_lines.specs.declared.ranges.CommandRanges.{CommandRanges}
 use Rattle.command_lines.specs.CommandLine.{last_player, command_form}
@@ -26,11 +26,11 @@ use Rattle.match_file.specs.declared.body.Stage.TheVariants.{Open, InScript, End
 use Rattle.match_file.specs.declared.cell.Cell.{Cell}
 use Rattle.match_file.specs.declared.opening.Opening.{Opening}
 use Rattle.match_file.specs.declared.player.Player.{Player}
-use Rattle.match_file.specs.declared.script_line.ScriptLine.{ScriptLine}
-use Rattle.match_file.specs.declared.script_line.ScriptLine.TheVariants.{Tick, Turn, Arrive, Step, World, Run, Restagger}
-use Rattle.match_file.specs.Data.{most_players, most_commands, shows}
-use Rattle.match_file.specs.Names.{is_name}
-use Rattle.arena_rules.specs.Block.{face_word, kind_word}
+use Rattle.match_data.specs.declared.script_line.ScriptLine.{ScriptLine}
+use Rattle.match_data.specs.declared.script_line.ScriptLine.TheVariants.{Tick, Turn, Arrive, Step, World, Run, Restagger}
+use Rattle.match_data.specs.Data.{most_players, most_commands, shows}
+use Rattle.match_data.specs.Names.{is_name}
+use Rattle.match_setup.specs.Words.{face_word, kind_word}
 
 -- ---- where the text stands
 

@@ -2,7 +2,7 @@
 use Rattle.std.specs.Prelude.{◌≡◌, ℕ, ◌-◌, true, false, List, [], ◌++◌, length, map}
 use Rattle.game_trait.specs.declared.command.Command.{Command}
 use Rattle.game_trait.specs.declared.limits.TheConstants.{LONGEST_MATCH, NARROWEST_GRID, WIDEST_GRID, TALLEST_GRID, MOST_MIRRORS, LONGEST_DELAY, MOST_PLANS, GREATEST_NUMBER}
-use Rattle.arena_rules.specs.declared.pickup.PickupSpot.{PickupSpot}
+use Rattle.match_setup.specs.declared.pickup.PickupSpot.{PickupSpot}
 use Rattle.command_lines.specs.CommandLine.{CommandFits, command_line}
 use Rattle.tss_io.specs.Forms.{is_word, InRange, AreNumbers}
 use Rattle.tss_io.specs.Kinds.{Sound, EachAfter}
@@ -12,8 +12,8 @@ use Rattle.match_file.specs.declared.body.Stage.TheVariants.{Open, InScript, End
 use Rattle.match_file.specs.declared.cell.Cell.{Cell}
 use Rattle.match_file.specs.declared.opening.Opening.{Opening}
 use Rattle.match_file.specs.declared.player.Player.{Player}
-use Rattle.match_file.specs.declared.script_line.ScriptLine.{ScriptLine}
-use Rattle.match_file.specs.declared.script_line.ScriptLine.TheVariants.{Tick, Turn, Arrive, Step, World, Run, Restagger}
+use Rattle.match_data.specs.declared.script_line.ScriptLine.{ScriptLine}
+use Rattle.match_data.specs.declared.script_line.ScriptLine.TheVariants.{Tick, Turn, Arrive, Step, World, Run, Restagger}
 use Rattle.match_file.specs.Kinds.{greatest, is_open, is_ended, is_none, length_kind, grid_kind, mirrors_kind, delays_kind, pace_kind, plan_kind}
 use Rattle.match_file.specs.Kinds.{wall_kind, pickup_kind, player_kind, ranges_of, command_kind, tick_kind, turn_kind, arrive_kind, step_kind}
 use Rattle.match_file.specs.Kinds.{world_kind, run_kind, restagger_kind}

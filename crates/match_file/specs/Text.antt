@@ -1,15 +1,15 @@
 -- The text of a match, line by line.
 use Rattle.std.specs.Prelude.{ℕ, zero, suc, ◌==◌, if◌then◌else◌, List, [], ◌∷◌, ◌++◌, map, codes, decimal}
-use Rattle.arena_rules.specs.declared.pickup.PickupSpot.{PickupSpot}
-use Rattle.arena_rules.specs.declared.spot.Spot.{Spot}
-use Rattle.arena_rules.specs.Block.{face_word, kind_word}
-use Rattle.arena_rules.specs.Ground.{Grid, is_walled}
+use Rattle.match_setup.specs.declared.pickup.PickupSpot.{PickupSpot}
+use Rattle.match_setup.specs.declared.spot.Spot.{Spot}
+use Rattle.match_setup.specs.Words.{face_word, kind_word}
+use Rattle.match_setup.specs.Ground.{Grid, is_walled}
 use Rattle.command_lines.specs.CommandLine.{command_line}
 use Rattle.tss_io.specs.Lines.{spaced, lines_text}
 use Rattle.match_file.specs.declared.cell.Cell.{Cell}
-use Rattle.match_file.specs.declared.script_line.ScriptLine.{ScriptLine}
-use Rattle.match_file.specs.declared.script_line.ScriptLine.TheVariants.{Tick, Turn, Arrive, Step, World, Run, Restagger}
-use Rattle.match_file.specs.Data.{MatchData}
+use Rattle.match_data.specs.declared.script_line.ScriptLine.{ScriptLine}
+use Rattle.match_data.specs.declared.script_line.ScriptLine.TheVariants.{Tick, Turn, Arrive, Step, World, Run, Restagger}
+use Rattle.match_data.specs.Data.{MatchData}
 
 -- the first line
 abbrev pub head_line : ℕ → List ℕ

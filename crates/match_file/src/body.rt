@@ -1,6 +1,6 @@
 //! The lines behind the pace.
 
-ghost use Rattle.std.specs.Prelude.{◌≡◌, ◌≤◌, ◌<◌, ◌+◌, ◌^◌, ◌&&◌, length, IfOk, IfErr, IfSome, IfNone, Ok};
+ghost use Rattle.std.specs.Prelude.{◌≡◌, ◌≤◌, ◌<◌, ◌+◌, ◌&&◌, length, IfOk, IfErr, IfSome, IfNone, Ok};
 ghost use Rattle.game_trait.specs.declared.limits.TheConstants.{MOST_COPIES};
 ghost use Rattle.tss_io.specs.Lines.{lines_of, words_of};
 ghost use Rattle.tss_io.specs.Reading.{GivesLine, Placed};
@@ -8,26 +8,28 @@ ghost use Rattle.tss_io.specs.declared.fault.LineFault.TheVariants as line_fault
 ghost use Rattle.tss_io.specs.Kinds.{step};
 ghost use Rattle.tss_io.specs.Machines.{take_words};
 ghost use Rattle.tss_io.specs.Runs.{line_step, run_to, stopped};
-ghost use Rattle.match_file.specs.Kinds.{is_open, is_script, is_ended, is_none, plan_kind, wall_kind, pickup_kind, player_kind, command_kind, tick_kind, turn_kind, arrive_kind, step_kind, world_kind, run_kind, restagger_kind};
+ghost use Rattle.match_file.specs.Kinds.{is_open, is_script, is_ended, is_none, plan_kind, wall_kind, pickup_kind, player_kind, command_kind};
 ghost use Rattle.match_file.specs.Sections.{IsOpening};
 ghost use Rattle.match_file.specs.Reading.{body_entries, may_open, may_end, take, is_last, no_body};
 
 use crate::cell::Cell;
 use crate::commands::Commands;
-use crate::glance::{arrival_of, command_of, is_text, keyword_of, line_of, turn_of};
 use crate::opening::{Opening, rises};
 use crate::place::{has_pickup, has_wall, is_behind_all, kind_of};
-use crate::player::{Player, face_of, has_home, has_name, is_name};
+use crate::player::{Player, face_of, has_home, has_name};
 use crate::script::Script;
-use crate::script_line::ScriptLine;
+use crate::seen::{arrival_of, command_of, turn_of};
 use crate::versions::{most_commands, most_players};
-use arena_rules::{PickupSpot, Spot};
 use command_lines::CommandWords;
 use game_trait::limits::{GREATEST_NUMBER, LONGEST_DELAY, MOST_PICKUPS, MOST_PLANS};
 use game_trait::{MirrorId, Tick};
+use match_data::{ScriptLine, is_name};
+use match_setup::{PickupSpot, Spot};
 use std::alloc::Global;
+use tss_base::Seq;
+use tss_io::glance::{is_text, keyword_of, line_of};
 use tss_io::words::{front, last, number, numbers, so_many_words};
-use tss_io::{Cause, LineFault, Seq, check};
+use tss_io::{Cause, LineFault, check};
 
 /// How far a text was read.
 #[derive(Clone, Copy, Debug, PartialEq, Eq)]

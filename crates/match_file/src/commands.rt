@@ -6,7 +6,7 @@ ghost use Rattle.game_trait.specs.CommandList.{has_command};
 use game_trait::{Command, CommandList, MirrorId, Number};
 use std::alloc::Global;
 use std::marker::Model;
-use tss_io::NoMemory;
+use tss_base::NoMemory;
 
 /// Commands in the order of their lines, each found at once by its mirror and number. Contracts see
 /// the commands.

@@ -6,7 +6,7 @@ ghost use Rattle.sync_model.specs.Schedule.{longest_delay};
 ghost use Rattle.tss_io.specs.Lines.{lines_of};
 ghost use Rattle.tss_io.specs.Reading.{Answers, GivesLine, Placed};
 ghost use Rattle.tss_io.specs.Kinds.{once};
-ghost use Rattle.match_file.specs.Kinds.{in_grid, ranges_of, number_kind, length_kind, grid_kind, mirrors_kind, delays_kind, pace_kind, rises, rises_from};
+ghost use Rattle.match_file.specs.Kinds.{in_grid, ranges_of, number_kind, grid_kind, delays_kind, pace_kind, rises};
 ghost use Rattle.match_file.specs.Reading.{head_version, head_at, opening_at};
 
 use command_lines::{CommandRanges, last_player};
@@ -16,8 +16,9 @@ use game_trait::limits::{
 };
 use game_trait::{MirrorId, Tick};
 use std::alloc::Global;
+use tss_base::Seq;
 use tss_io::words::{count, each_word, front, keyword_line, last, next_line, number, numbers};
-use tss_io::{Cause, LineFault, Seq, check};
+use tss_io::{Cause, LineFault, check};
 
 /// What the lines up to the pace say.
 #[derive(Drop)]

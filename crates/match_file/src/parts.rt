@@ -4,20 +4,20 @@ ghost use Rattle.std.specs.Prelude.{◌≡◌, ◌≤◌, ◌<◌, length, map, 
 ghost use Rattle.std.specs.List.{AllByRecursion, IsDistinct};
 ghost use Rattle.std.specs.Prelude.{bytes_eq};
 ghost use Rattle.game_trait.specs.declared.limits.TheConstants.{NARROWEST_GRID, WIDEST_GRID, TALLEST_GRID, MOST_PICKUPS, MOST_PLAYERS};
-ghost use Rattle.arena_rules.specs.Ground.{open_grid};
+ghost use Rattle.match_setup.specs.Ground.{open_grid};
 ghost use Rattle.match_file.specs.Reading.{match_of, walled};
 ghost use Rattle.match_file.specs.Sections.{IsRead};
 
 use crate::body::Body;
 use crate::cell::Cell;
-use crate::game_match::Match;
 use crate::opening::Opening;
 use crate::player::Player;
-use arena_rules::{Ground, PickupSpot, Roster, Setup, Spot};
 use arrayvec::ArrayVec;
 use game_trait::limits::{MOST_PICKUPS, MOST_PLAYERS};
+use match_data::Match;
+use match_setup::{Ground, PickupSpot, Roster, Setup, Spot};
 use std::alloc::Global;
-use tss_io::NoMemory;
+use tss_base::NoMemory;
 
 // The ground of these sides with these walls.
 fn ground_of(width: u8, height: u8, walls: &[Cell]) -> Ground

@@ -1,14 +1,14 @@
 //! Walls and pickups, and the cells that they take.
 
 ghost use Rattle.std.specs.Prelude.{◌≡◌, [], ◌∷◌};
-ghost use Rattle.arena_rules.specs.Block.{kind_word};
-ghost use Rattle.arena_rules.specs.declared.pickup.Kind.TheVariants as pickup_kinds;
+ghost use Rattle.match_setup.specs.Words.{kind_word};
+ghost use Rattle.match_setup.specs.declared.pickup.Kind.TheVariants as pickup_kinds;
 ghost use Rattle.tss_io.specs.Reading.{Answers};
 ghost use Rattle.tss_io.specs.Forms.{picked};
 ghost use Rattle.match_file.specs.Kinds.{has_wall, has_pickup, is_behind, last_cell};
 
 use crate::cell::Cell;
-use arena_rules::{Kind, PickupSpot};
+use match_setup::{Kind, PickupSpot};
 use tss_io::Cause;
 
 /// The kind of pickup that the word names.

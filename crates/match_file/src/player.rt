@@ -1,16 +1,15 @@
 //! The names and homes of players.
 
 ghost use Rattle.std.specs.Prelude.{◌≡◌, [], ◌∷◌};
-ghost use Rattle.std.specs.List.{list_all};
-ghost use Rattle.arena_rules.specs.Block.{face_word};
-ghost use Rattle.arena_rules.specs.declared.face.Face.TheVariants as faces;
+ghost use Rattle.match_setup.specs.Words.{face_word};
+ghost use Rattle.match_setup.specs.declared.face.Face.TheVariants as faces;
 ghost use Rattle.tss_io.specs.Reading.{Answers};
 ghost use Rattle.tss_io.specs.Forms.{picked};
-ghost use Rattle.match_file.specs.Names.{is_letter, is_name_byte, is_name};
 ghost use Rattle.match_file.specs.Kinds.{has_name, has_home};
 
-use arena_rules::{Face, Spot};
-use tss_io::{Cause, Seq};
+use match_setup::{Face, Spot};
+use tss_base::Seq;
+use tss_io::Cause;
 
 /// A player's name and home.
 #[derive(Drop)]
@@ -36,39 +35,6 @@ pub fn face_of(word: &[u8]) -> Result<Face, Cause>
         Ok(Face::W)
     } else {
         Err(Cause::Shape)
-    }
-}
-
-// A letter from a to z.
-fn is_letter(byte: u8) -> bool
-    ensures { result ≡ is_letter byte }
-{
-    byte.is_ascii_lowercase()
-}
-
-// Such a letter, or a digit.
-fn is_name_byte(byte: u8) -> bool
-    ensures { result ≡ is_name_byte byte }
-{
-    is_letter(byte) || byte.is_ascii_digit()
-}
-
-// Whether all bytes are such.
-fn are_name_bytes(bytes: &[u8]) -> bool
-    ensures { result ≡ list_all is_name_byte bytes.now }
-{
-    bytes.iter().all(|byte| is_name_byte(*byte))
-}
-
-/// Whether the word is a name: 1 to 12 letters from a to z and digits, a letter first (this
-/// project's own rule).
-#[tactic(auto, unfolding(crate::specs::Names::is_name))]
-pub fn is_name(word: &[u8]) -> bool
-    ensures { result ≡ is_name word.now }
-{
-    match word {
-        [] => false,
-        [first, rest @ ..] => { is_letter(*first) && rest.len() <= 11 && are_name_bytes(rest) }
     }
 }
 

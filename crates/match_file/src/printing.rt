@@ -1,20 +1,18 @@
 //! Printing match texts.
 
-ghost use Rattle.std.specs.Prelude.{◌≡◌, ◌≤◌, ◌<◌, ◌++◌, ◌∷◌, [], length, map, codes, decimal, slice_get, unwrap_or, OnOk, IfOk};
+ghost use Rattle.std.specs.Prelude.{◌≡◌, ◌≤◌, ◌<◌, ◌++◌, ◌∷◌, [], length, map, decimal, slice_get, unwrap_or, OnOk, IfOk};
 ghost use Rattle.game_trait.specs.declared.limits.TheConstants.{MOST_PLAYERS};
-ghost use Rattle.arena_rules.specs.Ground.{IsGrid};
 ghost use Rattle.command_lines.specs.CommandLine.{command_line};
 ghost use Rattle.tss_io.specs.Lines.{as_line, spaced, lines_text};
-ghost use Rattle.match_file.specs.Data.{IsMatch};
-ghost use Rattle.match_file.specs.Text.{head_line, number_line, grid_line, wall_line, pickup_line, player_line, script_line, wall_at, walls_in_row, walls_of, player_lines, script_lines, opening_lines, plan_line, match_lines, match_text};
+ghost use Rattle.match_file.specs.Text.{head_line, number_line, grid_line, wall_line, pickup_line, player_line, script_line, wall_at, walls_in_row, walls_of, player_lines, script_lines, opening_lines, plan_line, match_text};
 
-use crate::game_match::Match;
-use crate::script_line::ScriptLine;
-use arena_rules::{Ground, PickupSpot, Roster, Spot};
 use command_lines::push_command;
 use game_trait::{Command, Tick};
+use match_data::{Match, ScriptLine};
+use match_setup::{Ground, PickupSpot, Roster, Spot};
 use std::alloc::Global;
-use tss_io::{NoMemory, Seq, Word, push_line};
+use tss_base::{NoMemory, Seq};
+use tss_io::{Word, push_line};
 
 // Appends a line of a single word, or of words that stand in it as they are.
 #[tactic(auto, unfolding(tss_io::specs::Lines::spaced))]

@@ -1,19 +1,19 @@
 //! Reading match texts.
 
-ghost use Rattle.std.specs.Prelude.{◌≡◌, ◌≤◌, ◌<◌, ◌+◌, ◌++◌, ◌^◌, ℕ, List, length, IfOk, IfErr, OnErr, Ok};
+ghost use Rattle.std.specs.Prelude.{◌≡◌, ◌≤◌, ◌<◌, ◌+◌, ◌++◌, ℕ, List, length, IfOk, IfErr, OnErr, Ok};
 ghost use Rattle.tss_io.specs.Lines.{lines_of};
-ghost use Rattle.tss_io.specs.Reading.{Fails, Gives, GivesLine, Placed};
-ghost use Rattle.tss_io.specs.Runs.{stopped, ended};
+ghost use Rattle.tss_io.specs.Reading.{Fails, Gives, Placed};
+ghost use Rattle.tss_io.specs.Runs.{stopped};
 ghost use Rattle.tss_io.specs.Walks.{left_of};
-ghost use Rattle.match_file.specs.Data.{MatchData, IsMatch};
+ghost use Rattle.match_data.specs.Data.{MatchData, IsMatch};
 ghost use Rattle.match_file.specs.Reading.{match_at, read_text, read_match, IsFirst, IsFirstAt};
 ghost use Rattle.match_file.specs.Text.{match_text};
 
 use crate::body::{Body, read_body};
-use crate::game_match::Match;
 use crate::opening::{Opening, read_opening};
 use crate::parts::match_of;
 use game_trait::limits::LONGEST_MATCH_TEXT;
+use match_data::Match;
 use std::alloc::Global;
 use tss_io::{Cause, LineFault, Lines, TextFault, at_end, check};
 

@@ -2,14 +2,14 @@
 
 ghost use Rattle.std.specs.Prelude.{◌≡◌, ◌++◌, ◌∷◌, [], ◌<◌, length, count_by, OnOk, OnErr};
 ghost use Rattle.game_trait.specs.declared.limits.TheConstants.{MOST_SCRIPT_LINES};
-ghost use Rattle.match_file.specs.Data.{shows};
+ghost use Rattle.match_data.specs.Data.{shows};
 ghost use Rattle.match_file.specs.Kinds.{is_none, has_room, has_showing_room};
 
-use crate::script_line::ScriptLine;
 use game_trait::limits::{MOST_SCRIPT_LINES, MOST_SHOWING_LINES};
+use match_data::ScriptLine;
 use std::alloc::Global;
 use std::marker::Model;
-use tss_io::{NoMemory, Seq};
+use tss_base::{NoMemory, Seq};
 
 /// The lines of a script in order, and how many of them show a world or a run. Contracts see the
 /// lines.
@@ -21,8 +21,8 @@ pub struct Script {
 
 impl Model for Script {
     ghost use Rattle.std.specs.Prelude.{◌≡◌, List, count_by};
-    ghost use Rattle.match_file.specs.declared.script_line.ScriptLine.{ScriptLine};
-    ghost use Rattle.match_file.specs.Data.{shows};
+    ghost use Rattle.match_data.specs.declared.script_line.ScriptLine.{ScriptLine};
+    ghost use Rattle.match_data.specs.Data.{shows};
 
     ghost Value = { List ScriptLine };
 

@@ -1,6 +1,6 @@
 //! The lines of a script, as they are read.
 
-ghost use Rattle.std.specs.Prelude.{◌≡◌, ◌≤◌, ◌-◌, length};
+ghost use Rattle.std.specs.Prelude.{◌≤◌, ◌-◌, length};
 ghost use Rattle.game_trait.specs.declared.limits.TheConstants.{MOST_COPIES};
 ghost use Rattle.tss_io.specs.Lines.{words_of};
 ghost use Rattle.tss_io.specs.Reading.{Answers, GivesLine};
@@ -9,11 +9,11 @@ ghost use Rattle.tss_io.specs.Kinds.{step};
 ghost use Rattle.match_file.specs.Kinds.{tick_kind, turn_kind, arrive_kind, step_kind, world_kind, run_kind, restagger_kind};
 
 use crate::body::{Body, is_script};
-use crate::glance::{digit_of, front_of, last_of};
 use crate::opening::Opening;
-use crate::script_line::ScriptLine;
 use game_trait::MirrorId;
 use game_trait::limits::{GREATEST_NUMBER, MOST_PLANS};
+use match_data::ScriptLine;
+use tss_io::glance::{digit_of, front_of, last_of};
 use tss_io::words::number;
 use tss_io::{Cause, LineFault, check};
 

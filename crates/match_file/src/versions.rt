@@ -1,7 +1,7 @@
 //! What a text's version allows.
 
 ghost use Rattle.std.specs.Prelude.{◌≡◌};
-ghost use Rattle.match_file.specs.Data.{most_players, most_commands};
+ghost use Rattle.match_data.specs.Data.{most_players, most_commands};
 
 use game_trait::limits::{MOST_COMMANDS_IN_1, MOST_COMMANDS_IN_2, MOST_PLAYERS, MOST_PLAYERS_IN_1};
 

@@ -14,7 +14,7 @@ use Rattle.sync_model.specs.History.{opening_of}
 use Rattle.sync_model.specs.Turns.{drain}
 use Rattle.sync_model.proofs.Cases.{tick-cases, arrive-cases, step-cases, restagger-cases, after-fixed}
 use Rattle.sync_model.proofs.Drain.{draining_delivers_nothing, drain-fixed}
-use Rattle.match_file.specs.Data.{MatchData, IsMatch}
+use Rattle.match_data.specs.Data.{MatchData, IsMatch}
 use Rattle.match_hall.specs.Script.{arrives_at, opening_mirror, opening_mirrors, scripted, played}
 use Rattle.match_hall.specs.Few.{IsFew}
 use Rattle.match_hall.proofs.OnWay.{OnWay, way-copies, all-opening}

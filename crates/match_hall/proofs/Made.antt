@@ -8,8 +8,8 @@ use Rattle.game_trait.specs.declared.command.Command.{Command}
 use Rattle.sync_model.specs.State.{MirrorState}
 use Rattle.sync_model.specs.Change.{Fits}
 use Rattle.sync_model.specs.History.{HasRoomAlong}
-use Rattle.match_file.specs.Data.{MatchData, IsMatch, IsScriptLine}
-use Rattle.match_file.specs.declared.script_line.ScriptLine.{ScriptLine}
+use Rattle.match_data.specs.Data.{MatchData, IsMatch, IsScriptLine}
+use Rattle.match_data.specs.declared.script_line.ScriptLine.{ScriptLine}
 use Rattle.match_hall.specs.Script.{mirror_of, events_of, after_line, changed_at, told_at, opening_mirrors, after_script}
 use Rattle.match_hall.specs.Report.{Showing, line_text, script_text}
 use Rattle.match_hall.specs.Stops.{IsStoppedScript}

@@ -6,7 +6,7 @@ use Rattle.std.proofs.lemmas.List.{take-append-drop}
 use Rattle.std.proofs.lemmas.Bool.{eqb-true}
 use Rattle.game_trait.specs.declared.command.Command.{Command}
 use Rattle.sync_model.specs.State.{MirrorState}
-use Rattle.match_file.specs.declared.script_line.ScriptLine.{ScriptLine}
+use Rattle.match_data.specs.declared.script_line.ScriptLine.{ScriptLine}
 use Rattle.match_hall.specs.Script.{mirror_of, names, after_line, after_lines, changed_at, after_script}
 use Rattle.match_hall.specs.Report.{Showing, script_text}
 use Rattle.match_hall.proofs.Made.{script_text-append}

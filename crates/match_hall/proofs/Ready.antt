@@ -4,9 +4,9 @@ use Rattle.std.proofs.lemmas.List.{append-nil}
 use Rattle.game_trait.specs.Count.{times}
 use Rattle.sync_model.specs.Schedule.{Schedule, delays_of_each, ticks_of_first}
 use Rattle.sync_model.specs.State.{MirrorState, opening_state}
-use Rattle.match_file.specs.Data.{MatchData}
+use Rattle.match_data.specs.Data.{MatchData}
 use Rattle.match_hall.specs.Script.{arrives_at, restaggers_at, schedules, opening_mirror, opening_from}
-use Rattle.match_file.proofs.Plans.{delays-of_schedules}
+use Rattle.match_data.proofs.Plans.{delays-of_schedules}
 
 -- one mirror more
 pub opened-more :

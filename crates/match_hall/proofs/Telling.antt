@@ -17,8 +17,8 @@ use Rattle.sync_model.specs.Change.{after as after_events}
 use Rattle.sync_model.specs.History.{HasRoomAlong, IsReached, first_state}
 use Rattle.sync_model.proofs.History.{history-next, unchanged-next}
 use Rattle.sync_model.proofs.Room.{said-same, first-next, reached_kept}
-use Rattle.match_file.specs.Data.{MatchData, IsMatch, IsScriptLine}
-use Rattle.match_file.specs.declared.script_line.ScriptLine.{ScriptLine}
+use Rattle.match_data.specs.Data.{MatchData, IsMatch, IsScriptLine}
+use Rattle.match_data.specs.declared.script_line.ScriptLine.{ScriptLine}
 use Rattle.watch_board.specs.Behaviour.{Behaviour}
 use Rattle.watch_board.specs.Told.{AreTold}
 use Rattle.watch_board.proofs.Told.{AreTold-none, AreTold-more}

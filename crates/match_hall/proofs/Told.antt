@@ -8,7 +8,7 @@ use Rattle.std.proofs.Math.Seq.{set-append_seam, get_or-append_seam}
 use Rattle.game_trait.specs.declared.event.Note.{Note}
 use Rattle.sync_model.specs.State.{MirrorState}
 use Rattle.sync_model.specs.Turns.{drain}
-use Rattle.match_file.specs.Data.{MatchData}
+use Rattle.match_data.specs.Data.{MatchData}
 use Rattle.watch_board.specs.Behaviour.{Behaviour}
 use Rattle.watch_board.specs.Told.{AreTold}
 use Rattle.watch_board.proofs.Told.{AreTold-none, AreTold-more}

@@ -2,8 +2,8 @@
 use Rattle.std.proofs.Common.{◌≡◌, ◌≤◌, ℕ, zero, suc, List, [], ◌∷◌, length, refl, ap, ◌∙◌, arith}
 use Rattle.game_trait.specs.declared.command.Command.{Command}
 use Rattle.sync_model.specs.State.{MirrorState}
-use Rattle.match_file.specs.Data.{MatchData, IsMatch}
-use Rattle.match_file.specs.declared.script_line.ScriptLine.{ScriptLine}
+use Rattle.match_data.specs.Data.{MatchData, IsMatch}
+use Rattle.match_data.specs.declared.script_line.ScriptLine.{ScriptLine}
 use Rattle.match_hall.specs.Script.{changed_at, after_line, mirror_of, after_script, opening_mirrors}
 use Rattle.match_hall.proofs.OnWay.{all-opening}
 

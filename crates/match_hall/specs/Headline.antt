@@ -14,8 +14,8 @@ use Rattle.sync_model.specs.Change.{said, after, is_repeat}
 use Rattle.sync_model.specs.Staggered.{IsStaggered}
 use Rattle.sync_model.specs.Turns.{IsDrained}
 use Rattle.sync_model.specs.Legal.{IsLegal}
-use Rattle.match_file.specs.Data.{MatchData}
-use Rattle.run_recorder.specs.declared.log.MirrorLog.{MirrorLog}
+use Rattle.match_data.specs.Data.{MatchData}
+use Rattle.match_data.specs.declared.log.MirrorLog.{MirrorLog}
 use Rattle.match_hall.specs.Script.{opening_mirror}
 
 -- a mirror of a match was played from its opening state `start` to `end`: what its log says of it

@@ -9,9 +9,9 @@ pub use Rattle.sync_model.specs.Drafts.{run_of}
 use Rattle.sync_model.specs.Change.{answers}
 use Rattle.sync_model.specs.History.{repaired_in, repairs}
 use Rattle.sync_model.specs.Turns.{turn, turn_events, is_drained, drain_bound}
-use Rattle.match_file.specs.Data.{MatchData}
-use Rattle.match_file.specs.declared.script_line.ScriptLine.{ScriptLine}
-use Rattle.match_file.specs.declared.script_line.ScriptLine.TheVariants as lines
+use Rattle.match_data.specs.Data.{MatchData}
+use Rattle.match_data.specs.declared.script_line.ScriptLine.{ScriptLine}
+use Rattle.match_data.specs.declared.script_line.ScriptLine.TheVariants as lines
 use Rattle.report_text.specs.Replies.{repair_line, tick_text, arrival_text, step_text}
 use Rattle.report_text.specs.Mirrors.{mirror_line, run_line}
 pub use Rattle.report_text.specs.Worlds.{Showing, showing, copy_block}

@@ -10,11 +10,11 @@ use Rattle.game_trait.specs.Count.{times}
 use Rattle.sync_model.specs.State.{MirrorState, opening_state}
 use Rattle.sync_model.specs.Change.{after, answers}
 use Rattle.sync_model.specs.Turns.{turn_events, drain}
-use Rattle.match_file.specs.Data.{MatchData}
-pub use Rattle.match_file.specs.Data.{all_plans, schedules}
-use Rattle.match_file.specs.declared.script_line.ScriptLine.{ScriptLine}
-use Rattle.match_file.specs.declared.script_line.ScriptLine.TheVariants as lines
-use Rattle.run_recorder.specs.declared.log.MirrorLog.{MirrorLog}
+use Rattle.match_data.specs.Data.{MatchData}
+pub use Rattle.match_data.specs.Data.{all_plans, schedules}
+use Rattle.match_data.specs.declared.script_line.ScriptLine.{ScriptLine}
+use Rattle.match_data.specs.declared.script_line.ScriptLine.TheVariants as lines
+use Rattle.match_data.specs.declared.log.MirrorLog.{MirrorLog}
 
 -- the arrival of a command, if there is one
 abbrev pub arrival_of : Option Command → List Event

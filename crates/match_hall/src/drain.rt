@@ -8,7 +8,7 @@ ghost use Rattle.match_hall.specs.Stops.{IsStoppedDrain};
 use crate::events::push_turn;
 use game_trait::{Game, MirrorId};
 use mirror_core::{DeferredMirror, Mirrored};
-use tss_io::NoMemory;
+use tss_base::NoMemory;
 
 /// Makes turns until the mirror is drained, at most a given number, and appends what they print. On
 /// `NoMemory` it stopped at one of them, whose text wasn't appended.

@@ -3,16 +3,16 @@
 ghost use Rattle.std.specs.Prelude.{◌≡◌, ◌≤◌, ◌++◌, ◌∷◌, [], true, length, OnOk, OnErr};
 ghost use Rattle.game_trait.specs.CommandList.{command_named, has_command};
 ghost use Rattle.sync_model.specs.Turns.{turn};
-ghost use Rattle.match_file.specs.Data.{IsScriptLine};
+ghost use Rattle.match_data.specs.Data.{IsScriptLine};
 ghost use Rattle.match_hall.specs.Script.{events_of};
 ghost use Rattle.match_hall.specs.Report.{turn_text};
 
 use crate::show::push_repairs;
 use arrayvec::ArrayVec;
 use game_trait::{Command, Event, Game, MirrorId, Number};
-use match_file::{Match, ScriptLine, find_command};
+use match_data::{Match, ScriptLine, find_command};
 use mirror_core::{DeferredMirror, turn_events};
-use tss_io::NoMemory;
+use tss_base::NoMemory;
 
 /// The events of one script line: of a turn a tick and a step of each copy, and else one at most.
 pub type Events = ArrayVec<Event, 9>;

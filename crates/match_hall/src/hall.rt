@@ -6,7 +6,7 @@ ghost use Rattle.sync_model.specs.State.{MirrorState};
 ghost use Rattle.sync_model.specs.Change.{Fits};
 ghost use Rattle.sync_model.specs.History.{HasRoomAlong};
 ghost use Rattle.sync_model.specs.Turns.{drain, IsDrained};
-ghost use Rattle.match_file.specs.Data.{IsScriptLine};
+ghost use Rattle.match_data.specs.Data.{IsScriptLine};
 ghost use Rattle.game_trait.specs.declared.limits.TheConstants.{MOST_ROOM};
 ghost use Rattle.sync_model.specs.State.{opening_state};
 ghost use Rattle.match_hall.specs.Script.{all_plans, mirror_of, changed_at, told_at, events_of, after_line, after_script, opening_mirrors, log_of, logs_from};
@@ -22,15 +22,14 @@ use crate::open::{open, open_with};
 use crate::script::mirror_of;
 use crate::show::{push_copy, push_line_of_mirror, push_mirror, push_run};
 use crate::tell::tell_mirror;
-use arena_rules::{Roster, Shown};
 use game_trait::{Game, MirrorId};
-use match_file::{Match, ScriptLine};
+use match_data::{Match, MirrorLog, ScriptLine};
+use match_setup::{Roster, Shown};
 use mirror_core::{DeferredMirror, Mirrored};
 use report_text::{arrival_line, step_line, tick_line};
-use run_recorder::MirrorLog;
 use std::alloc::Global;
 use std::marker::Model;
-use tss_io::{NoMemory, Seq};
+use tss_base::{NoMemory, Seq};
 use watch_board::{Board, Watcher};
 
 /// The mirrors of a match. Contracts see the list of their states, mirror 0 first.

@@ -5,7 +5,7 @@ ghost use Rattle.game_trait.specs.Count.{times};
 ghost use Rattle.match_hall.specs.Script.{mirror_of, arrives_at, restaggers_at, AreRooms};
 
 use game_trait::MirrorId;
-use match_file::ScriptLine;
+use match_data::ScriptLine;
 
 /// The mirror that a script line names.
 pub fn mirror_of(line: &ScriptLine) -> MirrorId

@@ -4,15 +4,15 @@ ghost use Rattle.std.specs.Prelude.{◌≡◌, ◌++◌, ◌<◌, length, take, 
 ghost use Rattle.sync_model.specs.History.{repaired_in};
 ghost use Rattle.sync_model.specs.Turns.{IsDrained};
 ghost use Rattle.report_text.specs.Mirrors.{run_line};
-ghost use Rattle.match_file.specs.declared.script_line.ScriptLine.TheVariants.{Turn};
+ghost use Rattle.match_data.specs.declared.script_line.ScriptLine.TheVariants.{Turn};
 ghost use Rattle.match_hall.specs.Stops.{IsFrontPut};
 ghost use Rattle.match_hall.specs.Report.{showing, run_of, copy_block, copy_blocks, replies_text, line_of_mirror};
 
-use arena_rules::{Roster, Shown};
 use game_trait::{Arrived, Game, MirrorId, Reply, Stepped};
+use match_setup::{Roster, Shown};
 use mirror_core::{DeferredMirror, Mirrored};
 use report_text::{copy_block, line_end, mirror_line, repair_line, run_head, run_mark};
-use tss_io::NoMemory;
+use tss_base::NoMemory;
 
 // How many copies an answer says were repaired.
 fn repaired_in(reply: Reply) -> u8

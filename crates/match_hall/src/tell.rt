@@ -5,7 +5,7 @@ ghost use Rattle.std.specs.List.{AllByRecursion};
 ghost use Rattle.sync_model.specs.Change.{Fits, is_change};
 ghost use Rattle.sync_model.specs.History.{HasRoomAlong};
 ghost use Rattle.sync_model.specs.Turns.{turn, drain, drain_within};
-ghost use Rattle.match_file.specs.Data.{IsScriptLine};
+ghost use Rattle.match_data.specs.Data.{IsScriptLine};
 ghost use Rattle.match_hall.specs.Script.{names, events_of, after_line, after_lines, opening_mirror};
 ghost use Rattle.watch_board.specs.Told.{AreTold};
 ghost use Rattle.match_hall.specs.Notes.{notes_with, IsToldOn};
@@ -14,9 +14,9 @@ use crate::events::events_of;
 use crate::script::mirror_of;
 use arrayvec::ArrayVec;
 use game_trait::{Arrived, Event, Game, MirrorId, Note, Reply, Stepped, Ticked};
-use match_file::{Match, ScriptLine};
+use match_data::{Match, ScriptLine};
 use mirror_core::{DeferredMirror, Mirrored, turn_events};
-use tss_io::NoMemory;
+use tss_base::NoMemory;
 use watch_board::{Board, Watcher};
 
 // Whether an answer tells of a change.

@@ -16,9 +16,9 @@ use Rattle.sync_model.specs.Schedule.{Schedule, delays_of_each, ticks_of_first}
 use Rattle.sync_model.specs.State.{MirrorState, opening_state, last_clock}
 use Rattle.sync_model.specs.Change.{next, after}
 use Rattle.sync_model.proofs.Cases.{tick-cases, arrive-cases, step-cases, restagger-cases}
-use Rattle.match_file.specs.Data.{MatchData, IsMatch, IsScriptLine}
-use Rattle.match_file.specs.declared.script_line.ScriptLine.{ScriptLine}
-use Rattle.match_file.proofs.Plans.{delays-of_schedules}
+use Rattle.match_data.specs.Data.{MatchData, IsMatch, IsScriptLine}
+use Rattle.match_data.specs.declared.script_line.ScriptLine.{ScriptLine}
+use Rattle.match_data.proofs.Plans.{delays-of_schedules}
 use Rattle.match_hall.specs.Script.{schedules, names, arrives_at, restaggers_at, after_lines, opening_mirror}
 use Rattle.match_hall.proofs.OnWay.{OnWay, way-length, way-plans}
 use Rattle.report_text.specs.Worlds.{Showing}

@@ -13,8 +13,8 @@ use Rattle.game_trait.specs.Events.{is_arrival, is_restagger}
 use Rattle.sync_model.specs.State.{MirrorState}
 use Rattle.sync_model.specs.Change.{next}
 use Rattle.sync_model.proofs.Cases.{tick-cases, arrive-cases, step-cases, restagger-cases, next-fixed}
-use Rattle.match_file.specs.Data.{MatchData}
-use Rattle.match_file.specs.declared.script_line.ScriptLine.{ScriptLine}
+use Rattle.match_data.specs.Data.{MatchData}
+use Rattle.match_data.specs.declared.script_line.ScriptLine.{ScriptLine}
 use Rattle.match_hall.specs.Script.{mirror_of, names, events_of, arrives_at, restaggers_at}
 use Rattle.match_hall.proofs.OnWay.{line-arrivals, line-restaggers}
 use Rattle.late_joiner.specs.Joiner.{JoinerState, is_known, arrival_from, inner_next, joiner_next, joiner_after}

@@ -10,7 +10,7 @@ use Rattle.arena_rules.specs.contracts.pickup.PickupPartialEq.TheImpl.{ghosts as
 use Rattle.arena_rules.specs.contracts.shot.ShotPartialEq.TheImpl.{ghosts as of_shots}
 use Rattle.arena_rules.specs.declared.pickup.Pickup.{Pickup}
 use Rattle.arena_rules.specs.declared.shot.Shot.{Shot}
-use Rattle.arena_rules.specs.Ground.{Grid}
+use Rattle.match_setup.specs.Ground.{Grid}
 use Rattle.arena_rules.specs.Scene.{World}
 use Rattle.arena_rules.proofs.Same.{players}
 

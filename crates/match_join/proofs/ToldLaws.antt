@@ -15,8 +15,8 @@ use Rattle.sync_model.proofs.Along.{staggered_along}
 use Rattle.sync_model.proofs.Legal.{named-fits}
 use Rattle.arena_rules.specs.World.{World, opening_world, arena_rules}
 use Rattle.arena_rules.specs.Block.{block_of}
-use Rattle.match_file.specs.Data.{MatchData, IsMatch, IsScriptLine}
-use Rattle.match_file.specs.declared.script_line.ScriptLine.{ScriptLine}
+use Rattle.match_data.specs.Data.{MatchData, IsMatch, IsScriptLine}
+use Rattle.match_data.specs.declared.script_line.ScriptLine.{ScriptLine}
 use Rattle.report_text.specs.Worlds.{Showing}
 use Rattle.match_hall.specs.Script.{opening_mirror}
 use Rattle.match_hall.proofs.OnWay.{OnWay, way-length, opening-staggered, opening-length, due-within}

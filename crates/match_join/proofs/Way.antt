@@ -15,8 +15,8 @@ use Rattle.sync_model.proofs.Drain.{drain-fixed}
 use Rattle.sync_model.proofs.Lists.{last_of-at}
 use Rattle.sync_model.specs.Change.{after, Fits}
 use Rattle.sync_model.specs.History.{HasRoomAlong}
-use Rattle.match_file.specs.Data.{MatchData, IsMatch, IsScriptLine}
-use Rattle.match_file.specs.declared.script_line.ScriptLine.{ScriptLine}
+use Rattle.match_data.specs.Data.{MatchData, IsMatch, IsScriptLine}
+use Rattle.match_data.specs.declared.script_line.ScriptLine.{ScriptLine}
 use Rattle.match_hall.specs.Script.{mirror_of, names, events_of, after_line, after_lines, opening_mirror}
 use Rattle.match_hall.proofs.OnWay.{OnWay, way-line, way-other, way-copies, line-fits, line-room}
 use Rattle.match_join.specs.Join.{finished_mirror}

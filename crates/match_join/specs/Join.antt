@@ -11,9 +11,9 @@ use Rattle.sync_model.specs.State.{MirrorState, last_clock}
 use Rattle.sync_model.specs.Drafts.{run_of}
 use Rattle.sync_model.specs.History.{repairs}
 use Rattle.sync_model.specs.Turns.{drain}
-use Rattle.match_file.specs.Data.{MatchData}
-use Rattle.match_file.specs.declared.script_line.ScriptLine.{ScriptLine}
-use Rattle.match_file.specs.declared.script_line.ScriptLine.TheVariants as lines
+use Rattle.match_data.specs.Data.{MatchData}
+use Rattle.match_data.specs.declared.script_line.ScriptLine.{ScriptLine}
+use Rattle.match_data.specs.declared.script_line.ScriptLine.TheVariants as lines
 use Rattle.report_text.specs.Soak.{same_line}
 use Rattle.report_text.specs.Worlds.{Showing, block_text, copy_block}
 use Rattle.report_text.specs.Ends.{done_line}

@@ -3,8 +3,8 @@ use Rattle.std.specs.Prelude.{◌≡◌, ◌⊎◌, ℕ, ◌≤◌, if◌then◌
 use Rattle.std.specs.List.{AllByRecursion}
 use Rattle.game_trait.specs.Count.{times}
 use Rattle.game_trait.specs.declared.limits.TheConstants.{MOST_SCRIPT_LINES}
-use Rattle.match_file.specs.Data.{MatchData, IsMatch, IsScriptLine, all_plans}
-use Rattle.match_file.specs.declared.script_line.ScriptLine.{ScriptLine}
+use Rattle.match_data.specs.Data.{MatchData, IsMatch, IsScriptLine, all_plans}
+use Rattle.match_data.specs.declared.script_line.ScriptLine.{ScriptLine}
 use Rattle.match_hall.specs.Script.{mirror_of, names, arrives_at, restaggers_at, after_lines, opening_mirror}
 use Rattle.sync_model.specs.State.{MirrorState}
 use Rattle.late_joiner.specs.declared.joined.JoinFault.{JoinFault}

@@ -3,7 +3,7 @@
 ghost use Rattle.std.specs.Prelude.{◌≡◌, ◌<◌, IfOk, OnOk};
 ghost use Rattle.arena_rules.specs.World.{World, opening_world, arena_rules};
 ghost use Rattle.arena_rules.specs.Block.{block_of};
-ghost use Rattle.match_file.specs.Data.{IsMatch};
+ghost use Rattle.match_data.specs.Data.{IsMatch};
 ghost use Rattle.report_text.specs.Worlds.{Showing};
 ghost use Rattle.match_join.specs.Join.{too_late_text, HasBegun, IsOpened, IsTold, TellsOfBoth, TellsOn};
 ghost use Rattle.match_join.specs.Lines.{IsAlong, IsOfMatch, IsReady};
@@ -16,10 +16,10 @@ use crate::text::{join_head, too_late_line};
 use arena_rules::Arena;
 use game_trait::{MirrorId, Tick};
 use late_joiner::{JoinFault, Joiner};
-use match_file::{Match, ScriptLine};
+use match_data::{Match, ScriptLine};
 use mirror_core::DeferredMirror;
 use std::alloc::Global;
-use tss_io::{NoMemory, Seq};
+use tss_base::{NoMemory, Seq};
 
 /// What is told of a mirror of a match and of one that joins late from its snapshot.
 #[derive(Drop)]

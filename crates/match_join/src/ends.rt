@@ -6,14 +6,15 @@ ghost use Rattle.report_text.specs.Worlds.{Showing};
 ghost use Rattle.match_join.specs.Join.{ends_text, mirror_world, joiner_world};
 
 use crate::text::{joiner_block, joiner_counts};
-use arena_rules::{Arena, Shown};
+use arena_rules::Arena;
 use game_trait::{Game, MirrorId};
 use late_joiner::Joiner;
-use match_file::Match;
+use match_data::Match;
 use match_hall::{push_copy, push_line_of_mirror};
+use match_setup::Shown;
 use mirror_core::{DeferredMirror, Mirrored};
 use report_text::{done_line, same_line};
-use tss_io::NoMemory;
+use tss_base::NoMemory;
 
 /// Whether the worlds of the last copies are one. Both have as many copies.
 pub fn are_alike(mirror: &DeferredMirror<Arena>, joiner: &Joiner<Arena>) -> bool

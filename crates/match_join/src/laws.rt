@@ -3,7 +3,7 @@
 
 ghost use Rattle.std.specs.Prelude.{◌≡◌, ◌<◌, ℕ, true, false, List};
 ghost use Rattle.sync_model.specs.State.{last_clock};
-ghost use Rattle.match_file.specs.Data.{MatchData};
+ghost use Rattle.match_data.specs.Data.{MatchData};
 ghost use Rattle.report_text.specs.Worlds.{Showing};
 ghost use Rattle.match_join.specs.declared.answer.JoinAnswer.TheVariants.{Told, TooLate};
 ghost use Rattle.match_join.specs.Join.{IsTold, mirror_before, mirror_end, joiner_end, mirror_world, joiner_world, join_text};

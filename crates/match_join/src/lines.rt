@@ -1,7 +1,7 @@
 //! Script lines at a joiner, and its turns.
 
 ghost use Rattle.std.specs.Prelude.{◌≡◌, ◌++◌, ◌∷◌, [], filter, length, OnOk, OnErr};
-ghost use Rattle.match_file.specs.Data.{IsMatch, IsScriptLine};
+ghost use Rattle.match_data.specs.Data.{IsMatch, IsScriptLine};
 ghost use Rattle.match_hall.specs.Script.{names};
 ghost use Rattle.match_join.specs.Join.{joiner_line, joiner_lines, joiner_line_text, joiner_text, finished_joiner};
 ghost use Rattle.match_join.specs.Lines.{IsJoinerOf, HasRoomFor, IsReady};
@@ -9,9 +9,9 @@ ghost use Rattle.match_join.specs.Lines.{IsJoinerOf, HasRoomFor, IsReady};
 use crate::text::joined_line;
 use game_trait::{Game, MirrorId};
 use late_joiner::Joiner;
-use match_file::{Match, ScriptLine};
+use match_data::{Match, ScriptLine};
 use match_hall::{command_of, mirror_of};
-use tss_io::NoMemory;
+use tss_base::NoMemory;
 
 // Makes a script line at a joiner, and appends what it prints. On `NoMemory` the line was made, and
 // `out` is unchanged.

@@ -5,14 +5,14 @@ ghost use Rattle.std.specs.List.{AllByRecursion};
 ghost use Rattle.sync_model.specs.Change.{Fits};
 ghost use Rattle.sync_model.specs.History.{HasRoomAlong};
 ghost use Rattle.sync_model.specs.State.{last_clock};
-ghost use Rattle.match_file.specs.Data.{IsMatch, IsScriptLine};
+ghost use Rattle.match_data.specs.Data.{IsMatch, IsScriptLine};
 ghost use Rattle.match_hall.specs.Script.{names, events_of, after_line, after_lines};
 ghost use Rattle.match_join.specs.Join.{finished_mirror};
 ghost use Rattle.match_join.specs.Lines.{IsAlong};
 
 use arrayvec::ArrayVec;
 use game_trait::{Game, MirrorId, Reply, Tick};
-use match_file::{Match, ScriptLine};
+use match_data::{Match, ScriptLine};
 use match_hall::{events_of, mirror_of};
 use mirror_core::{DeferredMirror, Mirrored};
 

@@ -4,7 +4,7 @@ ghost use Rattle.std.specs.Prelude.{◌≡◌, ◌+◌, ◌<◌, ◌≤◌, IfOk
 ghost use Rattle.game_trait.specs.Count.{times};
 ghost use Rattle.game_trait.specs.declared.limits.TheConstants.{MOST_SCRIPT_LINES};
 ghost use Rattle.sync_model.specs.State.{last_clock};
-ghost use Rattle.match_file.specs.Data.{IsMatch};
+ghost use Rattle.match_data.specs.Data.{IsMatch};
 ghost use Rattle.match_hall.specs.Script.{schedules, arrives_at, restaggers_at};
 ghost use Rattle.late_joiner.specs.Snapshot.{snapshot_of};
 ghost use Rattle.late_joiner.specs.Joiner.{opened};
@@ -14,11 +14,11 @@ ghost use Rattle.match_join.specs.Lines.{IsOfMatch, IsFaultAt};
 use crate::mirror::make_lines;
 use game_trait::{Game, MirrorId};
 use late_joiner::{JoinFault, Joiner, snapshot};
-use match_file::{Match, ScriptLine, plans_of};
+use match_data::{Match, ScriptLine, plans_of};
 use match_hall::{arrivals_at, changes_at};
 use mirror_core::DeferredMirror;
 use std::alloc::Global;
-use tss_io::NoMemory;
+use tss_base::NoMemory;
 
 /// The first `lines` lines, all where there are fewer, and the others.
 pub fn cut(script: &[ScriptLine], lines: u32) -> (&[ScriptLine], &[ScriptLine])

@@ -4,11 +4,12 @@ ghost use Rattle.std.specs.Prelude.{◌≡◌, ◌++◌, OnOk, OnErr};
 ghost use Rattle.match_join.specs.Join.{join_head, joined_text, joiner_counts, joiner_head, too_late_text};
 ghost use Rattle.report_text.specs.Worlds.{block_text};
 
-use arena_rules::{Roster, Shown};
 use game_trait::{MirrorId, Number, Tick};
 use late_joiner::Joined;
+use match_setup::{Roster, Shown};
 use report_text::world_block;
-use tss_io::{NoMemory, Word, push_line};
+use tss_base::NoMemory;
+use tss_io::{Word, push_line};
 
 /// Appends `join M K clock C`: the mirror, how many script lines were made before, and the
 /// snapshot's clock in ticks. On `NoMemory` `out` is unchanged.

@@ -1,6 +1,6 @@
 -- How many lines the script has: each command arrives once at each mirror, and each mirror has its turns.
 use Rattle.std.proofs.Common.{◌≡◌, ℕ, ◌+◌, ◌/◌, ◌%◌, ◌<◌, true, false, ◌==◌, cond, [], ◌∷◌, length, refl, ap, ◌∙◌, length-append, arith}
-use Rattle.match_file.specs.declared.script_line.ScriptLine.TheVariants.{Arrive, Turn}
+use Rattle.match_data.specs.declared.script_line.ScriptLine.TheVariants.{Arrive, Turn}
 use Rattle.match_maker.specs.Below.{joined_below}
 use Rattle.match_maker.specs.Generator.{lag, arrival_lines, arrivals, mirror_lines, tick_lines}
 use Rattle.match_maker.proofs.Bounds.{lag-below}

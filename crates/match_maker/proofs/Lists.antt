@@ -4,7 +4,7 @@ use Rattle.std.specs.List.{AllByRecursion}
 use Rattle.std.proofs.lemmas.List.{append-nil}
 use Rattle.std.proofs.Common.{inl, inr}
 use Rattle.std.proofs.Math.Nat.{eq-or-lt_of_le}
-use Rattle.tss_io.proofs.RunLaws.{all_append}
+use Rattle.tss_base.proofs.ListLaws.{all_append}
 use Rattle.match_maker.specs.Below.{joined_below, each_below}
 
 -- one number more

@@ -3,7 +3,7 @@ use Rattle.std.proofs.Common.{◌≡◌, ℕ, zero, suc, ◌+◌, ◌≤◌, ◌
 use Rattle.std.proofs.lemmas.List.Folds.{list_any-append}
 use Rattle.std.proofs.lemmas.Slice.Eq.{bytes_eq-Decides}
 use Rattle.std.proofs.lemmas.Fmt.{decimal_injective}
-use Rattle.arena_rules.specs.Roster.{is_known, with_name}
+use Rattle.match_setup.specs.Roster.{is_known, with_name}
 use Rattle.match_maker.specs.Below.{joined_below, each_below}
 use Rattle.match_maker.specs.Generator.{name_at}
 use Rattle.match_maker.proofs.Lists.{joined_more}

@@ -2,10 +2,10 @@
 use Rattle.std.proofs.Common.{◌≡◌, ℕ, zero, suc, ◌+◌, ◌*◌, ◌/◌, ◌%◌, ◌≤◌, ◌<◌, Bool, true, false, ◌==◌, ◌||◌, nat_lt, cond, List, [], ◌∷◌, length, inl, inr}
 use Rattle.std.proofs.Common.{refl, sym, ap, subst, ◌∙◌, lit<, lit≤, arith}
 use Rattle.std.specs.List.{AllByRecursion, IsDistinct, filter}
-use Rattle.arena_rules.specs.Ground.{IsGrid, with_wall, is_walled, is_open}
-use Rattle.arena_rules.specs.Setup.{Layout, IsLayout}
-use Rattle.arena_rules.proofs.Walls.{IsGrid-open_grid, IsGrid-with_wall}
-use Rattle.arena_rules.proofs.Telling.{IsLayout-from_tests}
+use Rattle.match_setup.specs.Ground.{IsGrid, with_wall, is_walled, is_open}
+use Rattle.match_setup.specs.Setup.{Layout, IsLayout}
+use Rattle.match_setup.proofs.Walls.{IsGrid-open_grid, IsGrid-with_wall}
+use Rattle.match_setup.proofs.Telling.{IsLayout-from_tests}
 use Rattle.match_maker.specs.Below.{joined_below, each_below}
 use Rattle.match_maker.specs.Generator.{walled_grid, kind_at, face_at, home_at, the_layout}
 use Rattle.std.specs.Prelude.{bytes_eq}
@@ -13,7 +13,7 @@ use Rattle.std.specs.Fmt.{digits}
 use Rattle.std.proofs.lemmas.Bool.Decides.{nat_tests}
 use Rattle.std.proofs.lemmas.List.Sums.{length-filter}
 use Rattle.std.proofs.lemmas.List.Folds.{list_any-append}
-use Rattle.tss_io.proofs.RunLaws.{all_append}
+use Rattle.tss_base.proofs.ListLaws.{all_append}
 use Rattle.game_trait.specs.declared.command.Command.{Command}
 use Rattle.game_trait.specs.declared.command.Act.TheVariants.{Go, Left, Right, Shoot}
 use Rattle.game_trait.specs.Keys.{is_named, NamesDiffer}
@@ -21,11 +21,11 @@ use Rattle.game_trait.specs.CommandList.{has_command}
 use Rattle.game_trait.proofs.CommandLists.{names-push}
 use Rattle.sync_model.specs.Lists.{last_of}
 use Rattle.sync_model.specs.Schedule.{DelaysRise, IsSchedule}
-use Rattle.command_lines.specs.CommandLine.{has_act}
-use Rattle.match_file.specs.Names.{is_name}
-use Rattle.match_file.specs.Data.{IsMatch, IsCommand, IsScriptLine, shows, schedule_of}
-use Rattle.match_file.specs.declared.script_line.ScriptLine.{ScriptLine}
-use Rattle.match_file.specs.declared.script_line.ScriptLine.TheVariants.{Arrive, Turn}
+use Rattle.game_trait.specs.Acts.{has_act}
+use Rattle.match_data.specs.Names.{is_name}
+use Rattle.match_data.specs.Data.{IsMatch, IsCommand, IsScriptLine, shows, schedule_of}
+use Rattle.match_data.specs.declared.script_line.ScriptLine.{ScriptLine}
+use Rattle.match_data.specs.declared.script_line.ScriptLine.TheVariants.{Arrive, Turn}
 use Rattle.match_maker.specs.Draws.{drawn}
 use Rattle.match_maker.specs.Generator.{name_at, act_of, command_at, lag, arrival_lines, arrivals, mirror_lines, tick_lines, match_of_number}
 use Rattle.match_maker.proofs.Lists.{length_each, all_joined, all_each}
@@ -33,7 +33,7 @@ use Rattle.match_maker.proofs.Bounds.{drawn-below}
 use Rattle.match_maker.proofs.Drawing.{command_at-new}
 use Rattle.std.proofs.Math.Nat.{eq-or-lt_of_le}
 use Rattle.match_maker.proofs.Counts.{length_script}
-use Rattle.arena_rules.proofs.Telling.{IsDistinct-from_test}
+use Rattle.match_setup.proofs.Telling.{IsDistinct-from_test}
 
 -- ---- the arena
 

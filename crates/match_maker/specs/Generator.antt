@@ -3,17 +3,17 @@ use Rattle.std.specs.Prelude.{ℕ, zero, suc, ◌+◌, ◌-◌, ◌*◌, ◌/◌
 use Rattle.game_trait.specs.declared.command.Command.{Command}
 use Rattle.game_trait.specs.declared.command.Act.{Act}
 use Rattle.game_trait.specs.declared.command.Act.TheVariants.{Go, Left, Right, Shoot}
-use Rattle.arena_rules.specs.declared.face.Face.{Face}
-use Rattle.arena_rules.specs.declared.face.Face.TheVariants.{N, E, S, W}
-use Rattle.arena_rules.specs.declared.pickup.Kind.{Kind}
-use Rattle.arena_rules.specs.declared.pickup.Kind.TheVariants.{Ammo, Heal, Gold}
-use Rattle.arena_rules.specs.declared.pickup.PickupSpot.{PickupSpot}
-use Rattle.arena_rules.specs.declared.spot.Spot.{Spot}
-use Rattle.arena_rules.specs.Ground.{Grid, open_grid, with_wall}
-use Rattle.arena_rules.specs.Setup.{Layout}
-use Rattle.match_file.specs.Data.{MatchData}
-use Rattle.match_file.specs.declared.script_line.ScriptLine.{ScriptLine}
-use Rattle.match_file.specs.declared.script_line.ScriptLine.TheVariants.{Arrive, Turn}
+use Rattle.match_setup.specs.declared.face.Face.{Face}
+use Rattle.match_setup.specs.declared.face.Face.TheVariants.{N, E, S, W}
+use Rattle.match_setup.specs.declared.pickup.Kind.{Kind}
+use Rattle.match_setup.specs.declared.pickup.Kind.TheVariants.{Ammo, Heal, Gold}
+use Rattle.match_setup.specs.declared.pickup.PickupSpot.{PickupSpot}
+use Rattle.match_setup.specs.declared.spot.Spot.{Spot}
+use Rattle.match_setup.specs.Ground.{Grid, open_grid, with_wall}
+use Rattle.match_setup.specs.Setup.{Layout}
+use Rattle.match_data.specs.Data.{MatchData}
+use Rattle.match_data.specs.declared.script_line.ScriptLine.{ScriptLine}
+use Rattle.match_data.specs.declared.script_line.ScriptLine.TheVariants.{Arrive, Turn}
 use Rattle.match_maker.specs.Below.{joined_below, each_below}
 use Rattle.match_maker.specs.Draws.{drawn}
 

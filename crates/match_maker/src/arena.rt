@@ -1,15 +1,16 @@
 //! The arena of a match: its ground, its pickups and its players.
 
 ghost use Rattle.std.specs.Prelude.{◌≡◌, ◌+◌, ◌<◌, IfOk, OnOk};
-ghost use Rattle.arena_rules.specs.Setup.{layout_of};
-ghost use Rattle.arena_rules.specs.Roster.{PlayerNamesDiffer};
+ghost use Rattle.match_setup.specs.Setup.{layout_of};
+ghost use Rattle.match_setup.specs.Roster.{PlayerNamesDiffer};
 ghost use Rattle.match_maker.specs.Below.{each_below};
 ghost use Rattle.match_maker.specs.Generator.{walled_grid, kind_at, pickup_at, face_at, home_at, name_at, the_layout};
 
-use arena_rules::{Face, Ground, Kind, PickupSpot, Roster, Setup, Spot};
 use arrayvec::ArrayVec;
+use match_setup::{Face, Ground, Kind, PickupSpot, Roster, Setup, Spot};
 use std::alloc::Global;
-use tss_io::{NoMemory, push_count};
+use tss_base::NoMemory;
+use tss_io::push_count;
 
 #[tactic(auto, unfolding(crate::specs::Generator::walled_grid))]
 fn ground() -> Ground

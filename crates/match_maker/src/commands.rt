@@ -8,7 +8,7 @@ use crate::draws::Draws;
 use crate::lags::{Lags, Row, draw_row};
 use game_trait::{Act, Command, CommandList, MirrorId};
 use std::alloc::Global;
-use tss_io::NoMemory;
+use tss_base::NoMemory;
 
 // How many commands there are.
 const COMMANDS: u32 = 4096;

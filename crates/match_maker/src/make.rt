@@ -6,9 +6,9 @@ ghost use Rattle.match_maker.specs.Generator.{match_of_number};
 use crate::arena::{roster, setup};
 use crate::commands::commands_of;
 use crate::script::script_of;
-use match_file::Match;
+use match_data::Match;
 use std::alloc::Global;
-use tss_io::{NoMemory, Seq};
+use tss_base::{NoMemory, Seq};
 
 fn delays(alloc: Global) -> Result<Seq<u32>, NoMemory>
     ensures { IfOk result (λ delays. delays ≡ 0 ∷ 4 ∷ 8 ∷ 16 ∷ 32 ∷ []) }

@@ -6,9 +6,9 @@ ghost use Rattle.match_maker.specs.Generator.{arrival_lines, arrivals, mirror_li
 
 use crate::lags::Lags;
 use game_trait::{MirrorId, Tick};
-use match_file::ScriptLine;
+use match_data::ScriptLine;
 use std::alloc::Global;
-use tss_io::{NoMemory, Seq};
+use tss_base::{NoMemory, Seq};
 
 // The line of a command's arrival, if it arrives at the mirror in this tick.
 #[tactic(auto, unfolding(crate::specs::Generator::arrival_lines))]

@@ -8,13 +8,13 @@ ghost use Rattle.rewind_store.specs.Cached.{is_cached};
 ghost use Rattle.rewind_store.specs.Rewound.{after, world_at, hits_of};
 ghost use Rattle.match_rewind.specs.Rewind.{looks_text, rewind_text};
 
-use arena_rules::{Roster, Shown};
 use game_trait::{Game, Tick};
-use match_file::Match;
+use match_data::Match;
+use match_setup::{Roster, Shown};
 use report_text::{done_line, hits_line, world_block};
 use rewind_store::{Looked, Rewind};
 use std::alloc::Global;
-use tss_io::{NoMemory, Seq};
+use tss_base::{NoMemory, Seq};
 
 // How much a look counts among those that hit.
 fn count(hit: bool) -> u32

@@ -4,7 +4,7 @@
 ghost use Rattle.std.specs.Prelude.{◌≡◌, ◌∷◌, ◌++◌, ℕ, List, []};
 ghost use Rattle.game_trait.specs.declared.command.Command.{Command};
 ghost use Rattle.game_trait.specs.Ordered.{time_ordered};
-ghost use Rattle.match_file.specs.Data.{MatchData};
+ghost use Rattle.match_data.specs.Data.{MatchData};
 ghost use Rattle.report_text.specs.Ends.{done_line};
 ghost use Rattle.report_text.specs.Hits.{hits_line};
 ghost use Rattle.report_text.specs.Worlds.{Showing, block_text, at_head};

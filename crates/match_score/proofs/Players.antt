@@ -7,15 +7,16 @@ use Rattle.game_trait.specs.declared.command.Act.TheVariants.{Go, Left, Right, S
 use Rattle.game_trait.specs.declared.command.Item.{Item}
 use Rattle.game_trait.specs.declared.command.Item.TheVariants.{Cmd, Beat}
 use Rattle.game_trait.specs.Run.{world_of}
-use Rattle.arena_rules.specs.declared.face.Face.{Face}
-use Rattle.arena_rules.specs.declared.spot.Spot.{Spot}
+use Rattle.match_setup.specs.declared.face.Face.{Face}
+use Rattle.match_setup.specs.declared.spot.Spot.{Spot}
 use Rattle.arena_rules.specs.declared.shot.Shot.{Shot}
 use Rattle.arena_rules.specs.declared.player.Player.{Player}
 use Rattle.arena_rules.specs.declared.player.Body.{Body}
-use Rattle.arena_rules.specs.Ground.{Grid}
-use Rattle.arena_rules.specs.Setup.{spot_cell}
+use Rattle.match_setup.specs.Ground.{Grid}
+use Rattle.match_setup.specs.Setup.{spot_cell}
 use Rattle.arena_rules.specs.Player.{changed, holder, is_held, struck}
-use Rattle.arena_rules.specs.Command.{live_of, by_live, turned, turned_left, turned_right, gone_to, gone, fired, acted, applied, arrived, open_ahead}
+use Rattle.arena_rules.specs.Command.{live_of, by_live, turned, gone_to, gone, fired, acted, applied, arrived}
+use Rattle.match_setup.specs.Facing.{turned_left, turned_right, open_ahead}
 use Rattle.arena_rules.specs.Beat.{is_live_at, scored, hit, flown_into, flown_to, flown, flights, shots_flown, beaten}
 use Rattle.arena_rules.specs.World.{World, arena_rules}
 use Rattle.arena_rules.proofs.Changes.{length-changed}

@@ -5,8 +5,8 @@ use Rattle.std.specs.Str.{IsAscii}
 use Rattle.std.proofs.lemmas.Bool.Decides.{nat_tests}
 use Rattle.std.proofs.lemmas.List.Elements.{All-from_recursion}
 use Rattle.std.proofs.lemmas.Str.Ascii.{IsAscii-from_all}
-use Rattle.match_file.specs.Data.{MatchData}
-use Rattle.match_file.specs.Names.{is_letter, is_name_byte, is_name}
+use Rattle.match_data.specs.Data.{MatchData}
+use Rattle.match_data.specs.Names.{is_letter, is_name_byte, is_name}
 use Rattle.report_text.specs.Ends.{done_line}
 use Rattle.report_text.specs.Score.{standings_text}
 use Rattle.tss_io.specs.Lines.{as_line}

@@ -6,7 +6,7 @@ use Rattle.arena_rules.specs.World.{World, opening_world, arena_rules}
 use Rattle.sync_model.specs.Lists.{last_of}
 use Rattle.sync_model.specs.State.{MirrorState}
 use Rattle.sync_model.specs.History.{repairs}
-use Rattle.match_file.specs.Data.{MatchData}
+use Rattle.match_data.specs.Data.{MatchData}
 use Rattle.report_text.specs.Ends.{done_line}
 use Rattle.report_text.specs.Score.{Standing, standings_text}
 use Rattle.watch_board.specs.Behaviour.{Behaviour}

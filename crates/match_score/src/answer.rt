@@ -14,13 +14,12 @@ ghost use Rattle.match_score.specs.Score.{standings, ends_of, watched_text};
 
 use crate::rows::rows;
 use arena_rules::Arena;
-use match_file::Match;
+use match_data::{Match, MirrorLog};
 use match_hall::Hall;
 use match_hall::laws::mirrors_take_no_more_than_a_script_brings;
 use report_text::{done_line, score_json};
-use run_recorder::MirrorLog;
 use std::alloc::Global;
-use tss_io::{NoMemory, Seq};
+use tss_base::{NoMemory, Seq};
 use watch_board::{Board, Watcher};
 
 /// The answer to a match that is played to watchers: its text, and the logs of its mirrors,

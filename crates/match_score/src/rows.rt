@@ -15,7 +15,7 @@ use match_hall::Hall;
 use mirror_core::{DeferredMirror, Mirrored};
 use report_text::ScoreRow;
 use std::alloc::Global;
-use tss_io::NoMemory;
+use tss_base::NoMemory;
 
 // The scores in a world with this number of players.
 fn scores(world: &Arena, players: u8) -> ArrayVec<i32, 32>

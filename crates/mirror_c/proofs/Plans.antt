@@ -5,9 +5,9 @@ use Rattle.std.specs.List.{AllByRecursion}
 use Rattle.std.proofs.lemmas.List.{length-map}
 use Rattle.game_trait.specs.declared.limits.TheConstants.{MOST_PLANS}
 use Rattle.sync_model.specs.Schedule.{Schedule, IsSchedule, delays_of_each, ticks_of_first, copies_of_first}
-use Rattle.tss_io.proofs.EachLaws.{all_push, all_map}
+use Rattle.tss_base.proofs.ListLaws.{all_push, all_map}
 use Rattle.mirror_c.specs.Rising.{ArePlans}
-use Rattle.mirror_c.specs.Lists.{joined}
+use Rattle.sync_model.specs.Lists.{joined}
 
 -- one plan more
 pub joined-push : (plans : List Schedule) (plan : Schedule) → joined (delays_of_each (plans ++ plan ∷ [])) ≡ joined (delays_of_each plans) ++ plan.delays

@@ -5,7 +5,7 @@ use Rattle.std.specs.List.{AllByRecursion}
 use Rattle.game_trait.specs.declared.limits.TheConstants.{MOST_PLANS}
 use Rattle.sync_model.specs.Schedule.{IsSchedule}
 use Rattle.mirror_c.specs.Rising.{ArePlans}
-use Rattle.mirror_c.specs.Lists.{joined}
+use Rattle.sync_model.specs.Lists.{joined}
 
 -- plans of so many copies each, which the delays spell, and each a schedule
 pub record IsSpelling (delays : List ℕ) (copies ticks : ℕ) (plans : List (List ℕ)) : Type 0 where

@@ -16,7 +16,7 @@ use Rattle.sync_model.specs.Change.{next, said, answers}
 use Rattle.sync_model.specs.Drafts.{run_of}
 use Rattle.sync_model.specs.Turns.{turn, turn_events}
 use Rattle.sync_model.specs.declared.turned.Turned.{Turned}
-use Rattle.mirror_c.specs.Worlds.{most_repaired}
+use Rattle.sync_model.specs.Host.{most_repaired}
 use Rattle.mirror_c.specs.declared.answer.Answer.{Answer}
 use Rattle.mirror_c.specs.declared.answer.RunItem.{RunItem}
 use Rattle.mirror_c.specs.declared.answer.CommandItem.{CommandItem}

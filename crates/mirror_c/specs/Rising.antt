@@ -3,7 +3,7 @@ use Rattle.std.specs.Prelude.{◌≡◌, ◌<◌, ◌≤◌, ℕ, List, length}
 use Rattle.game_trait.specs.declared.limits.TheConstants.{MOST_PLANS, MOST_ROOM}
 use Rattle.std.specs.List.{AllByRecursion}
 use Rattle.sync_model.specs.Schedule.{IsSchedule}
-use Rattle.mirror_c.specs.Lists.{joined}
+use Rattle.sync_model.specs.Lists.{joined}
 
 -- 1 to 8 plans of so many copies each, which the delays spell, and each a schedule with the length
 pub record ArePlans (delays : List ℕ) (copies ticks : ℕ) (plans : List (List ℕ)) : Type 0 where

@@ -2,7 +2,7 @@
 
 ghost use Rattle.std.specs.Prelude.{◌≡◌};
 ghost use Rattle.mirror_c.specs.Answers.{told_turn};
-ghost use Rattle.mirror_c.specs.Worlds.{most_repaired};
+ghost use Rattle.sync_model.specs.Host.{most_repaired};
 
 use crate::answer::{Answer, bare, repaired_in, told};
 use crate::codes::OVER;

@@ -27,7 +27,7 @@ use std::alloc::Global;
 use std::marker::Model;
 use sync_model::Turned;
 use trailing_copy::LazyStack;
-use tss_io::NoMemory;
+use tss_base::NoMemory;
 
 /// The core of every mirror, eager or deferred (this project's own): it makes the events, and leaves
 /// the worlds of the copies that it repairs stale until `refresh`. Contracts see its state, and how

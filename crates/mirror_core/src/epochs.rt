@@ -11,7 +11,7 @@ use game_trait::{Game, Tick};
 use std::alloc::Global;
 use std::marker::Model;
 use trailing_copy::LazyStack;
-use tss_io::NoMemory;
+use tss_base::NoMemory;
 
 /// A number for each copy: how many events have renewed it. Contracts see the numbers, from copy 0
 /// on.

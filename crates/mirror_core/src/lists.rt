@@ -6,7 +6,7 @@ use game_trait::{Event, NameTree};
 use stagger_clock::Stagger;
 use std::alloc::Global;
 use sync_model::Turned;
-use tss_io::NoMemory;
+use tss_base::NoMemory;
 
 /// The lists of a mirror beside its copies, each with room for all that it will ever hold.
 #[derive(Drop)]

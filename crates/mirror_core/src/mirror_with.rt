@@ -21,7 +21,7 @@ use stagger_clock::Stagger;
 use std::alloc::Global;
 use std::marker::Model;
 use sync_model::Turned;
-use tss_io::NoMemory;
+use tss_base::NoMemory;
 
 /// A mirror of a match, with 1 to 8 copies of the world, that refreshes stale copies as the policy
 /// `P` says. Contracts see it as a state of the model, which says what each event changes and what is

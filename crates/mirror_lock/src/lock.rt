@@ -7,7 +7,7 @@ ghost use Rattle.sync_model.specs.Drafts.{ReadyTick, ready_of};
 ghost use Rattle.mirror_core.specs.declared.drafts.Drafted.{Drafted as ADrafted};
 ghost use Rattle.mirror_core.specs.Drafts.{IfDraft};
 ghost use Rattle.turn_lock.specs.Rules.{one_if};
-ghost use Rattle.tss_io.specs.Totals.{total};
+ghost use Rattle.tss_base.specs.Totals.{total};
 ghost use Rattle.turn_lock.specs.Views.{view, fresh_views, member_of, FitsSeat, StillFits};
 ghost use Rattle.turn_lock.specs.Calls.{IsCall};
 ghost use Rattle.mirror_lock.specs.declared.calls.LockCall.TheVariants.{Event as AskEvent, Draft as AskDraft, Commit as AskCommit};
@@ -22,7 +22,7 @@ use game_trait::{Event, Game, Reply};
 use mirror_core::{Committed, Drafted, Mirror, Ready};
 use std::alloc::Global;
 use std::sync::Wait;
-use tss_io::NoMemory;
+use tss_base::NoMemory;
 use turn_lock::{Named, Share, TurnLock, TurnSeat};
 
 /// A mirror's lock over the lock `L` of a held mirror.

@@ -10,7 +10,7 @@ use crate::pile::Pile;
 use game_trait::{Game, execute_in_order};
 use mirror_core::Mirror;
 use std::alloc::Global;
-use tss_io::NoMemory;
+use tss_base::NoMemory;
 
 /// Runs every copy to the match's end, where each copy's pile is the time-ordered execution of what
 /// was accepted.

@@ -2,7 +2,7 @@
 use Rattle.std.proofs.Common.{ℕ}
 use Rattle.std.specs.Fmt.{digits}
 use Rattle.tss_io.specs.Lines.{spaced, lines_text}
-use Rattle.arena_rules.specs.Ground.{is_walled, with_wall, is_open}
+use Rattle.match_setup.specs.Ground.{is_walled, with_wall, is_open}
 use Rattle.paint_rules.specs.Scene.{settled}
 use Rattle.paint_rules.specs.Command.{is_held, moved, painted_ahead, applied}
 use Rattle.paint_rules.specs.Beat.{wiped, beaten}

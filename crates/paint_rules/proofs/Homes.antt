@@ -6,8 +6,8 @@ use Rattle.std.proofs.lemmas.Bool.Decides.{nat_tests}
 use Rattle.std.proofs.lemmas.List.{get_or-set_same, get_or-set_other, length-replicate}
 use Rattle.std.proofs.lemmas.List.Elements.{All-head, All-tail}
 use Rattle.std.proofs.lemmas.Map.Keys.{IsDistinct-head, IsDistinct-tail}
-use Rattle.arena_rules.specs.Setup.{Layout, Cell, same_cell, spot_cell, pickup_cell, IsLayout}
-use Rattle.arena_rules.specs.declared.spot.Spot.{Spot}
+use Rattle.match_setup.specs.Setup.{Layout, Cell, same_cell, spot_cell, pickup_cell, IsLayout}
+use Rattle.match_setup.specs.declared.spot.Spot.{Spot}
 use Rattle.paint_rules.specs.Owners.{unowned, cell_place, owner_of, painted}
 use Rattle.paint_rules.specs.Scene.{settled, opening}
 use Rattle.paint_rules.specs.Command.{is_held}

@@ -9,11 +9,11 @@ use Rattle.std.proofs.lemmas.List.Elements.{All-head, All-tail}
 use Rattle.game_trait.specs.declared.command.Act.{Act}
 use Rattle.game_trait.specs.declared.command.Act.TheVariants.{Go, Left, Right, Shoot, Dash}
 use Rattle.game_trait.specs.declared.command.Command.{Command}
-use Rattle.arena_rules.specs.Ground.{Grid}
-use Rattle.arena_rules.specs.Setup.{Cell, same_cell, spot_cell, pickup_cell}
-use Rattle.arena_rules.specs.Command.{turned_left, turned_right, open_ahead}
-use Rattle.arena_rules.specs.declared.pickup.PickupSpot.{PickupSpot}
-use Rattle.arena_rules.specs.declared.spot.Spot.{Spot}
+use Rattle.match_setup.specs.Ground.{Grid}
+use Rattle.match_setup.specs.Setup.{Cell, same_cell, spot_cell, pickup_cell}
+use Rattle.match_setup.specs.Facing.{turned_left, turned_right, open_ahead}
+use Rattle.match_setup.specs.declared.pickup.PickupSpot.{PickupSpot}
+use Rattle.match_setup.specs.declared.spot.Spot.{Spot}
 use Rattle.paint_rules.specs.Owners.{cell_place, owner_of, painted}
 use Rattle.paint_rules.specs.World.{PaintWorld}
 use Rattle.paint_rules.specs.Command.{by_one, by_player, with_spot, is_held, come, moved_to, moved, painted_ahead, shot, dashed, acted, applied}

@@ -7,7 +7,7 @@ use Rattle.std.proofs.lemmas.Grind.{flat_map-append}
 use Rattle.game_trait.specs.Count.{times}
 use Rattle.game_trait.proofs.Counts.{times-append, times-agree}
 use Rattle.game_trait.proofs.Lists.{all-at}
-use Rattle.arena_rules.specs.Ground.{Grid, IsGrid, is_walled, is_open}
+use Rattle.match_setup.specs.Ground.{Grid, IsGrid, is_walled, is_open}
 use Rattle.paint_rules.specs.Owners.{owner_of, owned}
 use Rattle.paint_rules.specs.World.{AreOwners}
 use Rattle.paint_rules.specs.Block.{owner_byte, cell_byte, row_word}

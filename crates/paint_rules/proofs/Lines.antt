@@ -7,9 +7,9 @@ use Rattle.std.proofs.lemmas.List.FromFn.{map-range_with_len_more}
 use Rattle.std.proofs.lemmas.Bool.Decides.{nat_tests}
 use Rattle.tss_io.specs.Lines.{as_line, lines_text}
 use Rattle.tss_io.proofs.Printing.{lines_text-append, puts_one}
-use Rattle.arena_rules.specs.Ground.{Grid, is_walled, is_open}
-use Rattle.arena_rules.specs.Block.{name_of}
-use Rattle.arena_rules.specs.declared.spot.Spot.{Spot}
+use Rattle.match_setup.specs.Ground.{Grid, is_walled, is_open}
+use Rattle.match_setup.specs.Words.{name_of}
+use Rattle.match_setup.specs.declared.spot.Spot.{Spot}
 use Rattle.paint_rules.specs.Owners.{owner_of, owned}
 use Rattle.paint_rules.specs.Block.{painter_line, painter_lines, owner_byte, cell_byte}
 

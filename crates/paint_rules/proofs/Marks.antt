@@ -4,9 +4,9 @@ use Rattle.std.specs.List.{All}
 use Rattle.std.proofs.lemmas.Bool.{and_parts}
 use Rattle.std.proofs.lemmas.List.{get_or-set_other, set-get_or}
 use Rattle.std.proofs.lemmas.List.Elements.{All-cons, All-head, All-nil, All-tail}
-use Rattle.arena_rules.specs.Ground.{Grid, is_walled, IsWalled, is_open}
-use Rattle.arena_rules.specs.Setup.{pickup_cell}
-use Rattle.arena_rules.specs.declared.pickup.PickupSpot.{PickupSpot}
+use Rattle.match_setup.specs.Ground.{Grid, is_walled, IsWalled, is_open}
+use Rattle.match_setup.specs.Setup.{pickup_cell}
+use Rattle.match_setup.specs.declared.pickup.PickupSpot.{PickupSpot}
 use Rattle.paint_rules.specs.Owners.{cell_place, owner_of, painted}
 use Rattle.paint_rules.specs.Beat.{wiped}
 

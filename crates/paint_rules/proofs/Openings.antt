@@ -5,9 +5,9 @@ use Rattle.std.proofs.lemmas.Bool.{and_parts}
 use Rattle.std.proofs.lemmas.List.Elements.{All-weaker}
 use Rattle.std.proofs.lemmas.List.Folds.{list_all-append, list_all-map}
 use Rattle.std.proofs.lemmas.List.Sums.{AllPass-from_list_all}
-use Rattle.arena_rules.specs.Ground.{Grid, IsGrid, is_open}
-use Rattle.arena_rules.specs.Setup.{Layout, Cell, spot_cell, pickup_cell, IsLayout}
-use Rattle.arena_rules.specs.declared.pickup.PickupSpot.{PickupSpot}
+use Rattle.match_setup.specs.Ground.{Grid, IsGrid, is_open}
+use Rattle.match_setup.specs.Setup.{Layout, Cell, spot_cell, pickup_cell, IsLayout}
+use Rattle.match_setup.specs.declared.pickup.PickupSpot.{PickupSpot}
 use Rattle.paint_rules.specs.World.{Lies}
 use Rattle.paint_rules.proofs.Steps.{is_open-near}
 

@@ -5,11 +5,11 @@ use Rattle.std.specs.Option.{option_map_or}
 use Rattle.std.proofs.lemmas.Bool.{and_parts}
 use Rattle.std.proofs.lemmas.Bool.Decides.{nat_tests}
 use Rattle.std.proofs.lemmas.List.{drop_more, drop_all}
-use Rattle.arena_rules.specs.Ground.{Grid, IsGrid, is_walled, is_open, is_free}
-use Rattle.arena_rules.specs.Setup.{spot_cell, pickup_cell}
-use Rattle.arena_rules.specs.Command.{open_ahead}
-use Rattle.arena_rules.specs.declared.pickup.PickupSpot.{PickupSpot}
-use Rattle.arena_rules.specs.declared.spot.Spot.{Spot}
+use Rattle.match_setup.specs.Ground.{Grid, IsGrid, is_walled, is_open, is_free}
+use Rattle.match_setup.specs.Setup.{spot_cell, pickup_cell}
+use Rattle.match_setup.specs.Facing.{open_ahead}
+use Rattle.match_setup.specs.declared.pickup.PickupSpot.{PickupSpot}
+use Rattle.match_setup.specs.declared.spot.Spot.{Spot}
 use Rattle.paint_rules.specs.Owners.{painted}
 use Rattle.paint_rules.specs.Scene.{settled}
 use Rattle.paint_rules.specs.Command.{painted_ahead}

@@ -1,7 +1,7 @@
 -- What the end of a tick does to a world.
 use Rattle.std.specs.Prelude.{ℕ, ◌+◌, min, List, [], ◌∷◌}
-use Rattle.arena_rules.specs.Setup.{pickup_cell}
-use Rattle.arena_rules.specs.declared.pickup.PickupSpot.{PickupSpot}
+use Rattle.match_setup.specs.Setup.{pickup_cell}
+use Rattle.match_setup.specs.declared.pickup.PickupSpot.{PickupSpot}
 use Rattle.paint_rules.specs.Owners.{nobody, painted}
 use Rattle.paint_rules.specs.Scene.{PaintWorld}
 

@@ -2,9 +2,10 @@
 use Rattle.std.specs.Prelude.{ℕ, ◌+◌, ◌-◌, nat_lt, if◌then◌else◌, List, [], ◌∷◌, ◌++◌, map, codes, decimal}
 use Rattle.std.specs.List.{range_with_len}
 use Rattle.tss_io.specs.Lines.{spaced, lines_text}
-use Rattle.arena_rules.specs.Ground.{Grid, is_walled}
-use Rattle.arena_rules.specs.Block.{line_of, name_of, face_word}
-use Rattle.arena_rules.specs.declared.spot.Spot.{Spot}
+use Rattle.match_setup.specs.Ground.{Grid, is_walled}
+use Rattle.tss_io.specs.Lines.{line_of}
+use Rattle.match_setup.specs.Words.{name_of, face_word}
+use Rattle.match_setup.specs.declared.spot.Spot.{Spot}
 use Rattle.paint_rules.specs.Owners.{owner_of, owned}
 use Rattle.paint_rules.specs.Scene.{PaintWorld}
 

@@ -1,8 +1,8 @@
 -- How the owners are kept, so that most beats have nothing to do. No rule speaks of it.
 use Rattle.std.specs.Prelude.{◌≡◌, ℕ, ◌<◌, Bool, false, List, All}
-use Rattle.arena_rules.specs.Ground.{Grid, IsWalled}
-use Rattle.arena_rules.specs.Setup.{pickup_cell}
-use Rattle.arena_rules.specs.declared.pickup.PickupSpot.{PickupSpot}
+use Rattle.match_setup.specs.Ground.{Grid, IsWalled}
+use Rattle.match_setup.specs.Setup.{pickup_cell}
+use Rattle.match_setup.specs.declared.pickup.PickupSpot.{PickupSpot}
 use Rattle.paint_rules.specs.Owners.{nobody, owner_of}
 
 -- the owners of the cells, and where pickups lie

@@ -1,7 +1,7 @@
 -- Who owns the cells. There are 64 rows of 64 owners, also where a grid has fewer cells.
 use Rattle.std.specs.Prelude.{◌≡◌, ℕ, ◌+◌, ◌*◌, ◌<◌, ◌==◌, List, replicate, slice_index_or, slice_set}
 use Rattle.game_trait.specs.Count.{times}
-use Rattle.arena_rules.specs.Setup.{Cell}
+use Rattle.match_setup.specs.Setup.{Cell}
 
 -- a cell's owner is the number of a player, below 32, or this number, which is nobody's
 abbrev pub nobody : ℕ

@@ -1,9 +1,9 @@
 -- A world as contracts see it.
 use Rattle.std.specs.Prelude.{ℕ, ◌+◌, List, [], ◌∷◌}
-use Rattle.arena_rules.specs.Ground.{Grid}
-use Rattle.arena_rules.specs.Setup.{Layout, spot_cell}
-use Rattle.arena_rules.specs.declared.pickup.PickupSpot.{PickupSpot}
-use Rattle.arena_rules.specs.declared.spot.Spot.{Spot}
+use Rattle.match_setup.specs.Ground.{Grid}
+use Rattle.match_setup.specs.Setup.{Layout, spot_cell}
+use Rattle.match_setup.specs.declared.pickup.PickupSpot.{PickupSpot}
+use Rattle.match_setup.specs.declared.spot.Spot.{Spot}
 use Rattle.paint_rules.specs.Owners.{unowned, painted}
 
 -- the ground, the cell and facing of each player in the order of their lines, the owners of the

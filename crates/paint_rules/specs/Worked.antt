@@ -1,11 +1,11 @@
 -- The worked worlds: small ones, most on a grid of 12 by 4 cells of which (6, 2) is walled, at time 7.
 use Rattle.std.specs.Prelude.{ℕ, List, [], ◌∷◌}
-use Rattle.arena_rules.specs.Ground.{Grid, open_grid, with_wall}
-use Rattle.arena_rules.specs.Worked.{yard, at, lying}
-use Rattle.arena_rules.specs.declared.face.Face.TheVariants.{E, S}
-use Rattle.arena_rules.specs.declared.pickup.Kind.TheVariants.{Ammo, Gold}
-use Rattle.arena_rules.specs.declared.pickup.PickupSpot.{PickupSpot}
-use Rattle.arena_rules.specs.declared.spot.Spot.{Spot}
+use Rattle.match_setup.specs.Ground.{Grid, open_grid, with_wall}
+use Rattle.match_setup.specs.Worked.{yard, at, lying}
+use Rattle.match_setup.specs.declared.face.Face.TheVariants.{E, S}
+use Rattle.match_setup.specs.declared.pickup.Kind.TheVariants.{Ammo, Gold}
+use Rattle.match_setup.specs.declared.pickup.PickupSpot.{PickupSpot}
+use Rattle.match_setup.specs.declared.spot.Spot.{Spot}
 use Rattle.paint_rules.specs.Owners.{unowned, painted}
 use Rattle.paint_rules.specs.Scene.{PaintWorld}
 

@@ -3,10 +3,10 @@ use Rattle.std.specs.Prelude.{◌≡◌, ℕ, ◌<◌, ◌≤◌, true, false, L
 use Rattle.std.specs.List.{AllByRecursion, IsDistinct}
 use Rattle.game_trait.specs.Game.{Rules}
 use Rattle.game_trait.specs.declared.limits.TheConstants.{MOST_PLAYERS, MOST_PICKUPS}
-use Rattle.arena_rules.specs.Ground.{Grid, IsGrid, is_open}
-use Rattle.arena_rules.specs.Setup.{same_cell, spot_cell}
-use Rattle.arena_rules.specs.declared.pickup.PickupSpot.{PickupSpot}
-use Rattle.arena_rules.specs.declared.spot.Spot.{Spot}
+use Rattle.match_setup.specs.Ground.{Grid, IsGrid, is_open}
+use Rattle.match_setup.specs.Setup.{same_cell, spot_cell}
+use Rattle.match_setup.specs.declared.pickup.PickupSpot.{PickupSpot}
+use Rattle.match_setup.specs.declared.spot.Spot.{Spot}
 use Rattle.paint_rules.specs.Owners.{nobody, owner_of}
 use Rattle.paint_rules.specs.Command.{applied}
 use Rattle.paint_rules.specs.Beat.{beaten}

@@ -6,9 +6,10 @@ ghost use Rattle.paint_rules.specs.Owners.{owned};
 ghost use Rattle.paint_rules.specs.Block.{painter_line, painter_lines, owner_byte, cell_byte, row_word, row_line, row_lines};
 
 use crate::cells::Cells;
-use arena_rules::{Ground, Roster, Spot};
 use arrayvec::ArrayVec;
-use tss_io::{NoMemory, Word, push_line};
+use match_setup::{Ground, Roster, Spot};
+use tss_base::NoMemory;
+use tss_io::{Word, push_line};
 
 // Appends the line of a player of this name who owns this number of cells. On `NoMemory` `out` is
 // unchanged.

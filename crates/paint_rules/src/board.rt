@@ -1,14 +1,14 @@
 //! The owners of the cells, and the pickups that wipe them.
 
 ghost use Rattle.std.specs.Prelude.{◌≡◌, ◌<◌, ◌≤◌, All};
-ghost use Rattle.arena_rules.specs.Ground.{IsWalled};
+ghost use Rattle.match_setup.specs.Ground.{IsWalled};
 ghost use Rattle.paint_rules.specs.Owners.{owner_of, painted, owned};
 ghost use Rattle.paint_rules.specs.Beat.{wiped};
 
 use crate::cells::{Cells, NOBODY};
-use arena_rules::{Ground, PickupSpot, copied, copy_into};
 use arrayvec::ArrayVec;
 use game_trait::limits::MOST_PICKUPS;
+use match_setup::{Ground, PickupSpot, copied, copy_into};
 use std::marker::Model;
 
 /// The owners of the cells, and where pickups lie. A beat has something to do only after a pickup's

@@ -6,9 +6,9 @@ ghost use Rattle.std.specs.List.{AllByRecursion, IsDistinct, list_any, range_wit
 ghost use Rattle.game_trait.specs.declared.command.Command.{Command};
 ghost use Rattle.game_trait.specs.Count.{times};
 ghost use Rattle.game_trait.specs.declared.limits.TheConstants.{MOST_PLAYERS, MOST_PICKUPS};
-ghost use Rattle.arena_rules.specs.Ground.{IsGrid, is_open};
-ghost use Rattle.arena_rules.specs.Setup.{Cell, same_cell, spot_cell, pickup_cell};
-ghost use Rattle.arena_rules.specs.declared.pickup.PickupSpot.{PickupSpot};
+ghost use Rattle.match_setup.specs.Ground.{IsGrid, is_open};
+ghost use Rattle.match_setup.specs.Setup.{Cell, same_cell, spot_cell, pickup_cell};
+ghost use Rattle.match_setup.specs.declared.pickup.PickupSpot.{PickupSpot};
 ghost use Rattle.paint_rules.specs.World.{PaintWorld, IsPaintWorld};
 ghost use Rattle.paint_rules.specs.Owners.{nobody, owner_of, owned};
 ghost use Rattle.paint_rules.specs.Block.{owner_byte, row_word};

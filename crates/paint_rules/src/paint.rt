@@ -1,9 +1,9 @@
 //! The game of painting: a world that commands and beats change, and that a block shows.
 
 ghost use Rattle.std.specs.Prelude.{◌≡◌, ℕ, ◌<◌, ◌≤◌, ◌++◌, false, length, take, OnOk, OnSome, slice_get, slice_index_or};
-ghost use Rattle.arena_rules.specs.Setup.{layout_of, IsLayout, spot_cell};
-ghost use Rattle.arena_rules.specs.Command.{turned_left, turned_right};
-ghost use Rattle.arena_rules.specs.declared.spot.Spot.{Spot as ASpot};
+ghost use Rattle.match_setup.specs.Setup.{layout_of, IsLayout, spot_cell};
+ghost use Rattle.match_setup.specs.Facing.{turned_left, turned_right};
+ghost use Rattle.match_setup.specs.declared.spot.Spot.{Spot as ASpot};
 ghost use Rattle.paint_rules.specs.Owners.{nobody, owner_of, owned};
 ghost use Rattle.paint_rules.specs.Scene.{opening};
 ghost use Rattle.paint_rules.specs.World.{IsPaintWorld};
@@ -16,12 +16,12 @@ use crate::board::Board;
 use crate::cells::Cells;
 use crate::painting::{paint_ahead, settle};
 use crate::players::{is_held, put};
-use arena_rules::{Ground, Roster, Setup, Shown, Spot, copied, copy_into};
 use arrayvec::ArrayVec;
 use game_trait::limits::MOST_PLAYERS;
 use game_trait::{Act, Command, Game, Tick};
+use match_setup::{Ground, Roster, Setup, Shown, Spot, copied, copy_into};
 use std::marker::Model;
-use tss_io::NoMemory;
+use tss_base::NoMemory;
 
 /// A world of the game: its ground, the cell and facing of each player, who owns each cell, where
 /// pickups lie, and the time. It has a fixed size.

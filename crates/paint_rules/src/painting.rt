@@ -6,7 +6,7 @@ ghost use Rattle.paint_rules.specs.Command.{painted_ahead};
 
 use crate::board::Board;
 use crate::cells::Cells;
-use arena_rules::{Ground, Spot};
+use match_setup::{Ground, Spot};
 
 // How many cells ahead a shot paints.
 const REACH: usize = 3;

@@ -1,12 +1,12 @@
 //! The players of a world: the cell and the facing of each.
 
 ghost use Rattle.std.specs.Prelude.{◌≡◌, ◌<◌, length, slice_set};
-ghost use Rattle.arena_rules.specs.Setup.{spot_cell};
+ghost use Rattle.match_setup.specs.Setup.{spot_cell};
 ghost use Rattle.paint_rules.specs.Command.{is_held};
 
-use arena_rules::Spot;
 use arrayvec::ArrayVec;
 use game_trait::limits::MOST_PLAYERS;
+use match_setup::Spot;
 
 /// Whether a player stands in the cell of this spot. Each is asked, whatever those before it
 /// answer, so that several are asked at once.

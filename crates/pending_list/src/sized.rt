@@ -12,7 +12,7 @@ use crate::keyed::Keyed;
 use game_trait::Tick;
 use std::alloc::Global;
 use std::collections::VecDeque;
-use tss_io::NoMemory;
+use tss_base::NoMemory;
 
 // How many a bucket holds.
 const BUCKET: usize = 2_048;

@@ -13,7 +13,7 @@ use Rattle.game_trait.proofs.KeyOrder.{NamesDiffer-filter}
 use Rattle.game_trait.proofs.Lengths.{length-in_key_order}
 use Rattle.game_trait.proofs.Lists.{all-weaker, all-take}
 use Rattle.game_trait.proofs.Counts.{times-all}
-use Rattle.match_file.specs.Data.{MatchData, IsMatch, IsCommand}
+use Rattle.match_data.specs.Data.{MatchData, IsMatch, IsCommand}
 use Rattle.link_ring.specs.declared.send.LinkSend.{LinkSend}
 use Rattle.link_ring.specs.declared.receive.LinkReceive.{LinkReceive}
 use Rattle.copy_workers.specs.declared.feeder_job.FeederJob.{FeederJob}

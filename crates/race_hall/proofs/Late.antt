@@ -14,7 +14,7 @@ use Rattle.sync_model.specs.State.{MirrorState}
 use Rattle.copy_workers.specs.declared.post.Asked.{Asked}
 use Rattle.copy_workers.specs.Messages.{messages, commands_in}
 use Rattle.copy_workers.specs.Asking.{is_arrival_of, arrival, moves_in, arrivals_of}
-use Rattle.tss_io.specs.Totals.{total}
+use Rattle.tss_base.specs.Totals.{total}
 use Rattle.copy_workers.specs.Feeding.{joined}
 use Rattle.copy_workers.proofs.Races.{times-messages, times-received}
 use Rattle.race_hall.specs.Entries.{Entry, pairs_of, own, events_asked, is_feeding, feeding_of, commands_asked, AllInTime}

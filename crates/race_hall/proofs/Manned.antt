@@ -17,13 +17,13 @@ use Rattle.game_trait.proofs.KeyOrder.{KeysRise-in_key_order, NamesDiffer-filter
 use Rattle.game_trait.proofs.Lists.{all-from_map, all-both}
 use Rattle.sync_model.specs.State.{MirrorState, opening_state}
 use Rattle.sync_model.specs.Schedule.{Schedule}
-use Rattle.match_file.specs.Data.{MatchData, IsMatch, schedules}
-use Rattle.match_file.proofs.Plans.{delays-of_schedules}
+use Rattle.match_data.specs.Data.{MatchData, IsMatch, schedules}
+use Rattle.match_data.proofs.Plans.{delays-of_schedules}
 use Rattle.mirror_core.specs.Kept.{delays_of_each, ticks_of_first}
 use Rattle.turn_lock.specs.declared.share.Share.{Share}
 use Rattle.turn_lock.specs.declared.view.View.{View}
 use Rattle.turn_lock.specs.declared.view.Stage.TheVariants.{Idle}
-use Rattle.tss_io.specs.Totals.{total}
+use Rattle.tss_base.specs.Totals.{total}
 use Rattle.turn_lock.specs.Views.{view, number_of, seat_view, fresh_views}
 use Rattle.mirror_lock.specs.declared.calls.LockCall.{LockCall}
 use Rattle.mirror_lock.specs.declared.calls.LockCall.TheVariants.{Event}

@@ -7,7 +7,7 @@ use Rattle.game_trait.specs.declared.command.Command.{Command}
 use Rattle.game_trait.specs.Count.{times}
 use Rattle.game_trait.proofs.Counts.{times-in_key_order, times-filter, times-apart}
 use Rattle.game_trait.proofs.KeyOrder.{all-in_key_order}
-use Rattle.tss_io.specs.Totals.{total}
+use Rattle.tss_base.specs.Totals.{total}
 use Rattle.copy_workers.proofs.Lists.{all-append}
 use Rattle.race_hall.specs.Race.{Course, plan_of, count_from, others}
 use Rattle.race_hall.specs.Finish.{unissued}

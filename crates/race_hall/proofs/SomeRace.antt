@@ -3,7 +3,7 @@ use Rattle.std.proofs.Common.{◌≡◌, ℕ, zero, suc, ◌+◌, ◌≤◌, Lis
 use Rattle.std.specs.List.{AllByRecursion}
 use Rattle.game_trait.specs.Game.{Rules}
 use Rattle.sync_model.specs.State.{MirrorState}
-use Rattle.match_file.specs.Data.{MatchData, IsMatch}
+use Rattle.match_data.specs.Data.{MatchData, IsMatch}
 use Rattle.race_hall.specs.Race.{Course, IsCourse, count_from, race_opening}
 use Rattle.race_hall.specs.Finish.{to_deliver, finished, EndsAtFold}
 use Rattle.race_hall.specs.Raced.{course_of, AreRaced}

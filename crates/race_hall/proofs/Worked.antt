@@ -8,7 +8,7 @@ use Rattle.link_ring.specs.declared.message.Message.TheVariants.{Cmd}
 use Rattle.std.proofs.Math.ListN.{length-append}
 use Rattle.copy_workers.specs.Messages.{messages, commands_in, last_mark}
 use Rattle.copy_workers.specs.Fed.{ArriveInTime}
-use Rattle.tss_io.specs.Totals.{total}
+use Rattle.tss_base.specs.Totals.{total}
 use Rattle.race_hall.specs.Race.{Course, Raced, others, race_opening}
 
 none-got : (ks : List ℕ) (P : List Message → Type 0) → P [] → AllByRecursion P (map (λ (k : ℕ). []) ks)

@@ -11,7 +11,7 @@ use Rattle.sync_model.specs.Change.{after}
 use Rattle.copy_workers.specs.declared.post.Asked.{Asked}
 use Rattle.copy_workers.specs.Messages.{messages, commands_in, last_mark, IsOrderly}
 use Rattle.copy_workers.specs.Asking.{IsFeeding, moves_in, arrivals_of, ArrivesAt}
-use Rattle.tss_io.specs.Totals.{total}
+use Rattle.tss_base.specs.Totals.{total}
 use Rattle.copy_workers.specs.Fed.{ArriveInTime}
 use Rattle.race_hall.specs.Entries.{Entry, pairs_of, own, events_asked, AreAnswersOf, IsStepping}
 use Rattle.sync_model.specs.Schedule.{DelaysRise, longest_delay}

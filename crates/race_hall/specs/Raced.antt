@@ -3,7 +3,7 @@ use Rattle.std.specs.Prelude.{◌≡◌, ◌∷◌, List, length}
 use Rattle.std.specs.List.{AllByRecursion}
 use Rattle.game_trait.specs.Game.{Rules}
 use Rattle.sync_model.specs.State.{MirrorState}
-use Rattle.match_file.specs.Data.{MatchData}
+use Rattle.match_data.specs.Data.{MatchData}
 use Rattle.race_hall.specs.Race.{Course}
 use Rattle.race_hall.specs.Finish.{EndsAtFold}
 

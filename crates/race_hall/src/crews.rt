@@ -5,7 +5,7 @@ ghost use Rattle.std.specs.Prelude.{◌≡◌, ◌∷◌, ◌+◌, ◌-◌, ◌�
 ghost use Rattle.std.specs.List.{AllByRecursion, AllZip};
 ghost use Rattle.std.specs.Vec.Iter.{into_iter_items};
 ghost use Rattle.game_trait.specs.Keys.{in_key_order, NamesDiffer};
-ghost use Rattle.match_file.specs.Data.{schedule_of, schedules};
+ghost use Rattle.match_data.specs.Data.{schedule_of, schedules};
 ghost use Rattle.race_hall.specs.Race.{count_from, plan_of, Course, first_plan};
 ghost use Rattle.race_hall.specs.Raced.{course_of};
 ghost use Rattle.race_hall.specs.Crews.{IsPlanOf, IsRoomOf, AreFeeders, ByMirror, IsFeederOf, IsCrew, IsManning, IsLockOf, IsPosted, shares_of, HasCrew, IsCrewDone, IsClosed, AllClosed, IsTakenBack, IsRoomy};
@@ -19,13 +19,13 @@ use copy_workers::{CopyJob, FeederEnd, FeederJob};
 use game_trait::{Command, Game, MirrorId, order_by_key};
 use link_mesh::make_links;
 use link_ring::{LinkReceive, LinkSend};
-use match_file::{Match, plans_of};
+use match_data::{Match, plans_of};
 use mirror_core::Mirror;
 use mirror_lock::{MirrorLock, MirrorSeat};
 use stagger_clock::Stagger;
 use std::alloc::Global;
 use std::vec::IntoIter;
-use tss_io::NoMemory;
+use tss_base::NoMemory;
 use turn_lock::Share;
 
 // A mirror's own commands, in key order.

@@ -9,7 +9,7 @@ ghost use Rattle.game_trait.specs.Count.{times};
 ghost use Rattle.game_trait.specs.Run.{world_of};
 ghost use Rattle.game_trait.specs.Ordered.{time_ordered};
 ghost use Rattle.link_ring.specs.declared.message.Message.{Message};
-ghost use Rattle.match_file.specs.Data.{MatchData, IsMatch};
+ghost use Rattle.match_data.specs.Data.{MatchData, IsMatch};
 ghost use Rattle.sync_model.specs.State.{MirrorState};
 ghost use Rattle.sync_model.specs.Change.{said, after};
 ghost use Rattle.sync_model.specs.History.{opening_of, IsFromHistory};

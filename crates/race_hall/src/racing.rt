@@ -20,14 +20,14 @@ use crate::finish::{Sender, finish_joined};
 use copy_workers::{FeederEnd, Gate};
 use game_trait::Game;
 use link_ring::{LinkReceive, LinkSend};
-use match_file::Match;
+use match_data::Match;
 use mirror_core::Mirror;
 use mirror_lock::{MirrorLock, MirrorSeat};
 use std::alloc::Global;
 use std::sync::Wait;
 use std::thread::Threads;
 use task_threads::{Backs, Rooms, do_all};
-use tss_io::NoMemory;
+use tss_base::NoMemory;
 
 /// The most turns that a job of a race may make.
 pub const MOST_BUDGET: u64 = 1_048_576;

@@ -5,7 +5,8 @@ ghost use Rattle.report_text.specs.Ends.{done_line, refused_text, usage_text};
 
 use arrayvec::ArrayString;
 use itoa::Buffer;
-use tss_io::{NoMemory, Refused, Word, push_line};
+use tss_base::NoMemory;
+use tss_io::{Refused, Word, push_line};
 
 /// Appends the last line, `done`. On `NoMemory` `out` is unchanged.
 #[tactic(auto, unfolding(crate::specs::Ends::done_line))]

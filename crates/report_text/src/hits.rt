@@ -3,7 +3,8 @@
 ghost use Rattle.std.specs.Prelude.{◌≡◌, ◌++◌, OnOk, OnErr};
 ghost use Rattle.report_text.specs.Hits.{hits_line};
 
-use tss_io::{NoMemory, Word, push_line};
+use tss_base::NoMemory;
+use tss_io::{Word, push_line};
 
 /// Appends `hits H`: how many looks found a world that was cached. On `NoMemory` `out` is unchanged.
 #[tactic(auto, unfolding(crate::specs::Hits::hits_line))]

@@ -4,7 +4,8 @@ ghost use Rattle.std.specs.Prelude.{◌≡◌, ◌++◌, ◌∷◌, [], length, 
 ghost use Rattle.report_text.specs.Mirrors.{mirror_line, item_mark, run_head};
 
 use game_trait::{Item, MirrorId};
-use tss_io::{NoMemory, Word, push_count, push_line};
+use tss_base::NoMemory;
+use tss_io::{Word, push_count, push_line};
 
 /// Appends `mirror M accepted A turned Z repairs R`: how many commands the mirror accepted, how
 /// many arrivals it turned away, and how many copies it repaired. On `NoMemory` `out` is unchanged.

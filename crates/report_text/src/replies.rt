@@ -4,7 +4,8 @@ ghost use Rattle.std.specs.Prelude.{◌≡◌, ◌++◌, OnOk, OnErr};
 ghost use Rattle.report_text.specs.Replies.{repair_line, tick_text, arrival_text, step_text};
 
 use game_trait::{Arrived, MirrorId, Number, Stepped, Ticked};
-use tss_io::{NoMemory, Word, push_line};
+use tss_base::NoMemory;
+use tss_io::{Word, push_line};
 
 /// Appends `repair M R`: at this mirror R copies were repaired. It appends nothing where none was.
 /// On `NoMemory` `out` is unchanged. The line is this project's own, as all others are.

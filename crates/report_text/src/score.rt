@@ -7,13 +7,13 @@ ghost use Rattle.serde_json.specs.Data.{string};
 ghost use Rattle.serde_json.specs.View.{view};
 ghost use Rattle.report_text.specs.Score.{score_data, row_data, scores_data, rows_data, names_data, scoreboard, score_text};
 
-use arena_rules::Roster;
 use arrayvec::ArrayVec;
 use game_trait::MirrorId;
+use match_setup::Roster;
 use serde_json::{Map, Value, put};
 use std::alloc::Global;
 use std::str::from_utf8;
-use tss_io::NoMemory;
+use tss_base::NoMemory;
 
 /// What the scoreboard tells of one mirror.
 #[derive(Drop)]

@@ -3,7 +3,8 @@
 ghost use Rattle.std.specs.Prelude.{◌≡◌, ◌++◌, OnOk, OnErr};
 ghost use Rattle.report_text.specs.Soak.{soak_line, same_line};
 
-use tss_io::{NoMemory, Word, push_line};
+use tss_base::NoMemory;
+use tss_io::{Word, push_line};
 
 /// Appends `soak N commands C`: the number that makes the match, and how many commands the match
 /// has. On `NoMemory` `out` is unchanged.

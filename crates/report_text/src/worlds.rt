@@ -4,9 +4,10 @@ ghost use Rattle.std.specs.Prelude.{◌≡◌, ◌++◌, ◌∷◌, [], length, 
 ghost use Rattle.tss_io.specs.Words.{word_bytes};
 ghost use Rattle.report_text.specs.Worlds.{block_text, copy_head};
 
-use arena_rules::{Roster, Shown};
 use game_trait::{MirrorId, Tick};
-use tss_io::{NoMemory, Word, push_line};
+use match_setup::{Roster, Shown};
+use tss_base::NoMemory;
+use tss_io::{Word, push_line};
 
 // Appends a head line and the lines of a world. On `NoMemory` the head line may have been appended.
 fn push_parts<G: Shown>(

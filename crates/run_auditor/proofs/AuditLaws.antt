@@ -12,8 +12,8 @@ use Rattle.sync_model.specs.History.{EachChanges, first_state, without_room}
 use Rattle.sync_model.specs.Legal.{IsLegal}
 use Rattle.sync_model.proofs.History.{history-next}
 use Rattle.sync_model.proofs.Room.{said-same, from_history_reached, first-next}
-use Rattle.match_file.specs.Data.{MatchData}
-use Rattle.run_recorder.specs.declared.log.MirrorLog.{MirrorLog}
+use Rattle.match_data.specs.Data.{MatchData}
+use Rattle.match_data.specs.declared.log.MirrorLog.{MirrorLog}
 use Rattle.run_recorder.specs.declared.race_record.RaceRecord.{RaceRecord}
 use Rattle.run_recorder.specs.Data.{EachNumbered, IsEventOf, IsLogOf, AreWorldsOf, IsRecord}
 use Rattle.run_auditor.specs.declared.verdict.Verdict.{Verdict}

@@ -14,22 +14,23 @@ use Rattle.tss_io.specs.Lines.{as_line, lines_text, spaced, words_of}
 use Rattle.tss_io.proofs.FormLaws.{number_exact}
 use Rattle.tss_io.proofs.Lengths.{Short, lines_length}
 use Rattle.tss_io.proofs.Printing.{lines_text-append}
-use Rattle.tss_io.proofs.RunLaws.{all_append}
+use Rattle.tss_base.proofs.ListLaws.{all_append}
 use Rattle.tss_io.proofs.Spaced.{AreWords, IsWord-decimal, is_word-some, words_of-spaced}
 use Rattle.arena_rules.specs.declared.limits.TheConstants.{LEAST_SCORE, GREATEST_SCORE}
-use Rattle.arena_rules.specs.Block.{face_word, kind_word, name_of, state_words, state_line, state_lines, shot_line, item_line, block_of}
-use Rattle.arena_rules.specs.Ground.{Grid, IsGrid, is_open, is_walled}
+use Rattle.match_setup.specs.Words.{face_word, kind_word, name_of}
+use Rattle.arena_rules.specs.Block.{state_words, state_line, state_lines, shot_line, item_line, block_of}
+use Rattle.match_setup.specs.Ground.{Grid, IsGrid, is_open, is_walled}
 use Rattle.arena_rules.specs.World.{World, IsState, IsPlayer, IsShot, IsPickup, IsWorld}
-use Rattle.arena_rules.specs.declared.face.Face.{Face}
-use Rattle.arena_rules.specs.declared.face.Face.TheVariants.{N, E, S, W}
-use Rattle.arena_rules.specs.declared.pickup.Kind.{Kind}
-use Rattle.arena_rules.specs.declared.pickup.Kind.TheVariants.{Ammo, Heal, Gold}
+use Rattle.match_setup.specs.declared.face.Face.{Face}
+use Rattle.match_setup.specs.declared.face.Face.TheVariants.{N, E, S, W}
+use Rattle.match_setup.specs.declared.pickup.Kind.{Kind}
+use Rattle.match_setup.specs.declared.pickup.Kind.TheVariants.{Ammo, Heal, Gold}
 use Rattle.arena_rules.specs.declared.pickup.Pickup.{Pickup}
 use Rattle.arena_rules.specs.declared.player.Player.{Player}
 use Rattle.arena_rules.specs.declared.player.State.{State}
 use Rattle.arena_rules.specs.declared.player.State.TheVariants.{Live, Dead}
 use Rattle.arena_rules.specs.declared.shot.Shot.{Shot}
-use Rattle.match_file.specs.Names.{is_letter, is_name_byte, is_name}
+use Rattle.match_data.specs.Names.{is_letter, is_name_byte, is_name}
 use Rattle.run_recorder.specs.Data.{IsBlockLine}
 use Rattle.run_recorder.specs.Text.{is_shown, first_of, first_word, is_block_line}
 

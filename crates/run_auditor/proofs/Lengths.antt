@@ -27,7 +27,7 @@ use Rattle.sync_model.proofs.Cases.{tick-cases, arrive-cases, step-cases, restag
 use Rattle.sync_model.proofs.Trailing.{beats-step, beats-arrival}
 use Rattle.sync_model.proofs.Legal.{named-fits}
 use Rattle.sync_model.proofs.Staggered.{opening_staggered, below_limit}
-use Rattle.match_file.specs.Data.{MatchData, IsMatch, schedule_of, all_plans}
+use Rattle.match_data.specs.Data.{MatchData, IsMatch, schedule_of, all_plans}
 
 -- numbers added up
 unfoldable pub added : List ℕ → ℕ

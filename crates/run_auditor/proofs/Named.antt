@@ -12,7 +12,7 @@ use Rattle.game_trait.specs.CommandList.{command_named}
 use Rattle.game_trait.specs.Keys.{is_named, same_name, NamesDiffer}
 use Rattle.game_trait.proofs.KeyOrder.{same_name-sym}
 use Rattle.sync_model.specs.Legal.{NamesWhatIsThere}
-use Rattle.match_file.specs.Data.{MatchData}
+use Rattle.match_data.specs.Data.{MatchData}
 use Rattle.run_recorder.specs.Data.{IsEventOf}
 use Rattle.run_auditor.specs.Audit.{start}
 

@@ -25,11 +25,11 @@ use Rattle.sync_model.proofs.Along.{staggered_along}
 use Rattle.sync_model.proofs.Cases.{after-fixed}
 use Rattle.sync_model.proofs.Legal.{named-fits}
 use Rattle.sync_model.proofs.Staggered.{opening_staggered}
-use Rattle.match_file.specs.Data.{MatchData, IsMatch, IsCommand, all_plans}
+use Rattle.match_data.specs.Data.{MatchData, IsMatch, IsCommand, all_plans}
 use Rattle.match_file.specs.Text.{match_text}
 use Rattle.match_file.proofs.TextLaws.{text_small}
 use Rattle.report_text.specs.Worlds.{copy_block}
-use Rattle.run_recorder.specs.declared.log.MirrorLog.{MirrorLog}
+use Rattle.match_data.specs.declared.log.MirrorLog.{MirrorLog}
 use Rattle.run_recorder.specs.declared.race_record.RaceRecord.{RaceRecord}
 use Rattle.run_recorder.specs.Data.{EachNumbered, IsEventOf, IsLogOf, IsBlock, AreWorldsOf, IsRecord}
 use Rattle.run_recorder.specs.Text.{record_head, last_line, event_line, log_line, log_text, world_line, blocks_text, record_mirrors_text}

@@ -9,8 +9,8 @@ use Rattle.sync_model.specs.State.{MirrorState}
 use Rattle.sync_model.specs.Change.{next, said, is_change, changes, after}
 use Rattle.sync_model.specs.Drafts.{run_of}
 use Rattle.sync_model.specs.History.{EachChanges}
-use Rattle.match_file.specs.Data.{MatchData}
-use Rattle.run_recorder.specs.declared.log.MirrorLog.{MirrorLog}
+use Rattle.match_data.specs.Data.{MatchData}
+use Rattle.match_data.specs.declared.log.MirrorLog.{MirrorLog}
 use Rattle.run_recorder.specs.declared.race_record.RaceRecord.{RaceRecord}
 use Rattle.run_recorder.specs.Data.{EachNumbered, IsEventOf, IsLogOf, IsRecord}
 use Rattle.run_auditor.specs.declared.verdict.Verdict.{Verdict}

@@ -22,12 +22,12 @@ use Rattle.sync_model.proofs.Legal.{named-fits}
 use Rattle.sync_model.proofs.Along.{all-fit-next}
 use Rattle.sync_model.proofs.History.{history-next, unchanged-next}
 use Rattle.sync_model.proofs.Room.{spare-next, plan_spare-next}
-use Rattle.match_file.specs.Data.{MatchData, IsMatch, IsCommand, all_plans, schedules}
+use Rattle.match_data.specs.Data.{MatchData, IsMatch, IsCommand, all_plans, schedules}
 use Rattle.run_recorder.specs.Data.{IsEventOf}
 use Rattle.run_auditor.specs.declared.why.Why.{Why}
 use Rattle.run_auditor.specs.Walks.{why_of, LogWalk, IsWalk, moved, moved_on}
 use Rattle.game_trait.proofs.CommandLists.{command_named-Contains}
-use Rattle.match_file.proofs.Plans.{delays-of_schedules}
+use Rattle.match_data.proofs.Plans.{delays-of_schedules}
 use Rattle.std.proofs.Math.Bool.{and-true}
 
 -- ---- answers

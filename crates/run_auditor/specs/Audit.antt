@@ -6,9 +6,9 @@ use Rattle.sync_model.specs.Change.{said, after}
 use Rattle.sync_model.specs.History.{EachChanges}
 use Rattle.sync_model.specs.Legal.{IsLegal}
 use Rattle.sync_model.specs.Drafts.{run_of}
-use Rattle.match_file.specs.Data.{MatchData, all_plans}
+use Rattle.match_data.specs.Data.{MatchData, all_plans}
 use Rattle.report_text.specs.Worlds.{Showing, copy_block}
-use Rattle.run_recorder.specs.declared.log.MirrorLog.{MirrorLog}
+use Rattle.match_data.specs.declared.log.MirrorLog.{MirrorLog}
 use Rattle.run_recorder.specs.declared.race_record.RaceRecord.{RaceRecord}
 use Rattle.run_recorder.specs.Data.{EachNumbered}
 use Rattle.run_auditor.specs.declared.verdict.Verdict.{Verdict}

@@ -14,7 +14,7 @@ use Rattle.game_trait.specs.Events.{is_arrival, is_restagger}
 use Rattle.sync_model.specs.State.{MirrorState, opening_state}
 use Rattle.sync_model.specs.Change.{next, said, Fits}
 use Rattle.sync_model.specs.History.{first_state}
-use Rattle.match_file.specs.Data.{MatchData, all_plans}
+use Rattle.match_data.specs.Data.{MatchData, all_plans}
 use Rattle.run_auditor.specs.declared.why.Fault.{Fault}
 use Rattle.run_auditor.specs.declared.why.Why.{Why}
 use Rattle.run_auditor.specs.declared.why.Why.TheVariants as whys

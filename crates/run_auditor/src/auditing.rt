@@ -3,7 +3,7 @@
 ghost use Rattle.std.specs.Prelude.{◌≡◌, ◌≤◌, ◌<◌, ◌↔◌, ◌+◌, true, false, length, IfOk};
 ghost use Rattle.std.specs.List.{AllByRecursion};
 ghost use Rattle.game_trait.specs.declared.limits.TheConstants.{MOST_ROOM, MOST_COPIES};
-ghost use Rattle.match_file.specs.Data.{IsMatch};
+ghost use Rattle.match_data.specs.Data.{IsMatch};
 ghost use Rattle.report_text.specs.Worlds.{showing, copy_block};
 ghost use Rattle.run_recorder.specs.Data.{IsEventOf, IsRecord};
 ghost use Rattle.run_auditor.specs.Audit.{IsStated, FoundFalse, Found, IsLegalRecord, Tells, says_legal};
@@ -12,14 +12,14 @@ ghost use Rattle.run_auditor.specs.Walks.{WentOn, Stopped, walk_of};
 use crate::verdict::Verdict;
 use crate::walk::{LogWalk, Walked};
 use crate::why::{Fault, Why};
-use arena_rules::Shown;
 use game_trait::{Game, MirrorId};
-use match_file::Match;
+use match_data::{Match, MirrorLog};
+use match_setup::Shown;
 use mirror_core::{DeferredMirror, Mirrored};
 use report_text::copy_block;
-use run_recorder::{Block, MirrorLog, RaceRecord};
+use run_recorder::{Block, RaceRecord};
 use std::alloc::Global;
-use tss_io::NoMemory;
+use tss_base::NoMemory;
 
 // Makes the events of the walk up to the first that changes nothing, which is told.
 fn walk_log<G: Game>(walk: &mut LogWalk<G>) -> Option<Fault>

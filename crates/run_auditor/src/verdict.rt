@@ -6,7 +6,8 @@ ghost use Rattle.run_auditor.specs.Verdicts.{why_word, verdict_text};
 use crate::why::Why;
 use game_trait::MirrorId;
 use report_text::done_line;
-use tss_io::{NoMemory, Word, push_line};
+use tss_base::NoMemory;
+use tss_io::{Word, push_line};
 
 /// What an audit says of a record.
 #[derive(Clone, Copy, Debug, PartialEq, Eq)]

@@ -10,12 +10,11 @@ ghost use Rattle.run_auditor.specs.Walks.{walk_of, told_next, moved_on};
 
 use crate::why::{Why, why_of};
 use game_trait::{Event, Game, MirrorId, Note};
-use match_file::{Match, plans_of};
+use match_data::{Match, MirrorLog, plans_of};
 use mirror_core::{DeferredMirror, Mirrored};
-use run_recorder::MirrorLog;
 use std::alloc::Global;
 use std::marker::Model;
-use tss_io::NoMemory;
+use tss_base::NoMemory;
 
 /// What a walk tells of the next event.
 #[derive(Clone, Copy, Debug, PartialEq, Eq)]

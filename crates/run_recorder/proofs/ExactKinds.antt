@@ -4,7 +4,7 @@ use Rattle.game_trait.specs.declared.limits.TheConstants.{GREATEST_NUMBER, MOST_
 use Rattle.tss_io.specs.Forms.{is_word, InRange, number}
 use Rattle.tss_io.proofs.FormLaws.{ExactField, number_exact, only_exact, then_exact}
 use Rattle.tss_io.proofs.KindLaws.{ExactKind}
-use Rattle.match_file.specs.Data.{MatchData, IsMatch}
+use Rattle.match_data.specs.Data.{MatchData, IsMatch}
 use Rattle.run_recorder.specs.declared.tail.Tail.{Tail}
 use Rattle.run_recorder.specs.Kinds.{log_kind, record_arrive_kind, record_step_kind, record_restagger_kind, record_world_kind}
 

@@ -3,7 +3,7 @@ use Rattle.std.proofs.Common.{◌≡◌, ℕ, ◌+◌, ◌<◌, List, [], ◌∷
 use Rattle.std.proofs.lemmas.Grind.{flat_map-append, take_at_read}
 use Rattle.game_trait.specs.declared.event.Event.{Event}
 use Rattle.tss_io.specs.Lines.{as_line, lines_text}
-use Rattle.run_recorder.specs.declared.log.MirrorLog.{MirrorLog}
+use Rattle.match_data.specs.declared.log.MirrorLog.{MirrorLog}
 use Rattle.run_recorder.specs.Text.{event_line, log_line, log_text, blocks_text, record_mirrors_text}
 
 pub blocks_none : (old : List ℕ) → old ≡ old ++ blocks_text []

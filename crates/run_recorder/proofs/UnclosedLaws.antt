@@ -1,5 +1,5 @@
 -- A text that goes on behind the last line of its record.
-use Rattle.std.proofs.Common.{◌≡◌, ℕ, ◌≤◌, true, false, List, length, Ok, Err, refl, arith}
+use Rattle.std.proofs.Common.{◌≡◌, ℕ, true, false, List, length, Ok, Err, refl, arith}
 use Rattle.std.specs.Prelude.{nat_le, nat_lt}
 use Rattle.std.proofs.lemmas.Bool.Decides.{nat_tests}
 use Rattle.game_trait.specs.declared.limits.TheConstants.{LONGEST_RECORD_TEXT}
@@ -8,7 +8,7 @@ use Rattle.tss_io.specs.Lines.{Lines, lines_of}
 use Rattle.tss_io.specs.Reading.{refused_at}
 use Rattle.tss_io.specs.Runs.{is_end, run_to, stopped}
 use Rattle.match_file.specs.Around.{first_at, read_around}
-use Rattle.match_file.specs.Data.{MatchData}
+use Rattle.match_data.specs.Data.{MatchData}
 use Rattle.match_file.specs.Reading.{read_match}
 use Rattle.run_recorder.specs.declared.tail.Tail.{Tail}
 use Rattle.run_recorder.specs.Reading.{record_machine, no_tail, read_record}

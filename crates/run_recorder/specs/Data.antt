@@ -7,8 +7,8 @@ use Rattle.game_trait.specs.declared.limits.TheConstants.{LONGEST_RECORD_TEXT, M
 use Rattle.game_trait.specs.CommandList.{command_named}
 use Rattle.tss_io.specs.Kinds.{is_long}
 use Rattle.tss_io.specs.Lines.{as_line, lines_text}
-use Rattle.match_file.specs.Data.{MatchData, IsMatch}
-use Rattle.run_recorder.specs.declared.log.MirrorLog.{MirrorLog}
+use Rattle.match_data.specs.Data.{MatchData, IsMatch}
+use Rattle.match_data.specs.declared.log.MirrorLog.{MirrorLog}
 use Rattle.run_recorder.specs.declared.race_record.RaceRecord.{RaceRecord}
 use Rattle.run_recorder.specs.Text.{is_block_line, world_line, record_text}
 

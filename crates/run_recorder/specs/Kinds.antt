@@ -12,7 +12,7 @@ use Rattle.tss_io.specs.Forms.{front_at, last_at, number, only, ◌&◌, is_abov
 use Rattle.tss_io.specs.Results.{◌>>=◌}
 use Rattle.tss_io.specs.Kinds.{Kind}
 use Rattle.tss_io.specs.Lines.{as_line}
-use Rattle.match_file.specs.Data.{MatchData}
+use Rattle.match_data.specs.Data.{MatchData}
 use Rattle.run_recorder.specs.declared.tail.Stage.{Stage}
 use Rattle.run_recorder.specs.declared.tail.Stage.TheVariants.{Between, InLog, InWorld, Ended}
 use Rattle.run_recorder.specs.declared.tail.Tail.{Tail}

@@ -10,7 +10,7 @@ use Rattle.tss_io.specs.Lines.{as_line}
 use Rattle.tss_io.specs.Machines.{Entry, entry, alone, Table, take_by, Machine, machine_of, IsFirstOf}
 use Rattle.tss_io.specs.Results.{◌>>=◌}
 use Rattle.match_file.specs.Around.{first_due, around, read_around}
-use Rattle.match_file.specs.Data.{MatchData}
+use Rattle.match_data.specs.Data.{MatchData}
 use Rattle.run_recorder.specs.declared.race_record.RaceRecord.{RaceRecord}
 use Rattle.run_recorder.specs.declared.tail.Stage.TheVariants.{Between, Ended}
 use Rattle.run_recorder.specs.declared.tail.Tail.{Tail}

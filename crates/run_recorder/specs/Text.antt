@@ -7,7 +7,7 @@ use Rattle.tss_io.specs.declared.cause.Cause.{Cause}
 use Rattle.tss_io.specs.Forms.{is_word, front_at}
 use Rattle.tss_io.specs.Lines.{as_line, spaced, words_of, lines_text}
 use Rattle.match_file.specs.Text.{match_text}
-use Rattle.run_recorder.specs.declared.log.MirrorLog.{MirrorLog}
+use Rattle.match_data.specs.declared.log.MirrorLog.{MirrorLog}
 use Rattle.run_recorder.specs.declared.race_record.RaceRecord.{RaceRecord}
 
 -- the first line

@@ -5,7 +5,7 @@ ghost use Rattle.tss_io.specs.Lines.{as_line};
 
 use std::alloc::Global;
 use std::marker::Model;
-use tss_io::NoMemory;
+use tss_base::NoMemory;
 
 /// The block of a copy, kept as the bytes of its lines. Contracts see the bytes.
 #[derive(Debug, Drop)]

@@ -4,14 +4,13 @@
 
 mod block;
 pub mod laws;
-mod log;
 mod printing;
 mod race_record;
 mod reading;
 mod tail;
 
 pub use block::Block;
-pub use log::MirrorLog;
+pub use match_data::MirrorLog;
 pub use printing::print_record;
 pub use race_record::RaceRecord;
 pub use reading::read_record;

@@ -1,17 +1,17 @@
 //! Printing records.
 
-ghost use Rattle.std.specs.Prelude.{◌≡◌, ◌++◌, ◌∷◌, [], decimal, length, map, OnOk, IfOk};
-ghost use Rattle.match_file.specs.Text.{match_text};
+ghost use Rattle.std.specs.Prelude.{◌≡◌, ◌++◌, [], length, map, OnOk, IfOk};
 ghost use Rattle.tss_io.specs.Lines.{as_line, lines_text, spaced};
-ghost use Rattle.run_recorder.specs.Text.{event_line, log_line, log_text, blocks_text, record_mirrors_text, record_text, record_head, last_line};
+ghost use Rattle.run_recorder.specs.Text.{event_line, log_text, blocks_text, record_mirrors_text, record_text};
 
 use crate::block::Block;
-use crate::log::MirrorLog;
 use crate::race_record::RaceRecord;
 use game_trait::{Command, Event};
+use match_data::MirrorLog;
 use match_file::print_match;
 use std::alloc::Global;
-use tss_io::{NoMemory, Seq, Word, push_count, push_line};
+use tss_base::{NoMemory, Seq};
+use tss_io::{Word, push_count, push_line};
 
 fn push_event(out: &mut Vec<u8>, event: &Event) -> Result<(), NoMemory>
     ensures { OnOk result (out.new.items ≡ out.old.items ++ as_line (event_line event.now)) }

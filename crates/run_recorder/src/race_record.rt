@@ -1,9 +1,8 @@
 //! A record of a match.
 
 use crate::block::Block;
-use crate::log::MirrorLog;
-use match_file::Match;
-use tss_io::Seq;
+use match_data::{Match, MirrorLog};
+use tss_base::Seq;
 
 /// A match, the log of each of its mirrors, and the worlds that their copies stood at, as they were
 /// stated: `worlds[m][c]` is the block of copy c of mirror m, its head line included. Contracts see

@@ -10,7 +10,7 @@ use Rattle.game_trait.specs.Ordered.{time_ordered}
 use Rattle.game_trait.proofs.KeyOrder.{all-weaker}
 use Rattle.sync_model.specs.State.{MirrorState}
 use Rattle.sync_model.specs.Turns.{drain}
-use Rattle.match_file.specs.declared.script_line.ScriptLine.{ScriptLine}
+use Rattle.match_data.specs.declared.script_line.ScriptLine.{ScriptLine}
 use Rattle.match_hall.specs.Script.{changed_at, after_line, mirror_of, after_script, opening_from, opening_mirrors, scripted, played}
 use Rattle.match_maker.specs.Generator.{match_of_number}
 use Rattle.soak.specs.Soak.{all_commands, IsSoaked}

@@ -7,7 +7,7 @@ use Rattle.std.proofs.lemmas.Bool.Decides.{nat_tests}
 use Rattle.std.proofs.lemmas.Bool.{or_parts}
 use Rattle.std.proofs.lemmas.List.{append-nil, map-append}
 use Rattle.std.proofs.lemmas.List.Elements.{filter-append}
-use Rattle.tss_io.proofs.RunLaws.{all_append}
+use Rattle.tss_base.proofs.ListLaws.{all_append}
 use Rattle.game_trait.specs.declared.command.Command.{Command}
 use Rattle.game_trait.specs.declared.event.Event.TheVariants.{Arrive as Arrival}
 use Rattle.game_trait.specs.Game.{Rules}
@@ -18,8 +18,8 @@ use Rattle.sync_model.specs.Change.{after}
 use Rattle.sync_model.specs.Turns.{turn_events, drain}
 use Rattle.sync_model.proofs.Cases.{after-fixed}
 use Rattle.sync_model.proofs.History.{after-append}
-use Rattle.match_file.specs.declared.script_line.ScriptLine.{ScriptLine}
-use Rattle.match_file.specs.declared.script_line.ScriptLine.TheVariants.{Arrive, Turn}
+use Rattle.match_data.specs.declared.script_line.ScriptLine.{ScriptLine}
+use Rattle.match_data.specs.declared.script_line.ScriptLine.TheVariants.{Arrive, Turn}
 use Rattle.match_hall.specs.Script.{names, events_of, after_lines, opening_mirror, opening_from, opening_mirrors, scripted, played}
 use Rattle.match_hall.proofs.Telling.{after_lines-append}
 use Rattle.match_maker.specs.Below.{joined_below, each_below}

@@ -12,13 +12,12 @@ use crate::agree::are_all_at;
 use crate::laws::the_text_says_same_yes;
 use arena_rules::Arena;
 use game_trait::{Game, MirrorId, execute_in_order};
-use match_file::Match;
+use match_data::{Match, MirrorLog};
 use match_hall::Hall;
 use match_maker::make_match;
 use report_text::{done_line, same_line, soak_line};
-use run_recorder::MirrorLog;
 use std::alloc::Global;
-use tss_io::{NoMemory, Seq};
+use tss_base::{NoMemory, Seq};
 use watch_board::Board;
 
 // How many commands the match of a number has.

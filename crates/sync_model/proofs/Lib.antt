@@ -21,3 +21,5 @@ mod Computing
 mod Alone
 pub mod Epochs
 pub mod Renewals
+pub mod Following
+pub mod HostWorlds

@@ -13,3 +13,4 @@ pub mod Drafts
 pub mod Repairs
 pub mod Worked
 pub mod Pinned
+pub mod Host

@@ -4,6 +4,7 @@ mod clocks;
 mod drafts;
 mod draining;
 mod history;
+mod hosts;
 mod room;
 mod settling;
 mod staggered;
@@ -20,6 +21,10 @@ pub use draining::{
 pub use history::{
     answers_in_kind, changing_events_are_a_log, changing_events_suffice, history_grows,
     history_of_changes, late_exactly, reached_kept, repairs_add_up, unchanged_exactly,
+};
+pub use hosts::{
+    runs_begin_with_those_behind, the_last_copy_is_never_repaired, unrepaired_runs_grow,
+    world_goes_on, worlds_follow, worlds_follow_a_match,
 };
 pub use room::{
     from_history_kept, from_history_reached, opening_from_history, room_decides_nothing, room_spent,

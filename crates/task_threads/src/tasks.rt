@@ -10,7 +10,7 @@ use std::snapshot::Snapshot;
 use std::sync::Wait;
 use std::sync::atomic::{AtomicBool, Ordering};
 use std::thread::{Promise, PromisedHandle, Scope, Threads, scope, scope_env};
-use tss_io::NoMemory;
+use tss_base::NoMemory;
 
 /// What may be done, and comes to an end `E`.
 pub trait Task<E> {

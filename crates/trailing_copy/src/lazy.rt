@@ -28,7 +28,7 @@ use pending_list::Buckets;
 use repair_copy::append_tick;
 use std::alloc::Global;
 use std::marker::Model;
-use tss_io::NoMemory;
+use tss_base::NoMemory;
 
 /// The copies of a mirror, between whose events the worlds of the first may still be to be made
 /// (this project's own). All runs are kept as one list. The runs that an arrival or a step repairs

@@ -18,7 +18,7 @@ use arrayvec::ArrayVec;
 use game_trait::{Command, Game, Item, Tick};
 use std::alloc::Global;
 use std::marker::Model;
-use tss_io::NoMemory;
+use tss_base::NoMemory;
 
 /// The copies of a mirror, each with its run and its live world, which is always the world of its
 /// run: the trailing states of the paper of 2002, which execute a late command on arrival and are

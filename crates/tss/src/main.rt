@@ -11,7 +11,8 @@ use std::alloc::Global;
 use std::process::ExitCode;
 use std::rt::Env;
 use std::{env, io};
-use tss_io::{NoMemory, StdSink, StdSource};
+use tss_base::NoMemory;
+use tss_io::{StdSink, StdSource};
 use tss_program::{Done, asks_race, run, run_watched, words_behind};
 
 // The program's own name and the words behind it, as the system tells them.

@@ -193,10 +193,6 @@ unfolding EachAfter
 each_all Right written P one before [] h = tt
 each_all Right written P one before (a ∷ more) h = (one before a h.0, each_all Right written P one (before ++ a ∷ []) more h.1)
 
-pub all_append : {A : Type 0} (P : A → Type 0) (xs ys : List A) → AllByRecursion P xs → AllByRecursion P ys → AllByRecursion P (xs ++ ys)
-all_append P [] ys h k = k
-all_append P (x ∷ xs) ys h k = (h.0, all_append P xs ys h.1 k)
-
 pub at_takes : {S : Type 0} (n : ℕ) (r : Result S Cause) (s : S) → at n r ≡ Ok s → r ≡ Ok s
 at_takes n (Ok t) s e = cc
 at_takes n (Err c) s e = absurd cc

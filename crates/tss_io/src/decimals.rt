@@ -5,8 +5,8 @@ ghost use Rattle.std.specs.Fmt.{signed_decimal};
 ghost use Rattle.std.specs.Str.Parse.{IsNumeral, digits_value};
 ghost use Rattle.tss_io.specs.Decimals.{number_of};
 
-use crate::no_memory::NoMemory;
 use itoa::Buffer;
+use tss_base::NoMemory;
 
 /// The number whose canonical decimal is `word`, if it is at most `most`: digits alone, with no
 /// sign and no zero in front of another digit. It takes no memory.

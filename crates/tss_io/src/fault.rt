@@ -9,9 +9,9 @@ ghost use Rattle.tss_io.specs.declared.fault.TextFault.TheVariants as text_fault
 
 use crate::cause::Cause;
 use crate::line::{Word, push_line};
-use crate::no_memory::NoMemory;
 use std::alloc::{AllocError, AllocFailed};
 use std::fmt::{self, Display, Formatter, Write};
+use tss_base::NoMemory;
 
 /// A text that is refused: its first line with a fault, and that line's first fault.
 #[derive(Clone, Copy, Debug, PartialEq, Eq)]

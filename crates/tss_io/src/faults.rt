@@ -2,8 +2,8 @@
 ghost use Rattle.std.specs.Prelude.{◌≡◌};
 ghost use Rattle.tss_io.specs.declared.faults.ReadFault.TheVariants as faults;
 
-use crate::no_memory::NoMemory;
 use std::alloc::AllocError;
+use tss_base::NoMemory;
 
 /// A call of a source or a sink failed, and its count of faults rose.
 #[derive(Clone, Copy, Debug, PartialEq, Eq)]

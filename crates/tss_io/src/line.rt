@@ -5,7 +5,7 @@ ghost use Rattle.tss_io.specs.Lines.{as_line, spaced};
 ghost use Rattle.tss_io.specs.Words.{word_bytes, behind_spaces};
 
 use crate::decimals::{push_count, push_decimal};
-use crate::no_memory::NoMemory;
+use tss_base::NoMemory;
 
 /// A word of a printed line.
 #[derive(Clone, Copy)]

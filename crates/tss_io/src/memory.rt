@@ -1,13 +1,13 @@
 //! A source and a sink in memory, that fail where they are told to.
-ghost use Rattle.std.specs.Prelude.{◌≡◌, ◌≤◌, ◌<◌, ◌+◌, ◌⊎◌, ◌↔◌, ℕ, [], Some, length, take, min, IsTrue, IsErr, IfOk, OnOk, OnErr, Contains};
-ghost use Rattle.tss_io.specs.Streams.{Rose, Yields, Gains};
+ghost use Rattle.std.specs.Prelude.{◌≡◌, ◌≤◌, ◌<◌, ◌+◌, ◌⊎◌, ◌↔◌, [], Some, length, take, min, IsTrue, IsErr, IfOk, OnErr, Contains};
+ghost use Rattle.tss_io.specs.Streams.{Yields};
 
 use crate::faults::Failed;
-use crate::no_memory::NoMemory;
 use crate::sink::Sink;
 use crate::source::Source;
 use std::alloc::Global;
 use std::marker::Model;
+use tss_base::NoMemory;
 
 /// A source of bytes in memory, that fails where it is told to.
 #[derive(Debug, Drop)]

@@ -4,9 +4,9 @@ ghost use Rattle.tss_io.specs.Streams.{Rose, Yields};
 ghost use Rattle.tss_io.specs.declared.read.TheConstants.{PIECE};
 
 use crate::faults::ReadFault;
-use crate::no_memory::NoMemory;
 use crate::source::Source;
 use std::alloc::Global;
+use tss_base::NoMemory;
 
 // How many bytes a read asks for at most.
 const PIECE: usize = 65_536;

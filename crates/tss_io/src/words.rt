@@ -11,8 +11,8 @@ use crate::cause::Cause;
 use crate::decimals::decimal;
 use crate::fault::LineFault;
 use crate::limits::LONGEST_LINE;
-use crate::seq::Seq;
 use std::alloc::Global;
+use tss_base::Seq;
 
 // Where the first such byte stands.
 fn place_of(bytes: &[u8], byte: u8) -> Option<usize>

@@ -19,7 +19,7 @@ use std::alloc::Global;
 use std::process::ExitCode;
 use std::rt::Env;
 use std::{env, io};
-use tss_io::NoMemory;
+use tss_base::NoMemory;
 use tss_words::words_behind;
 
 // The program's own name and the words behind it, as the system tells them.

@@ -7,7 +7,7 @@ use Rattle.tss_io.specs.declared.fault.Refused.{Refused}
 use Rattle.tss_io.specs.Reading.{refused_at}
 use Rattle.sync_model.specs.State.{MirrorState}
 use Rattle.arena_rules.specs.World.{World, opening_world, arena_rules}
-use Rattle.match_file.specs.Data.{MatchData, IsMatch}
+use Rattle.match_data.specs.Data.{MatchData, IsMatch}
 use Rattle.match_file.specs.Text.{match_text}
 use Rattle.match_hall.specs.Script.{played, logs_from}
 use Rattle.match_hall.proofs.Headline.{played-AllPlayed}
@@ -20,7 +20,7 @@ use Rattle.run_auditor.proofs.AuditLaws.{says_exactly}
 use Rattle.run_auditor.proofs.VerdictLaws.{some_verdict, one_verdict}
 use Rattle.match_maker.specs.Generator.{match_of_number}
 use Rattle.match_maker.proofs.Sound.{IsMatch-match_of_number}
-use Rattle.run_recorder.specs.declared.log.MirrorLog.{MirrorLog}
+use Rattle.match_data.specs.declared.log.MirrorLog.{MirrorLog}
 use Rattle.run_auditor.specs.Audit.{IsLegalRecord, event_count}
 use Rattle.tss_race.specs.Record.{IsRecordOfRace, record_of}
 use Rattle.tss_race.proofs.LegalLaws.{record_legal}

@@ -2,9 +2,9 @@
 use Rattle.std.proofs.Common.{◌≡◌, true, ℕ, ◌<◌, ◌+◌, List, [], ◌∷◌, ◌++◌, map, ap, ◌∙◌, Option, Some, None, Result, Ok, Err, sym, subst, refl, arith}
 use Rattle.std.specs.Result.{IsErrAnd}
 use Rattle.tss_io.specs.declared.fault.Refused.{Refused}
-use Rattle.run_recorder.specs.declared.log.MirrorLog.{MirrorLog}
+use Rattle.match_data.specs.declared.log.MirrorLog.{MirrorLog}
 use Rattle.watch_board.specs.Behaviour.{Behaviour}
-use Rattle.match_file.specs.Data.{MatchData}
+use Rattle.match_data.specs.Data.{MatchData}
 use Rattle.run_recorder.specs.declared.race_record.RaceRecord.{RaceRecord}
 use Rattle.lossy_text.specs.Data.{LossyData}
 use Rattle.tss_words.specs.declared.subcommand.MatchTask.{MatchTask}

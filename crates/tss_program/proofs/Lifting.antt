@@ -4,7 +4,7 @@ use Rattle.game_trait.specs.Game.{Rules}
 use Rattle.game_trait.specs.Ordered.{time_ordered}
 use Rattle.sync_model.specs.State.{MirrorState}
 use Rattle.sync_model.specs.Turns.{drain}
-use Rattle.match_file.specs.Data.{MatchData, lifted}
+use Rattle.match_data.specs.Data.{MatchData, lifted}
 use Rattle.match_hall.specs.Script.{opening_mirror, opening_from, after_script, scripted, played}
 use Rattle.report_text.specs.Worlds.{Showing}
 use Rattle.match_hall.specs.Report.{script_text, drains_text, mirrors_text, play_text}

@@ -7,7 +7,7 @@ use Rattle.tss_io.specs.declared.cause.Cause.TheVariants.{Number}
 use Rattle.tss_io.specs.Reading.{refused_at}
 use Rattle.tss_io.specs.Streams.{Gains}
 use Rattle.arena_rules.specs.World.{opening_world}
-use Rattle.match_file.specs.Data.{MatchData, IsMatch}
+use Rattle.match_data.specs.Data.{MatchData, IsMatch}
 use Rattle.match_file.specs.Text.{match_text}
 use Rattle.match_join.specs.declared.answer.JoinAnswer.TheVariants.{Told, TooLate}
 use Rattle.match_join.specs.Join.{IsTooLate, too_late_text}

@@ -13,7 +13,7 @@ use Rattle.sync_model.specs.History.{opening_of}
 use Rattle.sync_model.specs.Staggered.{IsStaggered}
 use Rattle.sync_model.proofs.Legal.{legal-staggered}
 use Rattle.sync_model.proofs.Staggered.{opening_staggered}
-use Rattle.match_file.specs.Data.{MatchData, IsMatch}
+use Rattle.match_data.specs.Data.{MatchData, IsMatch}
 use Rattle.match_hall.proofs.OnWay.{due-within}
 use Rattle.race_hall.specs.Finish.{EndsAtFold}
 use Rattle.race_hall.specs.Raced.{AreRaced, course_of}

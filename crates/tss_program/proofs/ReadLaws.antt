@@ -5,7 +5,7 @@ use Rattle.std.proofs.lemmas.Bool.Decides.{nat_tests}
 use Rattle.std.proofs.lemmas.List.{drop_all, nil_from_length}
 use Rattle.game_trait.specs.declared.limits.TheConstants.{LONGEST_MATCH_TEXT, LONGEST_RECORD_TEXT, LONGEST_LOSSY_TEXT}
 use Rattle.tss_io.specs.Streams.{Yields}
-use Rattle.match_file.specs.Data.{MatchData}
+use Rattle.match_data.specs.Data.{MatchData}
 use Rattle.run_recorder.specs.declared.race_record.RaceRecord.{RaceRecord}
 use Rattle.lossy_text.specs.Data.{LossyData}
 use Rattle.watch_board.specs.Behaviour.{Behaviour}

@@ -9,9 +9,9 @@ use Rattle.tss_io.specs.declared.fault.TextFault.TheVariants as text_faults
 use Rattle.tss_io.specs.declared.cause.Cause.TheVariants.{Number}
 use Rattle.tss_io.specs.Reading.{refused_at}
 use Rattle.tss_io.specs.Streams.{Gains}
-use Rattle.match_file.specs.Data.{MatchData}
+use Rattle.match_data.specs.Data.{MatchData}
 use Rattle.match_file.specs.Reading.{IsFirst}
-use Rattle.run_recorder.specs.declared.log.MirrorLog.{MirrorLog}
+use Rattle.match_data.specs.declared.log.MirrorLog.{MirrorLog}
 use Rattle.run_recorder.specs.declared.race_record.RaceRecord.{RaceRecord}
 use Rattle.run_recorder.specs.Reading.{IsFirstOfRecord}
 use Rattle.run_auditor.specs.declared.verdict.Verdict.{Verdict}

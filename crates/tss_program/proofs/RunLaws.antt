@@ -3,8 +3,8 @@ use Rattle.std.proofs.Common.{◌≡◌, ◌≢◌, true, false, lit≤, ℕ, �
 use Rattle.std.specs.Prelude.{IfSome, nat_eq}
 use Rattle.std.proofs.lemmas.List.{length-append, length-take-le}
 use Rattle.tss_io.specs.Streams.{Rose, Gains}
-use Rattle.match_file.specs.Data.{MatchData}
-use Rattle.run_recorder.specs.declared.log.MirrorLog.{MirrorLog}
+use Rattle.match_data.specs.Data.{MatchData}
+use Rattle.match_data.specs.declared.log.MirrorLog.{MirrorLog}
 use Rattle.run_recorder.specs.declared.race_record.RaceRecord.{RaceRecord}
 use Rattle.arena_rules.specs.World.{opening_world}
 use Rattle.match_join.specs.declared.answer.JoinAnswer.TheVariants.{Told, TooLate}

@@ -3,7 +3,7 @@ use Rattle.std.proofs.Common.{◌≡◌, ℕ, List, [], ◌++◌, map, append_as
 use Rattle.sync_model.specs.State.{MirrorState}
 use Rattle.sync_model.specs.Turns.{drain}
 use Rattle.report_text.specs.Ends.{done_line}
-use Rattle.match_file.specs.Data.{MatchData}
+use Rattle.match_data.specs.Data.{MatchData}
 use Rattle.match_hall.specs.Script.{after_script, opening_mirrors, scripted, played}
 use Rattle.report_text.specs.Worlds.{Showing}
 use Rattle.match_hall.specs.Report.{script_text, drains_text, mirrors_text, play_text}

@@ -2,7 +2,7 @@
 //! subcommand.
 
 ghost use Rattle.std.specs.Prelude.{◌≡◌, [], map, IfOk};
-ghost use Rattle.match_file.specs.Data.{lifted};
+ghost use Rattle.match_data.specs.Data.{lifted};
 ghost use Rattle.match_file.specs.Text.{match_text};
 ghost use Rattle.match_hall.specs.Script.{played, logs_from};
 ghost use Rattle.report_text.specs.Worlds.{Showing};
@@ -16,20 +16,22 @@ ghost use Rattle.tss_program.specs.Run.{Gives};
 use crate::due::Due;
 use crate::status::Status;
 use crate::stop::Stop;
-use arena_rules::{Arena, Shown};
+use arena_rules::Arena;
 use game_trait::{Game, MirrorId, Tick, execute_in_order};
 use lossy_link::{LossyAnswer, LossyText, lossy};
-use match_file::{Cause, Match, Refused, lift, print_match};
+use match_data::{Match, lift};
+use match_file::{Cause, Refused, print_match};
 use match_hall::Hall;
 use match_join::{JoinAnswer, join};
 use match_rewind::rewind;
 use match_score::{ScoreAnswer, score};
+use match_setup::Shown;
 use report_text::{done_line, world_block};
 use run_auditor::{Verdict, audit};
 use run_recorder::RaceRecord;
 use soak::{SoakAnswer, soak};
 use std::alloc::Global;
-use tss_io::{NoMemory, Seq};
+use tss_base::{NoMemory, Seq};
 use tss_words::Ticks;
 use watch_board::Watcher;
 

@@ -8,10 +8,11 @@ ghost use Rattle.tss_program.specs.Run.{taken};
 ghost use Rattle.tss_program.specs.declared.status.Status.TheVariants.{NoMemory};
 
 use crate::status::Status;
-use run_recorder::MirrorLog;
+use match_data::MirrorLog;
 use std::alloc::Global;
 use std::process::ExitCode;
-use tss_io::{Failed, Seq, Sink, put_all};
+use tss_base::Seq;
+use tss_io::{Failed, Sink, put_all};
 
 /// What a run of the program leaves.
 #[derive(Debug, Drop)]

@@ -10,10 +10,11 @@ use crate::done::Done;
 use crate::due::Due;
 use crate::status::Status;
 use crate::stop::Stop;
+use match_data::MirrorLog;
 use report_text::{refusal_text, usage_line};
-use run_recorder::MirrorLog;
 use std::alloc::Global;
-use tss_io::{Failed, Seq, Sink, Source, put_all};
+use tss_base::Seq;
+use tss_io::{Failed, Sink, Source, put_all};
 use watch_board::Watcher;
 
 // Puts a text that is due, and ends with the status that goes with it, or with a write fault.

@@ -11,7 +11,8 @@ use crate::done::Done;
 use crate::plain::{ended, run_plain};
 use crate::stop::Stop;
 use std::alloc::Global;
-use tss_io::{NoMemory, Sink, Source};
+use tss_base::NoMemory;
+use tss_io::{Sink, Source};
 use tss_words::Subcommand;
 use watch_board::{FirstRepair, LateCount, RepairCount, Watcher};
 

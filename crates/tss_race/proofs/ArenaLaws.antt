@@ -3,7 +3,7 @@ use Rattle.std.proofs.Common.{ℕ, ◌+◌, List, [], ◌∷◌, refl, ◌∙◌
 use Rattle.std.specs.List.{AllByRecursion}
 use Rattle.arena_rules.specs.World.{World, opening_world, arena_rules}
 use Rattle.sync_model.specs.State.{MirrorState}
-use Rattle.match_file.specs.Data.{MatchData, IsMatch}
+use Rattle.match_data.specs.Data.{MatchData, IsMatch}
 use Rattle.match_hall.specs.Report.{Showing}
 use Rattle.match_hall.specs.Script.{logs_from}
 use Rattle.run_recorder.specs.Data.{IsRecord}

@@ -11,7 +11,7 @@ use Rattle.sync_model.specs.History.{opening_of, first_state, without_room}
 use Rattle.sync_model.specs.Legal.{IsLegal}
 use Rattle.sync_model.proofs.Alike.{legal-same}
 use Rattle.sync_model.proofs.Room.{from_history_reached}
-use Rattle.match_file.specs.Data.{MatchData}
+use Rattle.match_data.specs.Data.{MatchData}
 use Rattle.match_hall.specs.Report.{Showing, copy_block}
 use Rattle.match_hall.specs.Script.{logs_from}
 use Rattle.run_recorder.specs.Data.{EachNumbered}

@@ -6,10 +6,10 @@ use Rattle.game_trait.specs.declared.limits.TheConstants.{LONGEST_RECORD_TEXT}
 use Rattle.game_trait.specs.Ordered.{time_ordered}
 use Rattle.tss_io.specs.Lines.{lines_text}
 use Rattle.sync_model.specs.State.{MirrorState}
-use Rattle.match_file.specs.Data.{MatchData}
+use Rattle.match_data.specs.Data.{MatchData}
 use Rattle.match_hall.specs.Report.{Showing, copy_block}
 use Rattle.match_hall.specs.Script.{logs_from}
-use Rattle.run_recorder.specs.declared.log.MirrorLog.{MirrorLog}
+use Rattle.match_data.specs.declared.log.MirrorLog.{MirrorLog}
 use Rattle.run_recorder.specs.declared.race_record.RaceRecord.{RaceRecord}
 pub use Rattle.run_auditor.specs.Arena.{arena_shown}
 use Rattle.run_recorder.specs.Data.{IsBlockLine}

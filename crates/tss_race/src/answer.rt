@@ -6,16 +6,16 @@ ghost use Rattle.match_hall.specs.Report.{Showing};
 ghost use Rattle.tss_race.specs.Record.{IsRecordOfRace};
 
 use crate::record::record_of;
-use arena_rules::Shown;
 use copy_workers::Gate;
 use game_trait::Game;
-use match_file::Match;
+use match_data::{Match, MirrorLog};
+use match_setup::Shown;
 use race_hall::race;
-use run_recorder::{MirrorLog, RaceRecord, print_record};
+use run_recorder::{RaceRecord, print_record};
 use std::alloc::Global;
 use std::sync::Wait;
 use std::thread::Threads;
-use tss_io::{NoMemory, Seq};
+use tss_base::{NoMemory, Seq};
 
 /// What is answered to a match that is raced: its record's text, and the logs, mirror 0 first.
 #[derive(Drop)]

@@ -4,7 +4,7 @@
 ghost use Rattle.std.specs.Prelude.{◌≡◌, List};
 ghost use Rattle.arena_rules.specs.World.{World, opening_world, arena_rules};
 ghost use Rattle.sync_model.specs.State.{MirrorState};
-ghost use Rattle.match_file.specs.Data.{MatchData, IsMatch};
+ghost use Rattle.match_data.specs.Data.{MatchData, IsMatch};
 ghost use Rattle.match_hall.specs.Report.{Showing};
 ghost use Rattle.match_hall.specs.Script.{logs_from};
 ghost use Rattle.race_hall.specs.Raced.{AreRaced};

@@ -5,14 +5,14 @@ ghost use Rattle.match_hall.specs.Report.{Showing};
 ghost use Rattle.match_hall.specs.Script.{logs_from};
 ghost use Rattle.tss_race.specs.Record.{blocks_from, worlds_from, record_of};
 
-use arena_rules::{Roster, Shown};
 use game_trait::{Game, MirrorId};
-use match_file::Match;
+use match_data::{Match, MirrorLog};
 use match_hall::{push_copy, push_log};
+use match_setup::{Roster, Shown};
 use mirror_core::Mirror;
-use run_recorder::{Block, MirrorLog, RaceRecord};
+use run_recorder::{Block, RaceRecord};
 use std::alloc::Global;
-use tss_io::{NoMemory, Seq};
+use tss_base::{NoMemory, Seq};
 
 // The blocks of a mirror's copies, copy 0 first.
 #[tactic(auto, unfolding(crate::specs::Record::blocks_from))]

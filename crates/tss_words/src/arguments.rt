@@ -8,7 +8,7 @@ ghost use Rattle.std.specs.declared.io.ErrorKind.TheVariants.{OutOfMemory};
 
 use std::io;
 use std::io::ErrorKind;
-use tss_io::NoMemory;
+use tss_base::NoMemory;
 
 // The words behind the program's own name, which is the first argument.
 fn behind_first(arguments: &[String]) -> &[String]

@@ -9,7 +9,7 @@ ghost use Rattle.turn_lock.specs.Histories.{value, IsSound, own};
 ghost use Rattle.turn_lock.specs.Closing.{IsHistoryOf};
 ghost use Rattle.std.specs.Prelude.{◌+◌, length};
 ghost use Rattle.atomic_table.specs.Table.{State};
-ghost use Rattle.tss_io.specs.Totals.{total};
+ghost use Rattle.tss_base.specs.Totals.{total};
 ghost use Rattle.turn_lock.specs.declared.place.Place.{Place};
 ghost use Rattle.turn_lock.specs.declared.view.View.{View};
 ghost use Rattle.turn_lock.specs.Law.{Kept, tickets_of};

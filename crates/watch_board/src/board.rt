@@ -9,7 +9,7 @@ ghost use Rattle.watch_board.specs.Told.{AreTold};
 
 use crate::watcher::{Stay, Watcher};
 use game_trait::Note;
-use tss_io::NoMemory;
+use tss_base::NoMemory;
 
 /// The watchers that are still there.
 #[derive(Drop)]

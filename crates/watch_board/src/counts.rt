@@ -8,7 +8,7 @@ use crate::lines::push_watch;
 use crate::watcher::{Stay, Watcher};
 use game_trait::{Arrived, Note, Reply, Stepped};
 use itoa::Buffer;
-use tss_io::NoMemory;
+use tss_base::NoMemory;
 
 /// How many copies an answer says were repaired.
 pub fn repaired(reply: &Reply) -> u8

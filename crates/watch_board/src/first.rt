@@ -8,7 +8,7 @@ use crate::lines::push_watch;
 use crate::watcher::{Stay, Watcher};
 use game_trait::{MirrorId, Note};
 use itoa::Buffer;
-use tss_io::NoMemory;
+use tss_base::NoMemory;
 
 /// Tells at which mirror copies were repaired first: it leaves at that note and says `watch first
 /// M`, and says `watch first none` where none were.

@@ -4,7 +4,8 @@ ghost use Rattle.std.specs.Prelude.{◌≡◌, ◌++◌, length, take, OnOk, OnE
 ghost use Rattle.tss_io.specs.Words.{word_bytes};
 ghost use Rattle.watch_board.specs.Watchers.{watch_line};
 
-use tss_io::{NoMemory, Word, push_decimal};
+use tss_base::NoMemory;
+use tss_io::{Word, push_decimal};
 
 // Appends the parts of a line. On `NoMemory` some may have been appended.
 #[tactic(auto, unfolding(crate::specs::Watchers::watch_line, tss_io::specs::Lines::spaced))]

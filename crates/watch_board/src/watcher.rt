@@ -5,7 +5,7 @@ ghost use Rattle.game_trait.specs.declared.event.Note.{Note};
 ghost use Rattle.watch_board.specs.Behaviour.{Behaviour};
 
 use game_trait::Note;
-use tss_io::NoMemory;
+use tss_base::NoMemory;
 
 /// Whether a watcher goes on.
 #[derive(Clone, Copy, Debug, PartialEq, Eq)]

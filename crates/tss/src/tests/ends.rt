@@ -3,7 +3,8 @@
 use crate::tests::stage::lines::assert_lines;
 use std::alloc::Global;
 use std::process::{Abort, ExitCode};
-use tss_io::{MemSink, Seq};
+use tss_base::Seq;
+use tss_io::MemSink;
 use tss_program::{Done, Status};
 
 // Each status, its number, and the line that is said of it.

@@ -1,5 +1,5 @@
 use Rattle.std.proofs.Common.{◌≡◌, ◌++◌, map, take, drop}
-use Rattle.arena_rules.specs.Setup.{spot_cell}
+use Rattle.match_setup.specs.Setup.{spot_cell}
 use Rattle.arena_rules.specs.Kept.{emptied_at}
 use Rattle.arena_rules.proofs.pickups.take_each.Given as goal
 

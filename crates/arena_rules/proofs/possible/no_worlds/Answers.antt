@@ -1,7 +1,7 @@
 use Rattle.std.proofs.Common.{sym, arith, lit<}
 use Rattle.std.proofs.lemmas.Bool.{false≢true}
 use Rattle.arena_rules.specs.Worked.{shot, item, ann_home}
-use Rattle.arena_rules.specs.declared.pickup.Kind.TheVariants.{Gold}
+use Rattle.match_setup.specs.declared.pickup.Kind.TheVariants.{Gold}
 use Rattle.arena_rules.proofs.Computing.{computing}
 use Rattle.std.specs.List.{IsDistinct}
 use Rattle.arena_rules.proofs.possible.no_worlds.Goals as goal

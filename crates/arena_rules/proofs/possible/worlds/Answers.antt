@@ -1,15 +1,17 @@
 use Rattle.std.proofs.Common.{pos, neg_ℤ, [], ◌∷◌, replicate, map, refl, arith, lit<, lit≤}
 use Rattle.std.specs.List.{range_with_len}
 use Rattle.std.proofs.lemmas.List.Elements.{All-cons, All-nil, All-map, All-replicate}
-use Rattle.arena_rules.specs.Ground.{is_open}
+use Rattle.match_setup.specs.Ground.{is_open}
 use Rattle.arena_rules.specs.Player.{place, same_place}
-use Rattle.arena_rules.specs.Setup.{same_cell, pickup_cell}
+use Rattle.match_setup.specs.Setup.{same_cell, pickup_cell}
 use Rattle.arena_rules.specs.World.{IsPlayer, IsShot, IsPickup}
-use Rattle.arena_rules.specs.Worked.{yard, lane, ann_home, bob_home, dead, at, live, shot, item, crowd, spread}
-use Rattle.arena_rules.specs.declared.face.Face.TheVariants.{N}
-use Rattle.arena_rules.specs.declared.pickup.Kind.TheVariants.{Gold}
+use Rattle.match_setup.specs.Worked.{yard, lane, at}
+use Rattle.arena_rules.specs.Worked.{ann_home, bob_home, dead, live, shot, item, crowd, spread}
+use Rattle.match_setup.specs.declared.face.Face.TheVariants.{N}
+use Rattle.match_setup.specs.declared.pickup.Kind.TheVariants.{Gold}
 use Rattle.arena_rules.specs.declared.pickup.Pickup.{Pickup}
-use Rattle.arena_rules.proofs.Telling.{IsWorld-one, IsGrid-yard, IsGrid-lane, no_players, no_shots, no_pickups, All-from_test, IsDistinct-from_test}
+use Rattle.arena_rules.proofs.Telling.{IsWorld-one, no_players, no_shots, no_pickups}
+use Rattle.match_setup.proofs.Telling.{IsGrid-yard, IsGrid-lane, All-from_test, IsDistinct-from_test}
 use Rattle.arena_rules.proofs.Computing.{computing}
 use Rattle.std.specs.List.{IsDistinct}
 use Rattle.arena_rules.proofs.possible.worlds.Goals as goal

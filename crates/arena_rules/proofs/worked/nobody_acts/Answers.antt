@@ -2,8 +2,9 @@ use Rattle.std.proofs.Common.{◌≡◌, pos, [], ◌∷◌, refl}
 use Rattle.game_trait.specs.declared.command.Act.{Act}
 use Rattle.game_trait.specs.declared.command.Act.TheVariants.{Go, Left, Right, Shoot, Dash}
 use Rattle.arena_rules.specs.Command.{applied}
-use Rattle.arena_rules.specs.Worked.{scene, dead, ann_home, alone_at, at, by}
-use Rattle.arena_rules.specs.declared.face.Face.TheVariants.{N}
+use Rattle.arena_rules.specs.Worked.{scene, dead, ann_home, alone_at}
+use Rattle.match_setup.specs.Worked.{at, by}
+use Rattle.match_setup.specs.declared.face.Face.TheVariants.{N}
 use Rattle.arena_rules.proofs.Computing.{computing}
 use Rattle.arena_rules.proofs.worked.nobody_acts.Goals as goal
 

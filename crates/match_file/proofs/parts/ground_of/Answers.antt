@@ -1,6 +1,6 @@
 use Rattle.std.proofs.Common.{◌<◌, ◌∙◌}
 use Rattle.std.proofs.lemmas.List.Elements.{All-from_recursion, All-get_or}
-use Rattle.arena_rules.specs.Ground.{open_grid}
+use Rattle.match_setup.specs.Ground.{open_grid}
 use Rattle.match_file.specs.declared.cell.Cell.{Cell}
 use Rattle.match_file.proofs.WallLaws.{walled_none, walled_width, walled_height, walled_next}
 use Rattle.match_file.proofs.parts.ground_of.Goals as goal

@@ -1,5 +1,5 @@
 use Rattle.std.proofs.Common.{◌≡◌, take}
-use Rattle.arena_rules.specs.Ground.{open_grid}
+use Rattle.match_setup.specs.Ground.{open_grid}
 use Rattle.match_file.specs.Reading.{walled}
 use Rattle.match_file.proofs.parts.ground_of.Given as goal
 

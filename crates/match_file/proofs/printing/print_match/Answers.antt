@@ -1,5 +1,5 @@
-use Rattle.arena_rules.specs.Setup.{layout_of}
-use Rattle.match_file.specs.Data.{MatchData}
+use Rattle.match_setup.specs.Setup.{layout_of}
+use Rattle.match_data.specs.Data.{MatchData}
 use Rattle.match_file.proofs.PrintLaws.{match_puts}
 use Rattle.match_file.proofs.printing.print_match.Goals as goal
 

@@ -1,6 +1,6 @@
 use Rattle.std.proofs.Common.{◌≡◌, true, false, arith}
 use Rattle.std.proofs.lemmas.Grind.{common_steps}
-use Rattle.arena_rules.specs.Ground.{is_open}
+use Rattle.match_setup.specs.Ground.{is_open}
 use Rattle.match_file.proofs.PrintLaws.{wall_none, wall_one, open_bare, shut_walled}
 use Rattle.match_file.proofs.printing.push_wall.Goals as goal
 

@@ -1,7 +1,7 @@
 use Rattle.std.proofs.Common.{ℕ, ◌+◌, get_or, set, ap, sym, ◌∙◌, subst}
 use Rattle.std.proofs.lemmas.List.{length-set}
-use Rattle.match_file.specs.Data.{MatchData, IsMatch}
-use Rattle.match_file.specs.declared.script_line.ScriptLine.TheVariants.{Tick}
+use Rattle.match_data.specs.Data.{MatchData, IsMatch}
+use Rattle.match_data.specs.declared.script_line.ScriptLine.TheVariants.{Tick}
 use Rattle.match_hall.specs.Report.{showing}
 use Rattle.match_hall.specs.Stops.{IsStoppedScript}
 use Rattle.match_hall.proofs.Along.{on_err_of}

@@ -2,7 +2,7 @@ use Rattle.std.proofs.Common.{◌<◌, ◌≤◌, ℕ, List, get_or, sym, ap, su
 use Rattle.std.specs.List.{AllByRecursion}
 use Rattle.sync_model.specs.State.{MirrorState}
 use Rattle.sync_model.specs.Turns.{IsDrained}
-use Rattle.match_file.specs.Data.{IsMatch}
+use Rattle.match_data.specs.Data.{IsMatch}
 use Rattle.match_hall.proofs.Headline.{told-drained}
 use Rattle.match_hall.proofs.Told.{played-none, played-next, played-count, played-more_at, played-all}
 use Rattle.match_hall.proofs.hall.tell_mirrors.Goals as goal

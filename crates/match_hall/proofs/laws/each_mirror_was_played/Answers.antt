@@ -1,8 +1,8 @@
 use Rattle.std.proofs.Common.{◌≡◌, ℕ, zero, suc, ◌+◌, List, [], ◌∷◌, length, Some, refl, sym, ◌∙◌, subst, arith}
 use Rattle.std.specs.Prelude.{slice_get}
 use Rattle.game_trait.specs.Game.{Rules}
-use Rattle.match_file.specs.Data.{MatchData}
-use Rattle.run_recorder.specs.declared.log.MirrorLog.{MirrorLog}
+use Rattle.match_data.specs.Data.{MatchData}
+use Rattle.match_data.specs.declared.log.MirrorLog.{MirrorLog}
 use Rattle.sync_model.specs.State.{MirrorState}
 use Rattle.match_hall.specs.Script.{opening_mirror, played, logs_from}
 use Rattle.match_hall.proofs.Headline.{played-many, played-AllPlayed}

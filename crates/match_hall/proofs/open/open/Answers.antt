@@ -1,14 +1,14 @@
 use Rattle.std.proofs.Common.{◌≡◌, ℕ, get_or, ◌-◌, List, length, sym, ap, subst, ◌∙◌, arith}
 use Rattle.std.specs.List.{AllByRecursion}
 use Rattle.game_trait.specs.Count.{times}
-use Rattle.match_file.specs.Data.{MatchData, IsMatch}
+use Rattle.match_data.specs.Data.{MatchData, IsMatch}
 use Rattle.sync_model.specs.Schedule.{Schedule, ticks_of_first, copies_of_first}
-use Rattle.match_file.specs.declared.script_line.ScriptLine.{ScriptLine}
+use Rattle.match_data.specs.declared.script_line.ScriptLine.{ScriptLine}
 use Rattle.match_hall.specs.Script.{arrives_at, restaggers_at, opening_from}
 use Rattle.match_hall.proofs.Ready.{opened-more, opened-all}
 use Rattle.match_hall.proofs.Whole.{opened-count, opened-few}
 use Rattle.match_hall.proofs.open.open.Goals as goal
-use Rattle.match_file.proofs.Plans.{equal-ticks, equal-copies}
+use Rattle.match_data.proofs.Plans.{equal-ticks, equal-copies}
 
 pub loop-number-init : goal.loop-number-init
 loop-number-init g c = rw c.new-mirrors.ensures.items (let n : c.args.m.now.mirrors - 0 ≡ c.args.m.now.mirrors = omega arith in ap (opening_from c.args.opening.now c.args.m.now 0) n)

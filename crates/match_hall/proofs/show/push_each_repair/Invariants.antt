@@ -1,5 +1,5 @@
 use Rattle.std.proofs.Common.{◌≡◌, ◌++◌, take}
-use Rattle.match_file.specs.declared.script_line.ScriptLine.TheVariants.{Turn}
+use Rattle.match_data.specs.declared.script_line.ScriptLine.TheVariants.{Turn}
 use Rattle.match_hall.specs.Report.{replies_text}
 use Rattle.match_hall.proofs.show.push_each_repair.Given as goal
 

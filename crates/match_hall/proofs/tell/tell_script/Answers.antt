@@ -1,6 +1,6 @@
 use Rattle.std.proofs.Common.{sym, ap, ◌∙◌, subst}
-use Rattle.match_file.specs.Data.{MatchData, IsMatch}
-use Rattle.match_file.specs.declared.script_line.ScriptLine.TheVariants.{Tick}
+use Rattle.match_data.specs.Data.{MatchData, IsMatch}
+use Rattle.match_data.specs.declared.script_line.ScriptLine.TheVariants.{Tick}
 use Rattle.match_hall.proofs.Telling.{told_to-none, own-line, told_to-own, told_to-other, told_to-all}
 use Rattle.match_hall.proofs.tell.tell_script.Goals as goal
 

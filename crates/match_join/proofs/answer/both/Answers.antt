@@ -1,7 +1,7 @@
 use Rattle.std.proofs.Common.{◌∙◌, ap, ℕ, List, ◌++◌}
 use Rattle.arena_rules.specs.World.{opening_world, arena_rules}
 use Rattle.arena_rules.specs.Block.{block_of}
-use Rattle.match_file.specs.Data.{MatchData}
+use Rattle.match_data.specs.Data.{MatchData}
 use Rattle.match_join.specs.Join.{join_head}
 use Rattle.match_join.proofs.Before.{along-later, opened-ready, told-both}
 use Rattle.match_join.proofs.answer.both.Goals as goal

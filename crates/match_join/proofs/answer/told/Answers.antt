@@ -1,7 +1,7 @@
 use Rattle.std.proofs.Common.{◌≡◌, ◌∙◌, ap}
 use Rattle.arena_rules.specs.World.{opening_world, arena_rules}
 use Rattle.late_joiner.specs.declared.joined.JoinFault.TheVariants.{TooLate}
-use Rattle.match_file.specs.Data.{MatchData}
+use Rattle.match_data.specs.Data.{MatchData}
 use Rattle.match_join.proofs.Before.{opened-of, told-late}
 use Rattle.match_join.proofs.answer.told.Goals as goal
 

@@ -2,7 +2,7 @@ use Rattle.std.proofs.Common.{◌≡◌, ℕ, Bool, true, false, List, ◌∷◌
 use Rattle.std.specs.Prelude.{IsTrue, ◌↔◌, codes}
 use Rattle.std.proofs.lemmas.List.{append_cancel_left, append_cancel_right}
 use Rattle.tss_io.specs.Lines.{as_line, spaced}
-use Rattle.match_file.specs.Data.{MatchData}
+use Rattle.match_data.specs.Data.{MatchData}
 use Rattle.report_text.specs.Ends.{done_line}
 use Rattle.report_text.specs.Soak.{same_line}
 use Rattle.report_text.specs.Worlds.{Showing, block_text, copy_block}

@@ -1,5 +1,5 @@
 use Rattle.std.proofs.Common.{ap, ◌∙◌}
-use Rattle.arena_rules.specs.Roster.{with_name}
+use Rattle.match_setup.specs.Roster.{with_name}
 use Rattle.match_maker.specs.Below.{each_below}
 use Rattle.match_maker.specs.Generator.{name_at}
 use Rattle.match_maker.proofs.Names.{with_next_name}

@@ -2,7 +2,7 @@ use Rattle.std.proofs.Common.{◌≡◌, ℕ, List, [], ◌∷◌, ◌++◌, ref
 use Rattle.std.proofs.lemmas.List.{append-nil}
 use Rattle.game_trait.specs.declared.command.Command.{Command}
 use Rattle.game_trait.specs.Ordered.{time_ordered}
-use Rattle.match_file.specs.Data.{MatchData}
+use Rattle.match_data.specs.Data.{MatchData}
 use Rattle.report_text.specs.Ends.{done_line}
 use Rattle.report_text.specs.Hits.{hits_line}
 use Rattle.report_text.specs.Worlds.{Showing, block_text, at_head}

@@ -4,7 +4,7 @@ use Rattle.std.proofs.lemmas.List.{length-map}
 use Rattle.std.proofs.lemmas.Result.{IfOk-weaker}
 use Rattle.arena_rules.specs.Player.{opening_player}
 use Rattle.arena_rules.specs.World.{opening_world}
-use Rattle.match_file.specs.Data.{MatchData, IsMatch}
+use Rattle.match_data.specs.Data.{MatchData, IsMatch}
 use Rattle.report_text.specs.declared.score.ScoreRow.{ScoreRow}
 use Rattle.report_text.specs.Score.{Standing, standing_of, standings_text, score_text}
 use Rattle.report_text.proofs.Standings.{score_text-standings}

@@ -1,6 +1,6 @@
 use Rattle.std.proofs.Common.{◌≡◌, drop}
 use Rattle.std.specs.Prelude.{max}
-use Rattle.mirror_c.specs.Worlds.{most_repaired}
+use Rattle.sync_model.specs.Host.{most_repaired}
 use Rattle.mirror_c.proofs.turns.most_repaired.Given as goal
 
 abbrev pub invariant-loop-reply : goal.invariant-loop-reply

@@ -1,6 +1,6 @@
 use Rattle.std.proofs.Common.{◌≡◌, ◌∙◌, true, false, sym, ap, arith}
 use Rattle.std.proofs.lemmas.Grind.{common_steps}
-use Rattle.arena_rules.specs.Ground.{is_open}
+use Rattle.match_setup.specs.Ground.{is_open}
 use Rattle.paint_rules.specs.Block.{owner_byte}
 use Rattle.paint_rules.proofs.Lines.{cell_byte-inside}
 use Rattle.paint_rules.proofs.block.cell_byte.Goals as goal

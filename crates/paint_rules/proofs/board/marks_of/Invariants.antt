@@ -1,6 +1,6 @@
 use Rattle.std.proofs.Common.{◌≡◌, take}
 use Rattle.std.specs.List.{All}
-use Rattle.arena_rules.specs.Ground.{IsWalled}
+use Rattle.match_setup.specs.Ground.{IsWalled}
 use Rattle.paint_rules.proofs.board.marks_of.Given as goal
 
 abbrev pub invariant-loop-pickup : goal.invariant-loop-pickup

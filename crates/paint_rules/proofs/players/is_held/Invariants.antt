@@ -1,6 +1,6 @@
 use Rattle.std.proofs.Common.{◌≡◌, take}
 use Rattle.std.specs.List.{list_any}
-use Rattle.arena_rules.specs.Setup.{same_cell, spot_cell}
+use Rattle.match_setup.specs.Setup.{same_cell, spot_cell}
 use Rattle.paint_rules.proofs.players.is_held.Given as goal
 
 abbrev pub invariant-loop-player : goal.invariant-loop-player

@@ -1,8 +1,8 @@
 use Rattle.std.proofs.Common.{◌≡◌, refl}
 use Rattle.game_trait.specs.declared.command.Act.{Act}
 use Rattle.game_trait.specs.declared.command.Act.TheVariants.{Go, Left, Right, Shoot, Dash}
-use Rattle.arena_rules.specs.Worked.{at, by}
-use Rattle.arena_rules.specs.declared.face.Face.TheVariants.{N}
+use Rattle.match_setup.specs.Worked.{at, by}
+use Rattle.match_setup.specs.declared.face.Face.TheVariants.{N}
 use Rattle.paint_rules.specs.Owners.{unowned}
 use Rattle.paint_rules.specs.Command.{applied}
 use Rattle.paint_rules.specs.Worked.{alone}

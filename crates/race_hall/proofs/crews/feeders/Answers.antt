@@ -1,7 +1,7 @@
 use Rattle.std.proofs.Common.{◌≤◌, List, ℕ, length, sym, ◌∙◌, ap, subst, arith}
 use Rattle.std.specs.List.{AllByRecursion}
 use Rattle.std.proofs.lemmas.Result.{IfOk-weaker}
-use Rattle.match_file.specs.Data.{IsMatch}
+use Rattle.match_data.specs.Data.{IsMatch}
 use Rattle.race_hall.specs.Raced.{course_of}
 use Rattle.race_hall.specs.Crews.{IsRoomOf}
 use Rattle.race_hall.proofs.FeederJobs.{feeders-made}

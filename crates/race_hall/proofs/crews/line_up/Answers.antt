@@ -3,7 +3,7 @@ use Rattle.std.specs.declared.alloc.Global.{Global}
 use Rattle.std.specs.List.{AllZip}
 use Rattle.game_trait.specs.declared.command.Command.{Command}
 use Rattle.sync_model.specs.Schedule.{Schedule}
-use Rattle.match_file.specs.Data.{MatchData}
+use Rattle.match_data.specs.Data.{MatchData}
 use Rattle.race_hall.specs.Race.{count_from}
 use Rattle.race_hall.specs.Raced.{course_of}
 use Rattle.race_hall.specs.Crews.{IsPlanOf}

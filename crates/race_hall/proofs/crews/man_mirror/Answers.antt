@@ -4,8 +4,8 @@ use Rattle.std.specs.List.{AllByRecursion}
 use Rattle.game_trait.specs.declared.command.Command.{Command}
 use Rattle.sync_model.specs.State.{MirrorState}
 use Rattle.sync_model.specs.Schedule.{Schedule, ticks_of_first, copies_of_first}
-use Rattle.match_file.specs.Data.{MatchData, IsMatch}
-use Rattle.match_file.proofs.Plans.{equal-ticks, equal-copies}
+use Rattle.match_data.specs.Data.{MatchData, IsMatch}
+use Rattle.match_data.proofs.Plans.{equal-ticks, equal-copies}
 use Rattle.race_hall.specs.Raced.{course_of}
 use Rattle.race_hall.specs.Crews.{shares_of}
 use Rattle.race_hall.proofs.FeederJobs.{match-course, plan-short, few-commands, foreign-whole}

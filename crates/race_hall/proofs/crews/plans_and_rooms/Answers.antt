@@ -1,7 +1,7 @@
 use Rattle.std.proofs.Common.{◌≡◌, ℕ, ◌==◌, List, filter, length, ◌∙◌, ap, subst, arith}
 use Rattle.game_trait.specs.declared.command.Command.{Command}
 use Rattle.game_trait.specs.Keys.{in_key_order}
-use Rattle.match_file.specs.Data.{MatchData, IsMatch}
+use Rattle.match_data.specs.Data.{MatchData, IsMatch}
 use Rattle.race_hall.specs.Raced.{course_of}
 use Rattle.race_hall.specs.Crews.{IsPlanOf, IsRoomOf}
 use Rattle.race_hall.proofs.FeederJobs.{few-commands, plan-short}

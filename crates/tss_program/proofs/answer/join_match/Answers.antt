@@ -1,5 +1,5 @@
 use Rattle.std.proofs.Common.{ap, arith}
-use Rattle.match_file.specs.Data.{MatchData}
+use Rattle.match_data.specs.Data.{MatchData}
 use Rattle.tss_program.specs.Due.{joined}
 use Rattle.tss_program.proofs.answer.join_match.Goals as goal
 

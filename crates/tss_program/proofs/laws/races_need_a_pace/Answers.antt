@@ -1,7 +1,7 @@
 use Rattle.std.proofs.Common.{◌≡◌, List, Option, Some, ℕ, refl, sym, subst}
 use Rattle.tss_io.specs.declared.cause.Cause.TheVariants.{Number}
 use Rattle.tss_io.specs.Reading.{refused_at}
-use Rattle.match_file.specs.Data.{MatchData, IsMatch}
+use Rattle.match_data.specs.Data.{MatchData, IsMatch}
 use Rattle.match_file.specs.Text.{match_text}
 use Rattle.tss_words.specs.declared.subcommand.Subcommand.{Subcommand}
 use Rattle.tss_words.specs.declared.subcommand.Subcommand.TheVariants.{OfMatch}

@@ -1,8 +1,8 @@
 use Rattle.std.proofs.Common.{◌≡◌, false, Some, ap, sym, ◌∙◌, subst}
-use Rattle.arena_rules.specs.Command.{ahead, open_ahead}
-use Rattle.arena_rules.specs.Ground.{Grid}
+use Rattle.match_setup.specs.Facing.{ahead, open_ahead}
+use Rattle.match_setup.specs.Ground.{Grid}
 use Rattle.arena_rules.specs.Player.{is_held}
-use Rattle.arena_rules.specs.Setup.{spot_cell}
+use Rattle.match_setup.specs.Setup.{spot_cell}
 use Rattle.arena_rules.specs.World.{World}
 use Rattle.arena_rules.proofs.Shots.{open_spot-open}
 use Rattle.arena_rules.proofs.Worlds.{IsWorld-arrived, live_of-is}

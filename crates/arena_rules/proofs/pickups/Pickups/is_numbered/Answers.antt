@@ -4,6 +4,6 @@ use Rattle.arena_rules.proofs.pickups.Pickups.is_numbered.Goals as goal
 
 pub returns : goal.returns
 returns c none =
-    let absent = rw c.cell_number.ensures at (sym c.has_number.ensures ∙ none) in
+    let absent = rw c.spot_number.ensures at (sym c.has_number.ensures ∙ none) in
     rw c.self.view_is at (ready_kind-unnumbered c.args.spot.x c.args.spot.y c.self.inside.beats c.self.inside.list.items
     (rw c.self.invariant.front at (list_any-take _ c.self.inside.numbers (length c.self.inside.list.items) absent)))

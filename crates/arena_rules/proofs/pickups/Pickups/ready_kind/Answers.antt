@@ -1,5 +1,5 @@
 use Rattle.std.proofs.Common.{◌∙◌, ap}
-use Rattle.arena_rules.specs.Setup.{spot_cell}
+use Rattle.match_setup.specs.Setup.{spot_cell}
 use Rattle.arena_rules.specs.Pickup.{ready_kind}
 use Rattle.arena_rules.proofs.Restings.{ready_kind-seen}
 use Rattle.arena_rules.proofs.pickups.Pickups.ready_kind.Goals as goal

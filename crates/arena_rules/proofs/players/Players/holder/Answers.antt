@@ -1,5 +1,5 @@
 use Rattle.std.proofs.Common.{sym}
-use Rattle.arena_rules.specs.Setup.{spot_cell}
+use Rattle.match_setup.specs.Setup.{spot_cell}
 use Rattle.arena_rules.proofs.Numbers.{holder-none}
 use Rattle.arena_rules.proofs.players.Players.holder.Goals as goal
 

@@ -4,7 +4,7 @@ use Rattle.std.proofs.lemmas.Result.{on_ok_weaker, on_err_weaker}
 use Rattle.sync_model.specs.State.{MirrorState}
 use Rattle.sync_model.specs.Turns.{drain}
 use Rattle.report_text.specs.Ends.{done_line}
-use Rattle.match_file.specs.Data.{MatchData, IsMatch}
+use Rattle.match_data.specs.Data.{MatchData, IsMatch}
 use Rattle.match_hall.specs.Report.{Showing, drains_text, mirrors_text}
 use Rattle.match_hall.specs.Stops.{IsFrontPut}
 use Rattle.match_hall.proofs.Along.{on_err_of}

@@ -1,7 +1,7 @@
 use Rattle.std.proofs.Common.{◌≡◌, ltb, length, false, true, sym, ◌∙◌, arith}
 use Rattle.std.proofs.lemmas.Bool.{lt-ltb}
 use Rattle.game_trait.specs.CommandList.{has_command}
-use Rattle.match_file.specs.Data.{most_commands}
+use Rattle.match_data.specs.Data.{most_commands}
 use Rattle.match_file.proofs.SeenLaws.{command_taken}
 use Rattle.match_file.proofs.body.Body.take_command_seen.Goals as goal
 

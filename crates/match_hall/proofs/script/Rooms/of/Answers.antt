@@ -1,5 +1,5 @@
 use Rattle.std.proofs.Common.{◌<◌, ◌≤◌, length, get_or, arith}
-use Rattle.match_file.specs.declared.script_line.ScriptLine.TheVariants.{Tick}
+use Rattle.match_data.specs.declared.script_line.ScriptLine.TheVariants.{Tick}
 use Rattle.match_hall.specs.Script.{arrives_at, restaggers_at}
 use Rattle.match_hall.proofs.Counted.{counted_more, one_at_most, counted_all}
 use Rattle.match_hall.proofs.script.Rooms.of.Goals as goal

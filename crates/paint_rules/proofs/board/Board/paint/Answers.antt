@@ -1,7 +1,7 @@
 use Rattle.std.proofs.Common.{◌≡◌, true, not, arith}
 use Rattle.std.proofs.lemmas.Bool.{or_parts, not-false}
 use Rattle.std.proofs.lemmas.Grind.{common_steps}
-use Rattle.arena_rules.specs.Ground.{is_open}
+use Rattle.match_setup.specs.Ground.{is_open}
 use Rattle.paint_rules.proofs.Marks.{clean-painted}
 use Rattle.paint_rules.proofs.board.Board.paint.Goals as goal
 

@@ -1,5 +1,5 @@
 use Rattle.std.proofs.Common.{◌≡◌, ◌∙◌, sym, Some, length-set, arith}
-use Rattle.arena_rules.specs.Command.{open_ahead}
+use Rattle.match_setup.specs.Facing.{open_ahead}
 use Rattle.paint_rules.proofs.Places.{ahead-open, owners-painted, stand-set, apart-set}
 use Rattle.paint_rules.proofs.Steps.{is_open-near}
 use Rattle.paint_rules.proofs.paint.Paint.go.Goals as goal

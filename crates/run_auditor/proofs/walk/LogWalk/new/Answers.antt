@@ -3,7 +3,7 @@ use Rattle.std.specs.List.{AllByRecursion}
 use Rattle.sync_model.specs.Schedule.{Schedule, ticks_of_first, copies_of_first}
 use Rattle.run_auditor.proofs.WalkLaws.{opened, walk_begins}
 use Rattle.run_auditor.proofs.walk.LogWalk.new.Goals as goal
-use Rattle.match_file.proofs.Plans.{few-plans, equal-ticks, equal-copies}
+use Rattle.match_data.proofs.Plans.{few-plans, equal-ticks, equal-copies}
 
 pub new-requires-clause-few_plans : goal.new-requires-clause-few_plans
 new-requires-clause-few_plans g c = rw (c.as_slice.ensures.value, c.in_ok-plans.ensures.plans) (few-plans c.args.m.now c.in_ok-plans.ensures.sound)

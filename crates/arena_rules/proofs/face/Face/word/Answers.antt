@@ -1,5 +1,0 @@
-use Rattle.std.proofs.Common.{refl}
-use Rattle.arena_rules.proofs.face.Face.word.Goals as goal
-
-pub returns-in-N : goal.returns-in-N
-returns-in-N c = rw c.in-N.is refl

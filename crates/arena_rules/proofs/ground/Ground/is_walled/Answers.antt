@@ -1,8 +1,0 @@
-use Rattle.std.proofs.Common.{refl}
-use Rattle.std.proofs.lemmas.Nat.Bits.{shr_and_one}
-use Rattle.arena_rules.specs.Ground.{is_walled}
-use Rattle.arena_rules.proofs.ground.Ground.is_walled.Goals as goal
-
-pub returns : goal.returns
-unfolding is_walled
-returns c = rw (← c.self.view_is, shr_and_one) refl

@@ -1,0 +1,5 @@
+pub mod Walls
+mod Names
+pub mod Cells
+mod Computing
+pub mod Telling
