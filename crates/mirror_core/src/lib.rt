@@ -2,10 +2,10 @@
 //! moment a state of `sync_model`.
 #![tactic(auto)]
 
-mod core;
 mod deferred;
 mod drafts;
 mod epochs;
+mod inner;
 mod lists;
 mod mirror;
 mod mirror_with;

@@ -9,7 +9,7 @@ ghost use Rattle.sync_model.specs.History.{HasRoom, HasRoomAlong};
 ghost use Rattle.sync_model.specs.Turns.{turn, turn_events, is_drained, drain, drain_bound};
 ghost use Rattle.mirror_core.specs.Kept.{delays_of_each, ticks_of_first, copies_of_first};
 
-use crate::core::MirrorCore;
+use crate::inner::MirrorCore;
 use crate::mirrored::Mirrored;
 use crate::policy::RefreshPolicy;
 use arrayvec::ArrayVec;

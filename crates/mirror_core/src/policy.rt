@@ -3,7 +3,7 @@
 ghost use Rattle.std.specs.Prelude.{◌≡◌, ℕ, ◌-◌, Bool, [], length, max, slice_index_or};
 ghost use Rattle.sync_model.specs.Turns.{is_drained};
 
-use crate::core::MirrorCore;
+use crate::inner::MirrorCore;
 use game_trait::Game;
 
 /// When a mirror makes the worlds of the copies that its events repair (this project's own).

@@ -3,7 +3,7 @@ use Rattle.sync_model.specs.Schedule.{is_at_end}
 use Rattle.mirror_core.proofs.Answered.{tick_over, tick_moved}
 use Rattle.mirror_core.proofs.Calls.{clock-fits, note-moved}
 use Rattle.mirror_core.proofs.Kept.{kept_moved}
-use Rattle.mirror_core.proofs.core.MirrorCore.tick.Goals as goal
+use Rattle.mirror_core.proofs.inner.MirrorCore.tick.Goals as goal
 
 pub returns-then-at_end-clause-state : goal.returns-then-at_end-clause-state
 returns-then-at_end-clause-state g c =

@@ -1,5 +1,5 @@
 use Rattle.mirror_core.proofs.Along.{next-room, next-made, all-made}
-use Rattle.mirror_core.proofs.core.MirrorCore.make_each.Goals as goal
+use Rattle.mirror_core.proofs.inner.MirrorCore.make_each.Goals as goal
 
 pub make-requires-clause-room : goal.make-requires-clause-room
 make-requires-clause-room g c = next-room c.loop-e-test.true c.loop-e.invariant

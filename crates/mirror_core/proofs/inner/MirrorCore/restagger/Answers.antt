@@ -1,7 +1,7 @@
 use Rattle.std.proofs.Common.{sym}
 use Rattle.mirror_core.proofs.Answered.{restagger_one}
 use Rattle.mirror_core.proofs.Kept.{kept_restaggered, small-numbers}
-use Rattle.mirror_core.proofs.core.MirrorCore.restagger.Goals as goal
+use Rattle.mirror_core.proofs.inner.MirrorCore.restagger.Goals as goal
 
 pub renew_all-requires : goal.renew_all-requires
 renew_all-requires g c = small-numbers c.self.invariant

@@ -1,6 +1,6 @@
 use Rattle.std.proofs.Common.{arith}
 use Rattle.mirror_core.proofs.WholeTurns.{turn-fits, turn-room}
-use Rattle.mirror_core.proofs.core.MirrorCore.turn.Goals as goal
+use Rattle.mirror_core.proofs.inner.MirrorCore.turn.Goals as goal
 
 pub make_each-requires : goal.make_each-requires
 make_each-requires g c = (

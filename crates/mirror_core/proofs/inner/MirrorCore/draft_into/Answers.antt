@@ -1,6 +1,6 @@
 use Rattle.std.proofs.Common.{refl}
 use Rattle.mirror_core.proofs.Calls.{runs-on, below-end, put-fits}
-use Rattle.mirror_core.proofs.core.MirrorCore.draft_into.Goals as goal
+use Rattle.mirror_core.proofs.inner.MirrorCore.draft_into.Goals as goal
 
 pub due_len-commands-requires-clause-below : goal.due_len-commands-requires-clause-below
 due_len-commands-requires-clause-below g c =

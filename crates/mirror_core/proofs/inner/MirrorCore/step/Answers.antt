@@ -3,7 +3,7 @@ use Rattle.mirror_core.proofs.Answered.{step_idle, step_ran}
 use Rattle.mirror_core.proofs.Calls.{idle-at, runs-on, below-end, behind-ahead}
 use Rattle.mirror_core.proofs.Kept.{kept_ran, note-ran, small-numbers}
 use Rattle.mirror_core.proofs.Renewed.{renewed-as}
-use Rattle.mirror_core.proofs.core.MirrorCore.step.Goals as goal
+use Rattle.mirror_core.proofs.inner.MirrorCore.step.Goals as goal
 
 pub returns-then-clock-limit-clause-state : goal.returns-then-clock-limit-clause-state
 returns-then-clock-limit-clause-state g c =

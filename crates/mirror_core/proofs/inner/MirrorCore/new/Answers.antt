@@ -4,7 +4,7 @@ use Rattle.sync_model.specs.State.{MirrorState}
 use Rattle.mirror_core.specs.Kept.{ticks_of_first, copies_of_first}
 use Rattle.mirror_core.proofs.PlanLaws.{first-ticks, first-copies}
 use Rattle.mirror_core.proofs.Opened.{kept_opened, opened_state}
-use Rattle.mirror_core.proofs.core.MirrorCore.new.Goals as goal
+use Rattle.mirror_core.proofs.inner.MirrorCore.new.Goals as goal
 
 pub invariant_of-result : goal.invariant_of-result
 invariant_of-result g c =

@@ -6,7 +6,7 @@ use Rattle.game_trait.specs.declared.event.Arrived.TheVariants.{Late}
 use Rattle.mirror_core.proofs.Answered.{arrive_repeat, arrive_late, arrive_taken}
 use Rattle.mirror_core.proofs.Calls.{late-at, on-time, has-push}
 use Rattle.mirror_core.proofs.Kept.{kept_away, kept_taken, small-numbers}
-use Rattle.mirror_core.proofs.core.MirrorCore.arrive.Goals as goal
+use Rattle.mirror_core.proofs.inner.MirrorCore.arrive.Goals as goal
 
 pub returns-then-has-clause-state : goal.returns-then-has-clause-state
 unfolding same_name

@@ -2,7 +2,7 @@ use Rattle.std.proofs.Common.{◌∙◌, sym, eqb, ltb, ◌||◌, arith}
 use Rattle.mirror_core.proofs.Renewed.{renewed-as}
 use Rattle.mirror_core.proofs.Calls.{below-end, behind-ahead, commit-runs, committed-ran}
 use Rattle.mirror_core.proofs.Kept.{kept_ran, note-ran, small-numbers}
-use Rattle.mirror_core.proofs.core.MirrorCore.commit.Goals as goal
+use Rattle.mirror_core.proofs.inner.MirrorCore.commit.Goals as goal
 
 pub commit_tick-repaired-requires-clause-below : goal.commit_tick-repaired-requires-clause-below
 commit_tick-repaired-requires-clause-below g c =

@@ -1,5 +1,5 @@
 use Rattle.mirror_core.proofs.Calls.{limit-first, limit-behind}
-use Rattle.mirror_core.proofs.core.MirrorCore.limit.Goals as goal
+use Rattle.mirror_core.proofs.inner.MirrorCore.limit.Goals as goal
 
 pub returns-then-copy-eq0 : goal.returns-then-copy-eq0
 returns-then-copy-eq0 g c =

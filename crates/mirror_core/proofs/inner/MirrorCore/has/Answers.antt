@@ -1,5 +1,5 @@
 use Rattle.std.proofs.Common.{◌∙◌}
-use Rattle.mirror_core.proofs.core.MirrorCore.has.Goals as goal
+use Rattle.mirror_core.proofs.inner.MirrorCore.has.Goals as goal
 
 pub returns : goal.returns
 returns g c =

@@ -1,5 +1,5 @@
 use Rattle.mirror_core.proofs.Calls.{drained-is}
-use Rattle.mirror_core.proofs.core.MirrorCore.drained.Goals as goal
+use Rattle.mirror_core.proofs.inner.MirrorCore.drained.Goals as goal
 
 pub returns : goal.returns
 returns g c =

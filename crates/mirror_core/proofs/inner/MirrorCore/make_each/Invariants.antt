@@ -1,6 +1,6 @@
 use Rattle.std.proofs.Common.{drop}
 use Rattle.mirror_core.proofs.Along.{IsOnItsWay}
-use Rattle.mirror_core.proofs.core.MirrorCore.make_each.Given as goal
+use Rattle.mirror_core.proofs.inner.MirrorCore.make_each.Given as goal
 
 abbrev pub invariant-loop-e : goal.invariant-loop-e
 invariant-loop-e g l =

@@ -1,6 +1,6 @@
 use Rattle.std.proofs.Common.{◌∙◌}
 use Rattle.mirror_core.proofs.Calls.{last-is}
-use Rattle.mirror_core.proofs.core.MirrorCore.last_clock.Goals as goal
+use Rattle.mirror_core.proofs.inner.MirrorCore.last_clock.Goals as goal
 
 pub returns : goal.returns
 returns g c =
