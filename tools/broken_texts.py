@@ -1,6 +1,6 @@
 #!/usr/bin/env python3
-"""Damages match texts at random, and takes each count at its limit and one past it, and compares the reader's answers with a slow
-reader that is written after the page of the format.
+"""Damages match texts at random, takes each count at its limit and one past it, and compares the answers with those of a slow reader
+that is written after docs/FORMATS.md.
 
     python3 tools/broken_texts.py PROGRAM SEED COUNT [WORD ..]
 

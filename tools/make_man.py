@@ -59,7 +59,7 @@ def page_of_program():
     text = formats()
     words = section(text, "Words of the command line")
     out = ['.TH TSS 1 "" "" "tss"', ".SH NAME", roff("tss - plays, races, audits and scores matches on mirrored servers"), ".SH SYNOPSIS", f".B tss {roff(usage(text))}",
-           ".SH DESCRIPTION", roff("Each form reads from standard input and writes to standard output."), ".SH WORDS"]
+           ".SH DESCRIPTION", roff("Input is standard input, output standard output."), ".SH WORDS"]
     for word, reads, prints in rows(words):
         out += [".TP", f".B {roff(word)}", roff(f"reads {reads}; prints {prints}")]
     out.append(".SH NUMBERS")
@@ -93,8 +93,8 @@ def help_of(name):
 
 def page_of_tools():
     """Each tool's first sentence and its first command line."""
-    about = ("Each runs the built programs where it needs them. All its forms it says to `--help`, of which `tools/make_man.py NAME` makes a manual "
-             "page. Only Python's standard library is used, but by `serve_mirrors.py` for its page. `tools/make_man.py --tools` makes this page.")
+    about = ("Each runs the built programs where it needs them. `--help` says all its forms; `tools/make_man.py NAME` makes that a manual page. "
+             "Only `serve_mirrors.py` needs more than Python's standard library, for its page and a broker. `tools/make_man.py --tools` makes this page.")
     out = ["# Tools\n", textwrap.fill(about, 120)]
     for name in tools():
         said = help_of(name).split("options:")[0]

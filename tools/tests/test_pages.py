@@ -117,6 +117,10 @@ class Sessions(unittest.TestCase):
         self.assertEqual(shown[-1], "...")
         self.assertEqual(shown[:-1], self.printed(["lossy"], self.example("net.lossy"))[:len(shown) - 1])
 
+    def test_order_and_rewind(self):
+        for behind, words in (("## What `order` prints", ["order"]), ("So `rewind 2 1 4 2`", ["rewind", "2", "1", "4", "2"])):
+            self.assertEqual(self.blocks("docs/FORMATS.md", behind)[0], self.printed(words, self.example("late.match")))
+
     def test_painting(self):
         setup = ["tss match 1", "length 2", "grid 3 1", "mirrors 1", "delays 0", "pace 0", "player ann 0 0 e", "cmd 0 0 0 0 go", "end"]
         shown = self.blocks("docs/FORMATS.md", "## Painting\n")[0]
