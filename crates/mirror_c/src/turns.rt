@@ -23,7 +23,7 @@ pub fn told_turn(replies: &[Reply]) -> Answer
 }
 
 // The most copies that one of the replies says were repaired.
-#[tactic(auto, unfolding(crate::specs::Worlds::most_repaired))]
+#[tactic(auto, unfolding(sync_model::specs::Host::most_repaired))]
 fn most_repaired(replies: &[Reply]) -> u32
     ensures { result ≡ most_repaired replies.now }
 {
