@@ -1,6 +1,5 @@
 //! What `join` tells: a mirror of a match, and one that joins late from its snapshot, along the
-//! match's script. Stands on `late_joiner`, `match_hall`, `report_text`, `match_file`,
-//! `mirror_core`, `arena_rules` and `game_trait`.
+//! match's script.
 #![tactic(auto)]
 
 mod answer;

@@ -1,5 +1,4 @@
-//! A large match from a number: the same number makes the same match. Stands on `match_file`,
-//! `arena_rules`, `sync_model`, `game_trait` and `tss_io`.
+//! A large match from a number: the same number makes the same match.
 #![tactic(auto)]
 
 mod arena;

@@ -1,5 +1,4 @@
-//! What looks at the ticks of a match print: the world at each, and how many were cached. Stands on
-//! `rewind_store`, `report_text`, `match_file`, `arena_rules` and `game_trait`.
+//! What looks at the ticks of a match print: the world at each, and how many were cached.
 #![tactic(auto)]
 
 mod answer;

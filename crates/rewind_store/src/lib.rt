@@ -1,5 +1,5 @@
 //! The world of a match at any tick, from worlds kept at regular ticks and a bounded cache of those
-//! that were looked at. Stands on `match_file` and `game_trait`; the cache is `lru`'s.
+//! that were looked at. The cache is `lru`'s.
 #![tactic(auto)]
 
 mod cache;

@@ -21,8 +21,7 @@
 //! What isn't promised: that a turn ever comes, or when. A seat that was dropped can't be brought
 //! to `close`. Before `close` no clause says how what two seats have seen compares.
 //!
-//! It stands on `atomic_table` of the kit, and on `tss_io` for its want of memory. The design is
-//! this project's own.
+//! It stands on `atomic_table` of the kit. The design is this project's own.
 #![tactic(auto)]
 
 mod crossing;
