@@ -14,3 +14,4 @@ pub mod NameTrees
 mod NamesHeld
 mod BlockTrees
 mod BlockWalks
+pub mod Later

@@ -9,3 +9,4 @@ pub mod Events
 pub mod CommandList
 pub mod NameTree
 pub mod BlockTree
+pub mod Later

@@ -23,3 +23,5 @@ pub mod Epochs
 pub mod Renewals
 pub mod Following
 pub mod HostWorlds
+mod Forgetting
+mod Forgotten

@@ -14,3 +14,4 @@ pub mod Repairs
 pub mod Worked
 pub mod Pinned
 pub mod Host
+pub mod Forgetting

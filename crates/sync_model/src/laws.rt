@@ -3,6 +3,7 @@
 mod clocks;
 mod drafts;
 mod draining;
+mod forgetting;
 mod history;
 mod hosts;
 mod room;
@@ -17,6 +18,11 @@ pub use drafts::{
 pub use draining::{
     drained_in_order, drained_is_tested, drained_worlds, draining_delivers_nothing, draining_ends,
     draining_is_turns, played_in_order,
+};
+pub use forgetting::{
+    forgetting_changes_no_answer, nothing_is_forgotten_yet,
+    what_is_left_has_the_worlds_of_the_whole, what_is_left_tells_of_the_whole,
+    what_lies_behind_the_last_copy_is_forgotten,
 };
 pub use history::{
     answers_in_kind, changing_events_are_a_log, changing_events_suffice, history_grows,

@@ -1,0 +1,64 @@
+//! What a mirror stands on that forgets what lies behind its last copy: that this changes nothing.
+
+ghost use Rattle.std.specs.Prelude.{◌≡◌, ℕ, ◌+◌, ◌<◌, length, map};
+ghost use Rattle.game_trait.specs.declared.event.Event.{Event};
+ghost use Rattle.game_trait.specs.Ordered.{due_at};
+ghost use Rattle.game_trait.specs.Run.{world_of};
+ghost use Rattle.sync_model.specs.State.{MirrorState, copy_clock, delays_of, last_clock};
+ghost use Rattle.sync_model.specs.Change.{next, said};
+ghost use Rattle.sync_model.specs.Drafts.{run_of};
+ghost use Rattle.sync_model.specs.Staggered.{IsStaggered};
+ghost use Rattle.game_trait.specs.Later.{AreTimeBlind, later, later_event, later_reply};
+ghost use Rattle.sync_model.specs.Forgetting.{IsLeft, IsRemembered, forgotten};
+
+use game_trait::Game;
+
+/// Before anything is forgotten, what is left of a mirror is the whole of it.
+pub fn nothing_is_forgotten_yet<G: Game>()
+    ensures { (s : MirrorState G) → 0 < length s.runs → IsLeft G.rules 0 s s }
+{}
+
+/// Where a mirror has forgotten its first ticks, any event that comes that much earlier leaves of it
+/// what it would be, had it remembered all, and is answered as it would be: nothing that was forgotten
+/// changes a run, a clock or an answer. Neither clock is at the match's end, and a command hasn't the
+/// name of one that was forgotten.
+pub fn forgetting_changes_no_answer<G: Game>()
+    ensures { (b : ℕ) (whole left : MirrorState G) (e : Event)
+        → IsLeft G.rules b whole left → whole.clock < whole.length → left.clock < left.length
+        → IsRemembered b whole (later_event b e)
+        → IsLeft G.rules b (next whole (later_event b e)) (next left e)
+        × (said whole (later_event b e) ≡ later_reply b (said left e)) }
+{}
+
+/// A mirror of whose first ticks some were forgotten may forget all that lies behind its last copy, where
+/// no rule of the game looks at a command's time.
+pub fn what_lies_behind_the_last_copy_is_forgotten<G: Game>()
+    ensures { (b : ℕ) (whole left : MirrorState G)
+        → AreTimeBlind G.rules → IsStaggered left → IsLeft G.rules b whole left
+        → IsLeft G.rules (b + last_clock left.runs) whole (forgotten G.rules left) }
+{}
+
+/// What is left of a mirror has the worlds of the whole, copy by copy, where no rule of the game looks at
+/// a command's time.
+pub fn what_is_left_has_the_worlds_of_the_whole<G: Game>()
+    ensures { (b : ℕ) (whole left : MirrorState G) (c : ℕ)
+        → AreTimeBlind G.rules → IsLeft G.rules b whole left → c < length left.runs
+        → world_of G.rules left.opening (run_of left c) ≡ world_of G.rules whole.opening (run_of whole c) }
+{}
+
+/// What is left of a mirror tells all that the whole says from there on: its clock and its copies' clocks,
+/// the plan in force and the commands that are due, each as many ticks later.
+pub fn what_is_left_tells_of_the_whole<G: Game>()
+    ensures clock { (b : ℕ) (whole left : MirrorState G)
+        → IsLeft G.rules b whole left → whole.clock ≡ left.clock + b }
+    ensures copies { (b : ℕ) (whole left : MirrorState G)
+        → IsLeft G.rules b whole left → length whole.runs ≡ length left.runs }
+    ensures clocks { (b : ℕ) (whole left : MirrorState G) (c : ℕ)
+        → IsLeft G.rules b whole left → c < length left.runs
+        → copy_clock whole.runs c ≡ b + copy_clock left.runs c }
+    ensures plan { (b : ℕ) (whole left : MirrorState G)
+        → IsLeft G.rules b whole left → delays_of whole ≡ delays_of left }
+    ensures commands { (b t : ℕ) (whole left : MirrorState G)
+        → IsLeft G.rules b whole left
+        → due_at whole.accepted (b + t) ≡ map (later b) (due_at left.accepted t) }
+{}
