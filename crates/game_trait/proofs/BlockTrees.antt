@@ -1,14 +1,14 @@
 -- Blocks and their links: what a route leads to, and what one more block leaves of it.
-use Rattle.std.proofs.Common.{◌≡◌, refl, ◌∙◌, ap, sym, subst, ℕ, zero, suc, ◌+◌, ◌-◌, ◌*◌, ◌/◌, ◌%◌, ◌<◌, ◌≤◌, ◌⊎◌, inl, inr, true, false, ◌||◌, List, [], ◌∷◌, ◌++◌, length, get_or, set, Some, Result, Ok, Err, arith, length-append}
+use Rattle.std.proofs.Common.{◌≡◌, refl, ◌∙◌, ap, sym, subst, ℕ, zero, suc, ◌+◌, ◌-◌, ◌*◌, ◌/◌, ◌%◌, ◌<◌, ◌≤◌, ◌⊎◌, inl, inr, true, false, ◌||◌, List, [], ◌∷◌, ◌++◌, cond, length, get_or, take, set, replicate, Some, Result, Ok, Err, arith, length-append}
 use Rattle.std.specs.List.{slice_get}
-use Rattle.std.specs.Prelude.{◌==◌, ◌&&◌, slice_index, is_ok, IfOk, IfErr}
+use Rattle.std.specs.Prelude.{◌==◌, ◌&&◌, slice_index, is_ok, IfOk, IfErr, OnOk}
 use Rattle.std.proofs.lemmas.Option.{slice_get-get_or}
 use Rattle.std.proofs.lemmas.Bool.{cases_lt, cases_eq, and_parts, eqb-true, false≢true}
 use Rattle.std.proofs.lemmas.Bool.Decides.{nat_tests}
-use Rattle.std.proofs.lemmas.List.{length-set, get_or_append_left, get_or-append_right, get_or_past, get_or-set_same, get_or-set_other}
+use Rattle.std.proofs.lemmas.List.{length-set, length-replicate, get_or-replicate, get_or_append_left, get_or-append_right, get_or_past, get_or-set_same, get_or-set_other, nil_from_length}
 use Rattle.game_trait.specs.CommandList.{same_pair}
 use Rattle.game_trait.specs.NameTree.{has_name}
-use Rattle.game_trait.specs.BlockTree.{route_of, next_at, Leads, IsRoute, LinksRise, AreFound, IsBlockTree, linked, IsOpen}
+use Rattle.game_trait.specs.BlockTree.{route_of, next_link, Leads, IsRouteTo, LinksRise, AreFound, IsBlockTree, IsTreeInRoom, linked, IsOpen}
 
 nowhere : (k : ℕ) → slice_index (0 ∷ 0 ∷ 0 ∷ 0 ∷ []) k ≡ 0
 nowhere zero = refl
@@ -46,13 +46,13 @@ kept-link links link to k free some = elim (cases_lt k (length links)) [
 
 -- and what a route leads to stays
 Leads-linked :
-    (links : List ℕ) (link to n route at end : ℕ) → slice_index links link ≡ 0 → Leads links n route at end
-    → Leads (linked links link to) n route at end
+    (links : List ℕ) (link to n rest at end : ℕ) → slice_index links link ≡ 0 → Leads links n rest at end
+    → Leads (linked links link to) n rest at end
 unfolding Leads
-Leads-linked links link to zero route at end free h = h
-Leads-linked links link to (suc n) route at end free h =
-    rw (kept-link links link to (4 * at + route % 4) free h.0)
-    (h.0, Leads-linked links link to n (route / 4) (next_at links at route) end free h.1)
+Leads-linked links link to zero rest at end free h = kept-link links link to at free (omega arith) ∙ h
+Leads-linked links link to (suc n) rest at end free h =
+    rw (kept-link links link to at free h.0)
+    (h.0, Leads-linked links link to n (rest / 4) (next_link (slice_index links at) rest) end free h.1)
 
 pub slice_get-push :
     {X : Type 0} (xs : List X) (y z : X) (at : ℕ) → slice_get (xs ++ y ∷ []) at ≡ Some z
@@ -120,57 +120,111 @@ pub told :
 told blocks links from block (Ok at) found free = sym (named-at blocks from block at found)
 told blocks links from block (Err link) found free = sym free.new
 
--- no blocks, and no links
-pub tree-none : IsBlockTree [] []
-tree-none = record { four = refl; rise = λ k some. absurd (omega arith); found = λ from block at e. absurd cc }
+-- what no numbers are once they are made so many
+take-none : (n : ℕ) → take {A = ℕ} n [] ≡ []
+take-none zero = refl
+take-none (suc n) = refl
+
+pub resized :
+    {A E : Type 0} (r : Result A E) (n len : ℕ) (none more : List ℕ) → len ≡ length none
+    → more ≡ cond (is_ok r) (take n none ++ replicate (n - len) 0) none
+    → OnOk r (length none ≡ 0 → more ≡ replicate n 0)
+resized (Ok x) n len none more long e = λ empty.
+    let whole : n - len ≡ n = omega arith in
+    e ∙ (rw (nil_from_length none empty, take-none n, whole) refl)
+resized (Err x) n len none more long e = tt
+
+-- no blocks, and roots that lead nowhere
+free-root : (k : ℕ) → slice_index (replicate 4096 0) k ≡ 0
+free-root k =
+    let long = length-replicate {A = ℕ} 4096 0 in
+    elim (cases_lt k 4096) [
+      | inl within ↦ get_or-replicate 4096 k 0 0 within
+      | inr past ↦ get_or_past (replicate 4096 0) k 0 (omega arith)
+    ]
+
+pub tree-roots : IsBlockTree [] (replicate 4096 0)
+tree-roots = record {
+  four = length-replicate {A = ℕ} 4096 0;
+  rise = λ k some. absurd (let none = free-root k in omega arith);
+  found = λ from block at e. absurd cc;
+}
+
+-- where there is room for one more, or where one is there, there is a tree
+pub tree-there :
+    (blocks : List (ℕ × ℕ)) (links : List ℕ) (entries room : ℕ) → IsTreeInRoom blocks links entries room
+    → length blocks < room → IsBlockTree blocks links × (4096 + 4 * room ≤ entries)
+tree-there blocks links entries room is more = elim is [
+  | inl none ↦ absurd (let no_room = none.1.1 in omega arith)
+  | inr tree ↦ tree
+]
+
+pub tree-some :
+    (blocks : List (ℕ × ℕ)) (links : List ℕ) (entries room : ℕ) → IsTreeInRoom blocks links entries room
+    → 0 < length blocks → IsBlockTree blocks links
+tree-some blocks links entries room is some = elim is [
+  | inl none ↦ absurd (let nobody = none.0 in omega arith)
+  | inr tree ↦ tree.0
+]
+
+-- links that have more room are none the worse
+pub tree-wider :
+    (blocks : List (ℕ × ℕ)) (links : List ℕ) (entries wider room : ℕ) → IsTreeInRoom blocks links entries room
+    → entries ≤ wider → IsTreeInRoom blocks links wider room
+tree-wider blocks links entries wider room is more = elim is [
+  | inl none ↦ inl none
+  | inr tree ↦ inr (tree.0, (let fits = tree.1 in omega arith))
+]
+
+-- once there are roots, and room for four links more, there is room for one block more
+pub tree-reserved :
+    (blocks : List (ℕ × ℕ)) (links more : List ℕ) (entries wider room : ℕ) → IsTreeInRoom blocks links entries room
+    → (length links ≡ 0 → more ≡ replicate 4096 0) → (0 < length links → more ≡ links) → length more + 4 ≤ wider
+    → IsTreeInRoom blocks more wider (length blocks + 1)
+tree-reserved blocks links more entries wider room is roots same fits = elim is [
+  | inl none ↦ (let made = roots none.1.0 in
+      let long = length-replicate {A = ℕ} 4096 0 in
+      let as_long = ap (λ (l : List ℕ). length l) made in
+      let nobody = none.0 in
+      inr (rw (nil_from_length blocks nobody, made) tree-roots, omega arith))
+  | inr tree ↦ (let four = tree.0.four in
+      let kept = same (omega arith) in
+      let as_long = ap (λ (l : List ℕ). length l) kept in
+      inr (rw kept tree.0, omega arith))
+]
 
 module _ {blocks : List (ℕ × ℕ)} {links : List ℕ} (tree : IsBlockTree blocks links) where
-  -- before the first block there is one link to set, which isn't there
-  pub open-none : (from block : ℕ) → length blocks ≡ 0 → IsOpen blocks links from block 0
-  unfolding Leads
-  open-none from block none =
-      let four = tree.four in
-      record {
-        new = none-named blocks from block (λ at e. nobody blocks from block at none e);
-        free = get_or_past links 0 0 (omega arith);
-        leads = (0, sym none);
-      }
-    where
-      nobody : (blocks : List (ℕ × ℕ)) (from block at : ℕ) → length blocks ≡ 0 → slice_get blocks at ≡ Some (from, block) → ⊥
-      nobody [] from block at none e = absurd cc
-      nobody (y ∷ ys) from block at none e = omega arith
-
   -- one more block
   module _ {from block link : ℕ} (is : IsOpen blocks links from block link) where
-    rise-push : LinksRise (linked links link (length blocks)) (length (blocks ++ (from, block) ∷ []))
+    rise-push : LinksRise (linked links link (length blocks + 1)) (length (blocks ++ (from, block) ∷ []))
     rise-push k some =
         let longer = length-append blocks ((from, block) ∷ []) in
         let four = tree.four in
         elim (cases_lt k (length links)) [
           | inl there ↦ elim (cases_eq k link) [
-            | inl same ↦ (let this = subst (λ (j : ℕ). slice_index (linked links j (length blocks)) k ≡ length blocks) same (set-link links k (length blocks) there) in
+            | inl same ↦ (let this = subst (λ (j : ℕ). slice_index (linked links j (length blocks + 1)) k ≡ length blocks + 1) same (set-link links k (length blocks + 1) there) in
                 (omega arith, omega arith))
-            | inr other ↦ (let that = other-link links link (length blocks) k there other in
+            | inr other ↦ (let that = other-link links link (length blocks + 1) k there other in
                 let was = tree.rise k (subst (λ (n : ℕ). 0 < n) that some) in
                 let low = was.0 in
                 let high = was.1 in
                 (omega arith, omega arith))
           ]
-          | inr past ↦ absurd (let none = new-link links link (length blocks) k past in omega arith)
+          | inr past ↦ absurd (let none = new-link links link (length blocks + 1) k past in omega arith)
         ]
 
-    found-push : AreFound (blocks ++ (from, block) ∷ []) (linked links link (length blocks))
+    found-push : AreFound (blocks ++ (from, block) ∷ []) (linked links link (length blocks + 1))
     found-push f n at e = elim (slice_get-push blocks (from, block) (f, n) at e) [
       | inl old ↦ (let way = tree.found f n at old in
-          (way.0, Leads-linked links link (length blocks) way.0 (route_of f n) 0 at is.free way.1))
-      | inr last ↦ subst (λ (p : ℕ × ℕ). IsRoute (linked links link (length blocks)) (route_of p.0 p.1) 0 at) last.1
-          (subst (λ (i : ℕ). IsRoute (linked links link (length blocks)) (route_of from block) 0 i) (sym last.0) is.leads)
+          (way.0, Leads-linked links link (length blocks + 1) way.0 (route_of f n / 4096) (route_of f n % 4096) at is.free way.1))
+      | inr last ↦ subst (λ (p : ℕ × ℕ). IsRouteTo (linked links link (length blocks + 1)) (route_of p.0 p.1) at) last.1
+          (subst (λ (i : ℕ). IsRouteTo (linked links link (length blocks + 1)) (route_of from block) i) (sym last.0) is.leads)
     ]
 
-    pub tree-push : IsBlockTree (blocks ++ (from, block) ∷ []) (linked links link (length blocks))
+    pub tree-push : IsBlockTree (blocks ++ (from, block) ∷ []) (linked links link (length blocks + 1))
     tree-push =
         let longer = length-append blocks ((from, block) ∷ []) in
         let four = tree.four in
-        let long = length-set links link (length blocks) in
-        let more = length-append (set links link (length blocks)) (0 ∷ 0 ∷ 0 ∷ 0 ∷ []) in
+        let long = length-set links link (length blocks + 1) in
+        let more = length-append (set links link (length blocks + 1)) (0 ∷ 0 ∷ 0 ∷ 0 ∷ []) in
         record { four = omega arith; rise = rise-push; found = found-push }

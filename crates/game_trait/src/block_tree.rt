@@ -1,6 +1,6 @@
 //! Blocks of numbers, of which each is found in few steps, whatever blocks there are.
 
-ghost use Rattle.std.specs.Prelude.{◌≡◌, ◌+◌, ◌≤◌, ◌<◌, [], Some, length, slice_get, slice_set, vec_len, vec_capacity, is_some, IfOk, IfErr, IfSome, OnOk, OnErr};
+ghost use Rattle.std.specs.Prelude.{◌≡◌, ◌+◌, ◌*◌, ◌≤◌, ◌<◌, [], Some, length, replicate, slice_get, slice_set, vec_len, vec_capacity, is_some, IfOk, IfErr, IfSome, OnOk, OnErr};
 ghost use Rattle.game_trait.specs.NameTree.{has_name};
 ghost use Rattle.game_trait.specs.BlockTree.{route_of, linked, IsBlockTree, IsOpen, IsPlaced};
 
@@ -8,28 +8,29 @@ use crate::command::{MirrorId, Number};
 use std::alloc::{AllocError, Global};
 use std::marker::Model;
 
-// How many blocks a tree has at most: a link holds the place of one.
+// How many blocks a tree has at most: a link holds the place of one and 1.
 const MOST_BLOCKS: usize = u32::MAX as usize;
 
 /// Blocks of numbers, a mirror and the number of the block each, in the order in which they were
 /// appended. Contracts see the blocks, and how many there is room for without taking memory.
 ///
-/// They are the nodes of a tree: four links lead on from each, of which two bits of the block that
-/// is sought choose one, two others at each step. So the 36 bits of a block of 16 numbers make 18
-/// steps at most, whatever names strangers choose, and dense numbers about as many as half the bits
-/// of the count of blocks (this project's own).
+/// They are the nodes of trees: 12 bits of the block that is sought choose one of 4,096 roots, and
+/// four links lead on from each block, of which two other bits choose one at each step. So the 36
+/// bits of a block of 16 numbers make 13 steps at most, whatever names strangers choose, and dense
+/// numbers one, up to 8,191 of eight mirrors (this project's own).
 #[derive(Debug, Drop)]
 pub struct BlockTree {
     blocks: Vec<(MirrorId, Number)>,
-    // four for each block, each the place of another, or 0 for none
+    // 4,096 roots, once there is room, and four for each block: the place of a block and 1, or 0 for
+    // none
     links: Vec<u32>,
     room: usize,
 }
 
 impl Model for BlockTree {
-    ghost use Rattle.std.specs.Prelude.{◌≤◌, ◌*◌, vec_capacity};
+    ghost use Rattle.std.specs.Prelude.{◌≤◌, vec_capacity};
     ghost use Rattle.game_trait.specs.NameTree.{NamesInRoom};
-    ghost use Rattle.game_trait.specs.BlockTree.{IsBlockTree};
+    ghost use Rattle.game_trait.specs.BlockTree.{IsTreeInRoom};
     ghost use Rattle.game_trait.specs.declared.block_tree.TheConstants.{MOST_BLOCKS};
 
     ghost Value = { NamesInRoom };
@@ -37,8 +38,8 @@ impl Model for BlockTree {
     ghost view = { λ t. record { items = t.blocks.items; room = t.room } };
 
     ghost invariant = { λ t.
-        IsBlockTree t.blocks.items t.links.items × (t.room ≤ vec_capacity t.blocks)
-        × (4 * t.room ≤ vec_capacity t.links) × (t.room ≤ MOST_BLOCKS) };
+        IsTreeInRoom t.blocks.items t.links.items (vec_capacity t.links) t.room
+        × (t.room ≤ vec_capacity t.blocks) × (t.room ≤ MOST_BLOCKS) };
 }
 
 impl BlockTree {
@@ -61,9 +62,14 @@ impl BlockTree {
         if room > MOST_BLOCKS {
             return Err(AllocError);
         }
+        if room == 0 {
+            return Ok(BlockTree::new(alloc));
+        }
+        let mut links = Vec::new(alloc);
+        reserve_links(&mut links, room)?;
         Ok(BlockTree {
             blocks: Vec::with_capacity(alloc, room)?,
-            links: Vec::with_capacity(alloc, 4 * room)?,
+            links,
             room,
         })
     }
@@ -84,7 +90,7 @@ impl BlockTree {
             return Err(AllocError);
         }
         self.blocks.reserve(1)?;
-        self.links.reserve(4)?;
+        reserve_links(&mut self.links, 1)?;
         self.room = count + 1;
         Ok(())
     }
@@ -100,7 +106,7 @@ impl BlockTree {
             Ok(at) => at,
             Err(link) => {
                 let at = self.blocks.len();
-                link_to(&mut self.links, link, at as u32);
+                link_to(&mut self.links, link, (at + 1) as u32);
                 self.blocks.push_reserved((from, block));
                 at
             }
@@ -112,6 +118,9 @@ impl BlockTree {
         ensures there { IfSome result (λ at. slice_get self.now.items at ≡ Some (from, block)) }
         ensures found { is_some result ≡ has_name self.now.items from block }
     {
+        if self.blocks.is_empty() {
+            return None;
+        }
         search(&self.blocks, &self.links, from, block).ok()
     }
 }
@@ -134,22 +143,40 @@ fn search(
     ensures found { IfOk result (λ at. slice_get blocks.now at ≡ Some (from, block)) }
     ensures free { IfErr result (λ link. IsOpen blocks.now links.now from block link) }
 {
-    if blocks.is_empty() {
-        return Err(0);
-    }
-    let mut route = route_of(from, block);
-    let mut at = 0;
+    let route = route_of(from, block);
+    let mut link = (route % 4_096) as usize;
+    let mut rest = route / 4_096;
     'steps: loop {
-        if blocks[at] == (from, block) {
-            return Ok(at);
-        }
-        let link = 4 * at + (route % 4) as usize;
         if links[link] == 0 {
             return Err(link);
         }
-        at = links[link] as usize;
-        route /= 4;
+        let next = links[link] as usize;
+        if blocks[next - 1] == (from, block) {
+            return Ok(next - 1);
+        }
+        link = 4 * next + 4_092 + (rest % 4) as usize;
+        rest /= 4;
     }
+}
+
+// Makes room for four links more for each of so many blocks, and appends the roots, which lead
+// nowhere, where there are no links. On want of memory the links stay.
+fn reserve_links(links: &mut Vec<u32>, blocks: usize) -> Result<(), AllocError>
+    requires { blocks ≤ MOST_BLOCKS }
+    ensures roots { OnOk result
+        (length links.old.items ≡ 0 → links.new.items ≡ replicate 4096 0) }
+    ensures links { OnOk result
+        (0 < length links.old.items → links.new.items ≡ links.old.items) }
+    ensures room { OnOk result
+        (length links.new.items + 4 * blocks ≤ vec_capacity links.new) }
+    ensures err { OnErr result (links.new.items ≡ links.old.items) }
+    ensures capacity { vec_capacity links.old ≤ vec_capacity links.new }
+{
+    if !links.is_empty() {
+        return links.reserve(4 * blocks);
+    }
+    links.reserve(4_096 + 4 * blocks)?;
+    links.resize(4_096, 0)
 }
 
 // Sets a link, where it is there, and appends four links to nowhere, for which there is room.

@@ -10,7 +10,7 @@ use std::alloc::{AllocError, Global};
 use std::marker::Model;
 
 /// Commands in the order in which they were appended, no two with the same mirror and number, of
-/// which each is found by these in at most 18 steps, whatever names strangers choose (this project's
+/// which each is found by these in at most 13 steps, whatever names strangers choose (this project's
 /// own). Contracts see the commands, and how many there is room for without taking memory.
 #[derive(Debug, Drop)]
 pub struct CommandList {

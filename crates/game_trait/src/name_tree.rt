@@ -14,9 +14,9 @@ const MOST_NAMES: usize = u32::MAX as usize;
 /// Names of commands, a mirror and a number each, in the order in which they were appended, no two
 /// the same. Contracts see the names, and how many there is room for without taking memory.
 ///
-/// They are found by blocks of 16 numbers of one mirror: a block is found in a tree in at most 18
-/// steps, whatever names strangers choose, and tells the places of its names, which stand nowhere
-/// else (this project's own).
+/// They are found by blocks of 16 numbers of one mirror: a block is found in at most 13 steps,
+/// whatever names strangers choose, and in one where they are dense; it tells the places of its
+/// names, which stand nowhere else (this project's own).
 #[derive(Debug, Drop)]
 pub struct NameTree {
     blocks: BlockTree,
