@@ -1,10 +1,10 @@
 -- Commands with different names, and one more that is found by its name.
-use Rattle.std.proofs.Common.{◌≡◌, refl, ap, subst, ℕ, zero, suc, Bool, true, false, cond, ◌||◌, List, [], ◌∷◌, ◌++◌, map, get_or, Some, None, arith}
+use Rattle.std.proofs.Common.{◌≡◌, refl, ap, sym, subst, ℕ, zero, suc, Bool, true, false, cond, not, ◌||◌, List, [], ◌∷◌, ◌++◌, map, get_or, Some, None, arith}
 use Rattle.std.specs.Prelude.{find}
 use Rattle.std.specs.List.{list_any, slice_get, Contains, AllByRecursion}
 use Rattle.std.proofs.lemmas.List.Elements.{Contains-get_or, Contains-append_right}
 use Rattle.std.specs.Option.{is_some}
-use Rattle.std.proofs.lemmas.Bool.{or_parts}
+use Rattle.std.proofs.lemmas.Bool.{or_parts, false≢true}
 use Rattle.std.proofs.lemmas.Bool.Decides.{nat_tests}
 use Rattle.game_trait.specs.declared.command.Command.{Command}
 use Rattle.game_trait.specs.Keys.{is_named, same_name, NamesDiffer}
@@ -97,3 +97,12 @@ unfolding NamesDiffer
 NamesDiffer-front [] ys h = tt
 NamesDiffer-front (x ∷ xs) ys h =
     (all-first (λ y. same_name x y ≡ false) xs ys h.0, NamesDiffer-front xs ys h.1)
+
+-- what is told of a name by whether it was appended
+pub not-so : (b : Bool) → true ≡ not b → b ≡ false
+not-so true e = absurd (false≢true (sym e))
+not-so false e = refl
+
+pub is-so : (b : Bool) → false ≡ not b → b ≡ true
+is-so true e = refl
+is-so false e = absurd (false≢true e)

@@ -1,5 +1,5 @@
 -- Names in blocks: what a block's entry tells of a name, and what one more name leaves of it.
-use Rattle.std.proofs.Common.{◌≡◌, refl, ◌∙◌, ap, sym, subst, ℕ, zero, suc, ◌+◌, ◌-◌, ◌/◌, ◌<◌, ◌≤◌, inl, inr, false, List, [], ◌∷◌, ◌++◌, length, get_or, set, replicate, Some, arith, length-append}
+use Rattle.std.proofs.Common.{◌≡◌, refl, ◌∙◌, ap, sym, subst, ℕ, zero, suc, ◌+◌, ◌-◌, ◌/◌, ◌<◌, ◌≤◌, inl, inr, true, false, List, [], ◌∷◌, ◌++◌, length, get_or, set, replicate, Some, arith, length-append}
 use Rattle.std.specs.List.{slice_get}
 use Rattle.std.specs.Prelude.{slice_index}
 use Rattle.std.proofs.lemmas.Option.{slice_get_within}
@@ -222,3 +222,33 @@ module _ {names blocks : List (ℕ × ℕ)} {places : List ℕ} (is : AreInBlock
       held = held-push;
       told = told-push;
     }
+
+-- what a name's entry tells, once its block is there
+module _ {names blocks : List (ℕ × ℕ)} {places : List ℕ} (is : AreInBlocks names blocks places)
+    (from number at : ℕ) (more : List (ℕ × ℕ)) (entries : List ℕ)
+    (placed : IsPlaced blocks from (number / 16) at more)
+    (kept : at < length places / 16 → entries ≡ places)
+    (opened : length places / 16 ≤ at → entries ≡ places ++ replicate 16 0) where
+  -- where it holds a place, the name was there, and nothing was opened
+  pub held-before :
+      0 < slice_index entries (entry_of at number)
+      → ((more ≡ blocks) × (entries ≡ places)) × (has_name names from number ≡ true)
+  held-before some =
+      let sixteen = is.sixteen in
+      elim placed [
+        | inl old ↦ (let within = slice_get_within blocks at (from, number / 16) old.0 in
+            let same = kept (omega arith) in
+            let held = ap (λ (l : List ℕ). slice_index l (entry_of at number)) same in
+            let place = slice_index places (entry_of at number) - 1 in
+            ((old.1, same), named-at names from number place (is.told from number at place (old.0, omega arith))))
+        | inr new ↦ absurd (let last = new.1.0 in
+            let made = ap (λ (l : List ℕ). slice_index l (entry_of at number)) (opened (omega arith)) in
+            let nobody = new-entry is from (number / 16) new.0 at number last in
+            omega arith)
+      ]
+
+  -- where it holds none, the name wasn't there
+  pub not-before : slice_index entries (entry_of at number) ≡ 0 → has_name names from number ≡ false
+  not-before none =
+      let block = in-block is from (number / 16) at more entries placed kept opened in
+      not-held block.0 from number at (block.1, none)

@@ -56,8 +56,8 @@ impl CommandList {
         })
     }
 
-    /// Appends the command where none has its mirror and number, and tells whether it did. On want
-    /// of memory the list is unchanged.
+    /// Appends the command where none has its mirror and number, and tells whether it did. It makes
+    /// room for one first. On want of memory the list is unchanged.
     pub fn insert(&mut self, x: &Command) -> Result<bool, AllocError>
         ensures added { IfOk result (λ added. added
             ≡ not (has_command self.old.items x.now.from x.now.number)) }
@@ -68,11 +68,13 @@ impl CommandList {
         ensures room { self.new.room ≡ self.old.room }
         ensures err { OnErr result (self.new ≡ self.old) }
     {
-        if self.has(x.from, x.number) {
-            return Ok(false);
+        self.commands.reserve(1)?;
+        self.names.reserve()?;
+        if self.names.insert_reserved(x.from, x.number) {
+            self.commands.push_reserved(*x);
+            return Ok(true);
         }
-        self.push(x)?;
-        Ok(true)
+        Ok(false)
     }
 
     /// Appends a command, whose mirror and number none has yet. On want of memory the list is

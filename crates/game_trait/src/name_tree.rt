@@ -1,6 +1,6 @@
 //! Names of commands, of which each is found in few steps, whatever names there are.
 
-ghost use Rattle.std.specs.Prelude.{◌≡◌, ◌+◌, ◌/◌, ◌≤◌, ◌<◌, ◌++◌, ◌∷◌, [], false, Some, length, replicate, slice_get, vec_len, vec_capacity, is_some, IfOk, IfSome, OnOk, OnErr};
+ghost use Rattle.std.specs.Prelude.{◌≡◌, ◌+◌, ◌/◌, ◌≤◌, ◌<◌, ◌++◌, ◌∷◌, [], true, false, not, Some, length, replicate, slice_get, vec_len, vec_capacity, is_some, IfOk, IfSome, OnOk, OnErr};
 ghost use Rattle.game_trait.specs.NameTree.{has_name};
 
 use crate::block_tree::BlockTree;
@@ -99,10 +99,27 @@ impl NameTree {
         ensures { self.new
             ≡ record self.old { items = self.old.items ++ (from, number) ∷ [] } }
     {
+        self.insert_reserved(from, number);
+    }
+
+    /// Appends a name where it isn't there yet, and tells whether it did. It takes no memory: there
+    /// is room.
+    pub fn insert_reserved(&mut self, from: MirrorId, number: Number) -> bool
+        requires { length self.old.items < self.old.room }
+        ensures added { result ≡ not (has_name self.old.items from number) }
+        ensures there { has_name self.old.items from number ≡ true → self.new ≡ self.old }
+        ensures new { has_name self.old.items from number ≡ false
+            → self.new ≡ record self.old { items = self.old.items ++ (from, number) ∷ [] } }
+    {
         let at = self.blocks.place(from, number / 16);
         open_block(&mut self.places, at);
+        let entry = 16 * at + (number % 16) as usize;
+        if self.places[entry] > 0 {
+            return false;
+        }
         self.count += 1;
-        self.places[16 * at + (number % 16) as usize] = self.count as u32;
+        self.places[entry] = self.count as u32;
+        true
     }
 
     /// The place of a name among those that were appended, if it is there.
