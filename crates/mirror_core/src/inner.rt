@@ -210,25 +210,43 @@ impl<G: Game> MirrorCore<G> {
         ensures stale { self.new.stale
             ≡ max self.old.stale (repaired_in (Reply.Arrive result)) }
     {
+        let bound = self.last_clock();
+        if x.time < bound {
+            return self.turn_away(x, bound);
+        }
+        if self.names.insert_reserved(x.from, x.number) {
+            self.spare -= 1;
+            self.history.push_reserved(Event::Arrive(*x));
+            self.epochs.renew_due(&self.stack, x.time);
+            let repaired = self.stack.accept(x);
+            self.repairs += u64::from(repaired);
+            return Arrived::Taken { repaired };
+        }
+        Arrived::Repeat
+    }
+
+    // What `arrive` does with a command that is due before the last copy's clock.
+    fn turn_away(&mut self, x: &Command, bound: Tick) -> Arrived
+        requires within_match { x.now.time < self.old.state.length }
+        requires room { 0 < self.old.state.spare }
+        requires bound { bound ≡ last_clock_of self.old.state.runs }
+        requires late { x.now.time < bound }
+        ensures state { self.new.state ≡ next self.old.state (Event.Arrive x.now) }
+        ensures answer { said self.old.state (Event.Arrive x.now) ≡ Reply.Arrive result }
+        ensures stale { self.new.stale
+            ≡ max self.old.stale (repaired_in (Reply.Arrive result)) }
+    {
         if self.names.has(x.from, x.number) {
             return Arrived::Repeat;
         }
-        let bound = self.last_clock();
         self.spare -= 1;
         self.history.push_reserved(Event::Arrive(*x));
-        if x.time < bound {
-            self.turned.push_reserved(Turned {
-                from: x.from,
-                number: x.number,
-                bound,
-            });
-            return Arrived::Late { bound };
-        }
-        self.names.push_reserved(x.from, x.number);
-        self.epochs.renew_due(&self.stack, x.time);
-        let repaired = self.stack.accept(x);
-        self.repairs += u64::from(repaired);
-        Arrived::Taken { repaired }
+        self.turned.push_reserved(Turned {
+            from: x.from,
+            number: x.number,
+            bound,
+        });
+        Arrived::Late { bound }
     }
 
     /// Whether a command with this mirror and number was accepted.
