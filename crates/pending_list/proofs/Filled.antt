@@ -4,7 +4,6 @@ use Rattle.std.proofs.lemmas.Bool.{cases_lt}
 use Rattle.std.proofs.lemmas.List.{length-map, map-set, append_assoc, drop_more}
 use Rattle.std.specs.List.{insert}
 use Rattle.pending_list.specs.declared.sized.Placed.{Placed}
-use Rattle.pending_list.specs.declared.keyed.Keyed.{Keyed}
 use Rattle.pending_list.specs.Sized.{joined, AreBuckets}
 use Rattle.pending_list.specs.Keyed.{placed_of}
 use Rattle.pending_list.proofs.Cut.{joined-is, get-set}
@@ -49,7 +48,7 @@ empty-more f buckets i now there none h k below =
 
 -- one slot more stands at the end
 pub items-more :
-    (order now : List Placed) (ys : List Keyed) (i place : ℕ) (d : Keyed) → i < length ys
+    (order now : List Placed) (ys : List ℕ) (i place : ℕ) (d : ℕ) → i < length ys
     → order ++ map placed_of (drop i ys) ≡ map placed_of ys → length order ≡ place → now ≡ insert order place (placed_of (get_or ys i d))
     → (now ++ map placed_of (drop (i + 1) ys) ≡ map placed_of ys) × (length now ≡ place + 1)
 items-more order now ys i place d below items long put =
@@ -58,6 +57,6 @@ items-more order now ys i place d below items long put =
     let pushed : now ≡ order ++ y ∷ [] = put ∙ ap (λ (n : ℕ). insert order n y) (sym long) ∙ insert-end order y in
     let more = length-append order (y ∷ []) in (
       ap (λ (l : List Placed). l ++ rest) pushed ∙ append_assoc order (y ∷ []) rest
-          ∙ ap (λ (l : List Keyed). order ++ map placed_of l) (sym (drop_more ys i d below)) ∙ items,
+          ∙ ap (λ (l : List ℕ). order ++ map placed_of l) (sym (drop_more ys i d below)) ∙ items,
       ap (λ (l : List Placed). length l) pushed ∙ omega arith,
     )

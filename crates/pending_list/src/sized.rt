@@ -8,7 +8,7 @@ ghost use Rattle.std.specs.VecDeque.{deque_len, deque_capacity};
 ghost use Rattle.pending_list.specs.Sized.{joined, AreBuckets};
 ghost use Rattle.pending_list.specs.Keyed.{placed_of};
 
-use crate::keyed::Keyed;
+use crate::keyed::placed;
 use game_trait::Tick;
 use std::alloc::Global;
 use std::collections::VecDeque;
@@ -156,22 +156,18 @@ fn empty(buckets: &mut Vec<VecDeque<Placed>>)
 
 /// Puts the slots of sorted commands in the place of all that the buckets hold, where there is room
 /// for them.
-pub fn fill(buckets: &mut Vec<VecDeque<Placed>>, keyed: &[Keyed])
-    requires room { length keyed.now < 2048 * length buckets.old.items }
+pub fn fill(buckets: &mut Vec<VecDeque<Placed>>, keys: &[u64])
+    requires room { length keys.now < 2048 * length buckets.old.items }
     requires capacities { AllByRecursion (λ b. 2048 ≤ deque_capacity b) buckets.old.items }
-    ensures items { joined (map (λ b. b.items) buckets.new.items) ≡ map placed_of keyed.now }
+    ensures items { joined (map (λ b. b.items) buckets.new.items) ≡ map placed_of keys.now }
     ensures cut { AreBuckets (joined (map (λ b. b.items) buckets.new.items)) (map (λ b. b.items) buckets.new.items) }
     ensures len { length buckets.new.items ≡ length buckets.old.items }
     ensures capacities { AllByRecursion (λ b. 2048 ≤ deque_capacity b) buckets.new.items }
 {
     empty(buckets);
     let mut place = 0;
-    for y in keyed {
-        let placed = Placed {
-            time: y.time,
-            slot: y.slot,
-        };
-        put_at(buckets, place, placed);
+    for key in keys {
+        put_at(buckets, place, placed(*key));
         place += 1;
     }
 }

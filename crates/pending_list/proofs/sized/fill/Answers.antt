@@ -3,12 +3,12 @@ use Rattle.pending_list.specs.Sized.{joined}
 use Rattle.pending_list.proofs.Filled.{items-more}
 use Rattle.pending_list.proofs.sized.fill.Goals as goal
 
-pub loop-y-preserved : goal.loop-y-preserved
-loop-y-preserved c =
-    let inv = c.loop-y.invariant in
+pub loop-key-preserved : goal.loop-key-preserved
+loop-key-preserved c =
+    let inv = c.loop-key.invariant in
     let more =
-    items-more (joined (map (λ b. b.items) c.loop-y.buckets.items)) (joined (map (λ b. b.items) c.put_at.new.buckets.items))
-    c.args.keyed.now c.loop-y.y-index c.loop-y.place _ c.loop-y-test.true inv.items inv.place c.put_at.ensures.items in
+    items-more (joined (map (λ b. b.items) c.loop-key.buckets.items)) (joined (map (λ b. b.items) c.put_at.new.buckets.items))
+    c.args.keys.now c.loop-key.key-index c.loop-key.place _ c.loop-key-test.true inv.items inv.place (rw c.placed.ensures at c.put_at.ensures.items) in
     record {
       items = more.0;
       at = (let same = inv.at in omega arith);
