@@ -37,7 +37,7 @@ pub fn diverges(run: &Segments, place: u32, list: &InOrder, start: u32, t: Tick)
     ensures first { IfSome result (λ i. (place ≤ i)
         × DiffersFirstAt (drop place run.now.items) (tick_of list.now.all t) (i - place)) }
 {
-    let _ = run.len();
+    run.always();
     let mut next = start;
     let mut at = place;
     while let Some(x) = list.due(next, t) {

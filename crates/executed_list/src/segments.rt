@@ -1,7 +1,7 @@
 //! One list with an end for each copy.
 
-ghost use Rattle.std.specs.Prelude.{◌≡◌, ◌+◌, ◌-◌, ◌<◌, ◌≤◌, IfOk, [], ◌∷◌, ◌++◌, length, take, drop};
-ghost use Rattle.std.specs.Prelude.{replicate, slice_get, slice_set};
+ghost use Rattle.std.specs.Prelude.{◌≡◌, ◌+◌, ◌-◌, ◌^◌, ◌<◌, ◌≤◌, IfOk, [], ◌∷◌, ◌++◌, length, take};
+ghost use Rattle.std.specs.Prelude.{drop, replicate, slice_get, slice_set};
 ghost use Rattle.game_trait.specs.declared.limits.TheConstants.{MOST_COPIES};
 ghost use Rattle.game_trait.specs.Run.{beats};
 ghost use Rattle.executed_list.specs.Segments.{clocks_at, end_of, filled, raised, Falls};
@@ -148,12 +148,20 @@ impl Segments {
         self.clocks[c] = clock;
     }
 
-    /// How many items there are. No copy's end is past the end of the copy ahead, and copy 0's is
-    /// the list's.
-    pub fn len(&self) -> u32
-        ensures len { result ≡ length self.now.items }
+    /// What always holds of the list: no copy's end is past the end of the copy ahead, copy 0's is the
+    /// list's, and the items can be counted. It does nothing.
+    #[inline(always)]
+    pub fn always(&self)
         ensures falls { Falls self.now.ends }
         ensures first { end_of self.now.ends 0 ≡ length self.now.items }
+        ensures few { length self.now.items < 2 ^ 32 }
+    {
+        let _ = &self.items;
+    }
+
+    /// How many items there are.
+    pub fn len(&self) -> u32
+        ensures { result ≡ length self.now.items }
     {
         self.items.len() as u32
     }

@@ -17,7 +17,7 @@ fn append_commands(list: &InOrder, start: u32, t: Tick, run: &mut Segments) -> u
     ensures run { run.new ≡ run_grown run.old (map Cmd (due_at list.now.all t)) }
     ensures next { result ≡ start_of list.now.all (t + 1) }
 {
-    let _ = run.len();
+    run.always();
     let mut place = start;
     while let Some(x) = list.due(place, t) {
         run.push(&Item::Cmd(x));
@@ -59,7 +59,7 @@ pub fn append_ticks(list: &InOrder, place: u32, start: Tick, stop: Tick, run: &m
     ensures run { run.new ≡ run_grown run.old (ordered list.now.all start stop) }
     ensures next { result ≡ start_of list.now.all stop }
 {
-    let _ = run.len();
+    run.always();
     let mut place = place;
     for t in start..stop {
         place = append_from(list, place, t, run);

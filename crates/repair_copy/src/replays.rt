@@ -26,7 +26,7 @@ fn replay_commands<G: Game>(
     ensures world { world.new ≡ world_of G.rules world.old (map Cmd (due_at list.now.all t)) }
     ensures next { result ≡ start_of list.now.all (t + 1) }
 {
-    let _ = run.len();
+    run.always();
     let mut place = start;
     while let Some(x) = list.due(place, t) {
         run.push(&Item::Cmd(x));
@@ -66,7 +66,7 @@ pub fn replay<G: Game>(world: &mut G, list: &InOrder, start: Tick, stop: Tick, r
     ensures run { run.new ≡ run_grown run.old (ordered list.now.all start stop) }
     ensures world { world.new ≡ world_of G.rules world.old (ordered list.now.all start stop) }
 {
-    let _ = run.len();
+    run.always();
     let mut place = list.start(start);
     for t in start..stop {
         place = replay_tick(world, list, place, t, run);

@@ -83,11 +83,10 @@ module _ (front : List Item) (b : ℕ) where
   left-prefix : (p q : List Item) → IsPrefix (whole_run front b q) (whole_run front b p) → IsPrefix q p
   left-prefix p q h =
       let e : map (later_item b) p ≡ map (later_item b) q ++ h.0 =
-      append_cancel_left front (map (later_item b) p) (map (later_item b) q ++ h.0) (h.1 ∙ append_assoc front (map (later_item b) q) h.0) in
-      (
+      append_cancel_left front (map (later_item b) p) (map (later_item b) q ++ h.0) (h.1 ∙ append_assoc front (map (later_item b) q) h.0) in (
         map (earlier_item b) h.0,
         sym (earlier-later b p) ∙ ap (map (earlier_item b)) e ∙ map-append (earlier_item b) (map (later_item b) q) h.0
-        ∙ ap (λ (l : List Item). l ++ map (earlier_item b) h.0) (earlier-later b q),
+            ∙ ap (λ (l : List Item). l ++ map (earlier_item b) h.0) (earlier-later b q),
       )
 
   begins-whole : (p q : List Item) → begins_with (whole_run front b p) (whole_run front b q) ≡ begins_with p q
@@ -237,9 +236,9 @@ any-split b p (x ∷ xs) =
     ≡ list_any p (cond v (x ∷ filter (λ y. ltb y.time b) xs) (filter (λ y. ltb y.time b) xs))
     || list_any p (cond (not v) (x ∷ filter (λ y. leb b y.time) xs) (filter (λ y. leb b y.time) xs))) [
       | true ↦ rw rest (elim (p x) as (λ v. v || (list_any p (filter (λ y. ltb y.time b) xs) || list_any p (filter (λ y. leb b y.time) xs))
-        ≡ (v || list_any p (filter (λ y. ltb y.time b) xs)) || list_any p (filter (λ y. leb b y.time) xs)) [ true ↦ refl | false ↦ refl ])
+          ≡ (v || list_any p (filter (λ y. ltb y.time b) xs)) || list_any p (filter (λ y. leb b y.time) xs)) [ true ↦ refl | false ↦ refl ])
       | false ↦ rw rest (elim (list_any p (filter (λ y. ltb y.time b) xs)) as (λ v. p x || (v || list_any p (filter (λ y. leb b y.time) xs))
-        ≡ v || (p x || list_any p (filter (λ y. leb b y.time) xs))) [ true ↦ elim (p x) as (λ u. u || true ≡ true) [ true ↦ refl | false ↦ refl ] | false ↦ refl ])
+          ≡ v || (p x || list_any p (filter (λ y. leb b y.time) xs))) [ true ↦ elim (p x) as (λ u. u || true ≡ true) [ true ↦ refl | false ↦ refl ] | false ↦ refl ])
     ])
 
 named-later : (b : ℕ) (x : Command) (ys : List Command) → list_any (same_name (later b x)) (map (later b) ys) ≡ list_any (same_name x) ys
@@ -317,8 +316,7 @@ module _ {W : Type 0} (rules : Rules W) (b : ℕ) (whole left : MirrorState W) (
   unfolding later_reply
   tick-left-over =
       let w = ticked whole before in
-      let l = ticked left before_left in
-      (
+      let l = ticked left before_left in (
         rw (w.0, l.0) (record {
           some_copy = h.some_copy;
           opening = h.opening;
@@ -334,19 +332,18 @@ module _ {W : Type 0} (rules : Rules W) (b : ℕ) (whole left : MirrorState W) (
   restagger-left-over :
       (p : ℕ) → IsLeft rules b (next whole (Restagger p)) (next left (Restagger p)) × (said whole (Restagger p) ≡ later_reply b (said left (Restagger p)))
   unfolding next said later_reply
-  restagger-left-over p =
-      (
-        record {
-          some_copy = h.some_copy;
-          opening = h.opening;
-          plans = h.plans;
-          plan = refl;
-          clock = h.clock;
-          accepted = h.accepted;
-          runs = h.runs;
-        },
-        refl,
-      )
+  restagger-left-over p = (
+    record {
+      some_copy = h.some_copy;
+      opening = h.opening;
+      plans = h.plans;
+      plan = refl;
+      clock = h.clock;
+      accepted = h.accepted;
+      runs = h.runs;
+    },
+    refl,
+  )
 
   same-idle : (c : ℕ) → c < length left.runs → is_idle whole c ≡ is_idle left c
   unfolding step_limit limit_at
@@ -382,8 +379,7 @@ module _ {W : Type 0} (rules : Rules W) (b : ℕ) (whole left : MirrorState W) (
             let counted =
             ap (repaired whole.accepted) (steps-whole c there)
             ∙ repaired-whole b whole.accepted left.accepted h.accepted (ordered whole.accepted 0 b) (long rules b whole left h) (proposed_by_step left.accepted left.runs c) in
-            let some = h.some_copy in
-            (
+            let some = h.some_copy in (
               rw (w.0, l.0) (record {
                 some_copy =
                     omega (
@@ -468,8 +464,7 @@ module _ {W : Type 0} (rules : Rules W) (b : ℕ) (whole left : MirrorState W) (
                 | true ↦ λ old.
                     let w = turned_away_late whole (later b x) (same-repeat ∙ e) (same-late ∙ old) in
                     let l = turned_away_late left x e old in
-                    let bound : last_clock whole.runs ≡ last_clock left.runs + b = (last-clocks rules b whole left h) ∙ omega arith in
-                    (
+                    let bound : last_clock whole.runs ≡ last_clock left.runs + b = (last-clocks rules b whole left h) ∙ omega arith in (
                       rw (w.0, l.0) (record {
                         some_copy = h.some_copy;
                         opening = h.opening;

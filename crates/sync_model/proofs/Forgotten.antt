@@ -116,13 +116,12 @@ all-last P x (y ∷ ys) here all = all-last P y ys all.0 all.1
 none-counted : (k : ℕ) (xs : List Command) → times (λ x. ltb x.time k) xs ≡ 0 → AllByRecursion (λ x. k ≤ x.time) xs
 unfolding times
 none-counted k [] none = tt
-none-counted k (x ∷ xs) none =
-    (
-      elim (ltb x.time k) as (λ v. ltb x.time k ≡ v → cond {A = ℕ} v 1 0 + times (λ y. ltb y.time k) xs ≡ 0 → k ≤ x.time)
+none-counted k (x ∷ xs) none = (
+  elim (ltb x.time k) as (λ v. ltb x.time k ≡ v → cond {A = ℕ} v 1 0 + times (λ y. ltb y.time k) xs ≡ 0 → k ≤ x.time)
       [ true ↦ λ e n. absurd (omega arith) | false ↦ λ e n. grind (arith, nat_tests) ]
       refl none,
-      none-counted k xs (omega arith),
-    )
+  none-counted k xs (omega arith),
+)
 
 -- behind the last copy's run a run has no command that is older than the last copy's clock
 behind-the-last :

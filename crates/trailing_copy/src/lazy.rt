@@ -114,7 +114,6 @@ impl<G: Game> LazyStack<G> {
         ensures names { NamesDiffer self.now.accepted }
         ensures due { AllByRecursion (λ x. x.time < self.now.ticks) self.now.accepted }
     {
-        let _ = self.run.len();
         let _ = self.list.all();
     }
 
@@ -124,7 +123,7 @@ impl<G: Game> LazyStack<G> {
         requires { copy < length self.now.runs }
         ensures { result ≡ start_of self.now.accepted (copy_clock self.now.runs copy) }
     {
-        let _ = self.run.len();
+        self.run.always();
         self.run.end(copy) - self.run.beats(copy)
     }
 
@@ -150,7 +149,7 @@ impl<G: Game> LazyStack<G> {
         ensures repaired { copy
             ≡ repaired self.old.accepted (proposed_by_step self.old.accepted self.old.runs copy) }
     {
-        let _ = self.run.len();
+        self.run.always();
         let t = self.run.beats(copy);
         let start = self.due_start(copy);
         let clocks = kept_with(self.run.clocks(), copy, t + 1);
@@ -159,7 +158,7 @@ impl<G: Game> LazyStack<G> {
         self.run.cut(copy);
         let from = self.run.len();
         append_tick(&list, start, t, &mut self.run);
-        let _ = self.run.len();
+        self.run.always();
         execute_or_put(&mut self.worlds, self.stale, copy, &list, start, t, given);
         bring_to_list_end(&mut self.run, copy, from);
         remake_runs_ahead(&mut self.run, &list, &clocks, copy);
@@ -187,7 +186,7 @@ impl<G: Game> LazyStack<G> {
         ensures repaired { 0
             ≡ repaired self.old.accepted (proposed_by_step self.old.accepted self.old.runs copy) }
     {
-        let _ = self.run.len();
+        self.run.always();
         let t = self.run.beats(copy);
         let start = self.due_start(copy);
         self.list.settle();
@@ -205,7 +204,7 @@ impl<G: Game> LazyStack<G> {
             (with_tick self.old.accepted (slice_index_or self.old.runs copy [])) }
         ensures same { self.new ≡ self.old }
     {
-        let _ = self.run.len();
+        self.run.always();
         let t = self.run.beats(copy);
         let start = self.due_start(copy);
         let place = self.run.end(copy);
@@ -307,7 +306,7 @@ impl<G: Game> LazyStack<G> {
           stale = max self.old.stale first;
         } }
     {
-        let _ = self.run.len();
+        self.run.always();
         self.list.insert(x);
         let stale = self.stale.max(first);
         apply_to_each(&mut self.worlds, stale, last, x);
@@ -340,7 +339,7 @@ impl<G: Game> LazyStack<G> {
           spare = self.old.spare - 1;
         } }
     {
-        let _ = self.run.len();
+        self.run.always();
         self.list.insert(x);
     }
 
@@ -364,7 +363,7 @@ impl<G: Game> LazyStack<G> {
         ensures repaired { result
             ≡ repaired (self.old.accepted ++ x.now ∷ []) (proposed_by_arrival x.now self.old.runs) }
     {
-        let _ = self.run.len();
+        self.run.always();
         let late = count_above(self.run.clocks(), x.time);
         if late == 0 {
             self.arrive_early(x);
@@ -382,7 +381,6 @@ impl<G: Game> LazyStack<G> {
     pub fn refresh(&mut self)
         ensures { self.new ≡ record self.old { stale = 0 } }
     {
-        let _ = self.run.len();
         make_worlds(&mut self.worlds, &self.run, self.stale);
         self.stale = 0;
     }
@@ -392,7 +390,6 @@ impl<G: Game> LazyStack<G> {
     pub fn defer(&mut self)
         ensures { self.new ≡ record self.old { stale = length self.old.runs - 1 } }
     {
-        let _ = self.run.len();
         self.stale = self.run.copies() - 1;
     }
 
@@ -426,7 +423,7 @@ impl<G: Game> LazyStack<G> {
         ensures len { result ≡ length (due_at self.old.accepted (copy_clock self.old.runs copy)) }
         ensures same { self.new ≡ self.old }
     {
-        let _ = self.run.len();
+        self.run.always();
         let start = self.due_start(copy);
         self.list.settle();
         self.list.in_order().end(start, self.run.beats(copy)) - start
@@ -442,7 +439,6 @@ impl<G: Game> LazyStack<G> {
             ≡ due_at self.old.accepted (copy_clock self.old.runs copy) }
         ensures same { self.new ≡ self.old }
     {
-        let _ = self.run.len();
         let start = self.due_start(copy);
         self.list.settle();
         due_into(&self.list.in_order(), start, self.run.beats(copy), commands);
@@ -453,7 +449,7 @@ impl<G: Game> LazyStack<G> {
         requires { copy < length self.now.runs }
         ensures { result ≡ copy_clock self.now.runs copy }
     {
-        let _ = self.run.len();
+        self.run.always();
         self.run.beats(copy)
     }
 
@@ -465,7 +461,7 @@ impl<G: Game> LazyStack<G> {
         ensures { result.now
             ≡ world_of G.rules self.now.opening (slice_index_or self.now.runs copy []) }
     {
-        let _ = self.run.len();
+        self.run.always();
         &self.worlds[copy as usize]
     }
 
@@ -477,7 +473,7 @@ impl<G: Game> LazyStack<G> {
         ensures { result
             ≡ world_of G.rules self.now.opening (slice_index_or self.now.runs copy []) }
     {
-        let _ = self.run.len();
+        self.run.always();
         let from = self.stale.max(copy);
         let mut world = self.worlds[from as usize].twin();
         let (start, stop) = (self.run.end(from), self.run.end(copy));
@@ -490,7 +486,7 @@ impl<G: Game> LazyStack<G> {
         requires { copy < length self.now.runs }
         ensures { result ≡ length (slice_index_or self.now.runs copy []) }
     {
-        let _ = self.run.len();
+        self.run.always();
         self.run.end(copy)
     }
 
@@ -500,7 +496,7 @@ impl<G: Game> LazyStack<G> {
         requires place { place < length (slice_index_or self.now.runs copy []) }
         ensures { slice_get (slice_index_or self.now.runs copy []) place ≡ Some result }
     {
-        let _ = self.run.len();
+        self.run.always();
         self.run.item(place)
     }
 }

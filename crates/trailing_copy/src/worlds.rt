@@ -73,7 +73,7 @@ pub fn make_worlds<G: Game>(worlds: &mut Vec<G>, run: &Segments, stale: u8)
         → AreWorlds G.rules opening run.now 0 worlds.new.items }
     ensures len { vec_len worlds.new ≡ vec_len worlds.old }
 {
-    let _ = run.len();
+    run.always();
     let mut c = stale;
     while c > 0 {
         c -= 1;

@@ -35,8 +35,7 @@ overflow_add-at c =
     (let there =
     slice_get_within c.args.run.now.items c.loop-x.at _
     (c.stands_at.ensures.stands.0 c.if-not-stands_at.false) in
-    let len = c.len.ensures.len in
-    let small = c.len.type_inv in
+    let small = c.always.ensures.few in
     omega arith)
 
 pub loop-x-smaller : goal.loop-x-smaller

@@ -8,7 +8,7 @@ loop-x-init c = record {
   walked = (walk-begun c.args.list.now.all c.args.t c.args.start c.requires.start).0;
   run =
       appended-none c.args.list.now.all c.args.t c.args.start c.args.run.now c.requires.start
-      c.len.ensures.first;
+      c.always.ensures.first;
 }
 
 pub push-requires : goal.push-requires

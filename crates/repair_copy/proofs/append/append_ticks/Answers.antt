@@ -11,7 +11,7 @@ loop-t-init c =
     let none : ordered c.args.list.now.all c.args.start c.args.start ≡ [] =
     ordered-empty c.args.list.now.all c.args.start c.args.start (omega arith) in
     record {
-      run = grown-none c.args.run.now c.len.ensures.first ∙ ap (run_grown c.args.run.now) (sym none);
+      run = grown-none c.args.run.now c.always.ensures.first ∙ ap (run_grown c.args.run.now) (sym none);
       place = c.requires.place;
     }
 

@@ -13,7 +13,7 @@ loop-t-init g c =
     let none : ordered c.args.list.now.all c.args.start c.args.start ≡ [] =
     ordered-empty c.args.list.now.all c.args.start c.args.start (omega arith) in
     record {
-      run = grown-none c.args.run.now c.len.ensures.first ∙ ap (run_grown c.args.run.now) (sym none);
+      run = grown-none c.args.run.now c.always.ensures.first ∙ ap (run_grown c.args.run.now) (sym none);
       world = world_of-none g.G.Game.rules c.args.world.now ∙ ap (world_of g.G.Game.rules c.args.world.now) (sym none);
       place = c.start-place.ensures.start;
     }

@@ -9,7 +9,7 @@ loop-x-init g c = record {
   walked = (walk-begun c.args.list.now.all c.args.t c.args.start c.requires.start).0;
   run =
       appended-none c.args.list.now.all c.args.t c.args.start c.args.run.now c.requires.start
-      c.len.ensures.first;
+      c.always.ensures.first;
   world =
       executed-none g.G.Game.rules c.args.list.now.all c.args.t c.args.start c.args.world.now
       c.requires.start;

@@ -7,7 +7,7 @@ pub loop-c-preserved : goal.loop-c-preserved
 loop-c-preserved c =
     let there = c.requires.there in
     let inside = c.loop-c-test.true in
-    let len = c.len.ensures.len in
+    let len = c.len.ensures in
     let upto = c.requires.upto in
     let own : end_of c.loop-c.run.ends c.loop-c.c ≡ c.args.from =
     ap (λ (l : OneList). end_of l.ends c.loop-c.c) c.loop-c.invariant

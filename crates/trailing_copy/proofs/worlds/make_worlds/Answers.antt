@@ -23,7 +23,7 @@ execute_items-requires-clause-order g c =
     let some = c.loop-c-test.true in
     let there = c.requires.there in
     rw (c.end.ensures, c.end-in-loop-c.ensures)
-    (falls-between c.args.run.now.ends (c.loop-c.c - 1) (c.loop-c.c - 1 + 1) c.len.ensures.falls
+    (falls-between c.args.run.now.ends (c.loop-c.c - 1) (c.loop-c.c - 1 + 1) c.always.ensures.falls
     (omega arith) (omega arith))
 
 pub execute_items-requires-clause-there : goal.execute_items-requires-clause-there
@@ -31,9 +31,9 @@ execute_items-requires-clause-there g c =
     let upto = c.loop-c.invariant.upto in
     let some = c.loop-c-test.true in
     let there = c.requires.there in
-    let first = c.len.ensures.first in
+    let first = c.always.ensures.first in
     let most =
-    falls-between c.args.run.now.ends 0 (c.loop-c.c - 1) c.len.ensures.falls (omega arith)
+    falls-between c.args.run.now.ends 0 (c.loop-c.c - 1) c.always.ensures.falls (omega arith)
     (omega arith) in
     omega arith
 
@@ -59,7 +59,7 @@ loop-c-preserved g c =
       made =
           made-next g.G.Game.rules c.args.run.now c.args.stale (c.loop-c.c - 1)
           c.args.worlds.now.items c.loop-c.worlds.items c.copy_down.new.worlds.items
-          c.index_mut.result.now c.execute_items.new.world c.len.ensures.falls (omega arith) many
+          c.index_mut.result.now c.execute_items.new.world c.always.ensures.falls (omega arith) many
           c.copy_down.ensures.worlds c.index_mut.ensures.value
           (rw (c.end.ensures, c.end-in-loop-c.ensures) at c.execute_items.ensures) made;
     }

@@ -7,6 +7,6 @@ use Rattle.trailing_copy.proofs.lazy.LazyStack.clock.Goals as goal
 pub returns : goal.returns
 returns g c =
     let there = rw (← c.self.view_is) at c.requires in
-    let many = run-many c.self.invariant.0 c.len.ensures.falls c.len.ensures.first in
-    rw (← c.self.view_is) (clock-read c.self.invariant.0 c.len.ensures.falls c.len.ensures.first
+    let many = run-many c.self.invariant.0 c.always.ensures.falls c.always.ensures.first in
+    rw (← c.self.view_is) (clock-read c.self.invariant.0 c.always.ensures.falls c.always.ensures.first
     c.args.copy _ (omega arith) (clock-own _ _ c.args.copy _ there c.beats.ensures))

@@ -12,7 +12,7 @@ overflow_sub-result g c =
     let there = rw (← c.self.view_is) at c.requires.there in
     let clock = clock-own _ _ c.args.copy c.beats.result there c.beats.ensures in
     let from =
-    start-at c.self.invariant.0 c.len.ensures.falls c.len.ensures.first c.args.copy c.beats.result _ there clock
+    start-at c.self.invariant.0 c.always.ensures.falls c.always.ensures.first c.args.copy c.beats.result _ there clock
     (rw (← c.self.view_is) at c.due_start-start.ensures) in
     (let more = start-next c.self.inside.list.all c.beats.result in let to = rw (c.in_order.ensures, c.settle.ensures) at c.end.ensures in omega arith)
 
@@ -20,7 +20,7 @@ pub end-requires-clause-start : goal.end-requires-clause-start
 end-requires-clause-start g c =
     let there = rw (← c.self.view_is) at c.requires.there in
     rw (c.in_order.ensures, c.settle.ensures)
-    (start-at c.self.invariant.0 c.len.ensures.falls c.len.ensures.first c.args.copy c.beats.result _ there
+    (start-at c.self.invariant.0 c.always.ensures.falls c.always.ensures.first c.args.copy c.beats.result _ there
     (clock-own _ _ c.args.copy c.beats.result there c.beats.ensures)
     (rw (← c.self.view_is) at c.due_start-start.ensures))
 
@@ -32,10 +32,10 @@ returns-clause-len g c =
     let there = rw (← c.self.view_is) at c.requires.there in
     let clock = clock-own _ _ c.args.copy c.beats.result there c.beats.ensures in
     let from =
-    start-at c.self.invariant.0 c.len.ensures.falls c.len.ensures.first c.args.copy c.beats.result _ there clock
+    start-at c.self.invariant.0 c.always.ensures.falls c.always.ensures.first c.args.copy c.beats.result _ there clock
     (rw (← c.self.view_is) at c.due_start-start.ensures) in
-    let many = run-many c.self.invariant.0 c.len.ensures.falls c.len.ensures.first in
+    let many = run-many c.self.invariant.0 c.always.ensures.falls c.always.ensures.first in
     rw (← c.self.view_is)
     (subst (λ (t : ℕ). c.end.result - c.due_start-start.result ≡ length (due_at c.self.inside.list.all t))
-    (clock-read c.self.invariant.0 c.len.ensures.falls c.len.ensures.first c.args.copy c.beats.result (omega arith) clock)
+    (clock-read c.self.invariant.0 c.always.ensures.falls c.always.ensures.first c.args.copy c.beats.result (omega arith) clock)
     (let more = start-next c.self.inside.list.all c.beats.result in let to = rw (c.in_order.ensures, c.settle.ensures) at c.end.ensures in omega arith))

@@ -9,14 +9,14 @@ pub diverges-requires-clause-place : goal.diverges-requires-clause-place
 diverges-requires-clause-place g c =
     (let there = rw (← c.self.view_is) at c.requires.copy in
     let inside = there.1 in
-    let many = run-many c.self.invariant.0 c.len.ensures.falls c.len.ensures.first in
+    let many = run-many c.self.invariant.0 c.always.ensures.falls c.always.ensures.first in
     rw c.end-place.ensures
-    (end-inside c.self.invariant.0 c.len.ensures.falls c.len.ensures.first c.args.copy (omega arith)))
+    (end-inside c.self.invariant.0 c.always.ensures.falls c.always.ensures.first c.args.copy (omega arith)))
 
 pub diverges-requires-clause-start : goal.diverges-requires-clause-start
 diverges-requires-clause-start g c =
     let there = (rw (← c.self.view_is) at c.requires.copy).1 in
-    rw (c.in_order.ensures, c.settle.ensures) (start-at c.self.invariant.0 c.len.ensures.falls c.len.ensures.first c.args.copy c.beats-t.result _ there
+    rw (c.in_order.ensures, c.settle.ensures) (start-at c.self.invariant.0 c.always.ensures.falls c.always.ensures.first c.args.copy c.beats-t.result _ there
     (clock-own _ _ c.args.copy c.beats-t.result there c.beats-t.ensures)
     (rw (← c.self.view_is) at c.due_start-start.ensures))
 
@@ -29,6 +29,6 @@ returns-clause-front g c =
     rw (← c.self.view_is)
     (none-told c.is_none.result c.diverges.result c.is_none.ensures
     ∙ none-stands c.diverges.result _ _ (rw (c.end-place.ensures, c.in_order.ensures, c.settle.ensures) at c.diverges.ensures.none)
-    ∙ test-same c.self.invariant.0 c.len.ensures.falls c.len.ensures.first c.args.copy
+    ∙ test-same c.self.invariant.0 c.always.ensures.falls c.always.ensures.first c.args.copy
     c.beats-t.result there.0 there.1 (clock-own _ _ c.args.copy c.beats-t.result there.1 c.beats-t.ensures)
     (rw (← c.self.view_is) at c.requires.behind))

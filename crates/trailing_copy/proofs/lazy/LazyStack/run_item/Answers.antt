@@ -15,9 +15,9 @@ get-taken (x ∷ xs) (suc n) (suc i) low = get-taken xs n i (omega arith)
 pub item-requires : goal.item-requires
 item-requires g c =
     (let there = rw (← c.self.view_is) at c.requires.copy in
-    let many = run-many c.self.invariant.0 c.len.ensures.falls c.len.ensures.first in
-    let own = ap (λ (l : List Item). length l) (run-at c.self.invariant.0 c.len.ensures.falls c.len.ensures.first c.args.copy (omega arith)) in
-    let inside = end-inside c.self.invariant.0 c.len.ensures.falls c.len.ensures.first c.args.copy (omega arith) in
+    let many = run-many c.self.invariant.0 c.always.ensures.falls c.always.ensures.first in
+    let own = ap (λ (l : List Item). length l) (run-at c.self.invariant.0 c.always.ensures.falls c.always.ensures.first c.args.copy (omega arith)) in
+    let inside = end-inside c.self.invariant.0 c.always.ensures.falls c.always.ensures.first c.args.copy (omega arith) in
     let long = length-take-le _ c.self.inside.run.items inside in
     let place = rw (← c.self.view_is) at c.requires.place in
     omega arith)
@@ -25,11 +25,11 @@ item-requires g c =
 pub returns : goal.returns
 returns g c =
     let there = rw (← c.self.view_is) at c.requires.copy in
-    let many = run-many c.self.invariant.0 c.len.ensures.falls c.len.ensures.first in
+    let many = run-many c.self.invariant.0 c.always.ensures.falls c.always.ensures.first in
     let run =
-    run-at c.self.invariant.0 c.len.ensures.falls c.len.ensures.first c.args.copy (omega arith) in
+    run-at c.self.invariant.0 c.always.ensures.falls c.always.ensures.first c.args.copy (omega arith) in
     let own = ap (λ (l : List Item). length l) run in
-    let inside = end-inside c.self.invariant.0 c.len.ensures.falls c.len.ensures.first c.args.copy (omega arith) in
+    let inside = end-inside c.self.invariant.0 c.always.ensures.falls c.always.ensures.first c.args.copy (omega arith) in
     let long = length-take-le _ c.self.inside.run.items inside in
     let place = rw (← c.self.view_is) at c.requires.place in
     rw (← c.self.view_is)

@@ -7,9 +7,9 @@ use Rattle.std.proofs.lemmas.List.{length-take-le}
 pub returns : goal.returns
 returns g c =
     let there = rw (← c.self.view_is) at c.requires in
-    let many = run-many c.self.invariant.0 c.len.ensures.falls c.len.ensures.first in
+    let many = run-many c.self.invariant.0 c.always.ensures.falls c.always.ensures.first in
     rw (← c.self.view_is)
     (c.end.ensures ∙ sym (ap (λ (l : List Item). length l)
-    (run-at c.self.invariant.0 c.len.ensures.falls c.len.ensures.first c.args.copy (omega arith))
+    (run-at c.self.invariant.0 c.always.ensures.falls c.always.ensures.first c.args.copy (omega arith))
     ∙ length-take-le _ c.self.inside.run.items
-    (end-inside c.self.invariant.0 c.len.ensures.falls c.len.ensures.first c.args.copy (omega arith))))
+    (end-inside c.self.invariant.0 c.always.ensures.falls c.always.ensures.first c.args.copy (omega arith))))

@@ -23,7 +23,7 @@ changed :
     (settle all (set runs c.args.copy (with_tick all (get_or runs c.args.copy []))))
 changed g c =
     let there = rw (← c.self.view_is) at c.requires.copy in
-    apart-change c.self.invariant.0 c.len.ensures.falls c.len.ensures.first c.args.copy
+    apart-change c.self.invariant.0 c.always.ensures.falls c.always.ensures.first c.args.copy
     c.beats-t.result there (clock-own _ _ c.args.copy c.beats-t.result there c.beats-t.ensures)
     (rw (← c.self.view_is) at c.requires.below) (rw (← c.self.view_is) at c.requires.behind)
     (rw (← c.self.view_is) at c.requires.apart)
@@ -32,13 +32,13 @@ pub append_tick-requires-clause-room : goal.append_tick-requires-clause-room
 append_tick-requires-clause-room g c =
     let change = changed g (goal.at.append_tick-requires-clause-room g c).After-beats-t in
     rw (c.in_order-list.ensures, c.settle.ensures)
-    (room-before c.self.invariant.0 c.len.ensures.falls c.len.ensures.first change c.cut.ensures)
+    (room-before c.self.invariant.0 c.always.ensures.falls c.always.ensures.first change c.cut.ensures)
 
 pub append_tick-requires-clause-start : goal.append_tick-requires-clause-start
 append_tick-requires-clause-start g c =
     let there = rw (← c.self.view_is) at c.requires.copy in
     rw (c.in_order-list.ensures, c.settle.ensures)
-    (start-at c.self.invariant.0 c.len.ensures.falls c.len.ensures.first c.args.copy c.beats-t.result _ there
+    (start-at c.self.invariant.0 c.always.ensures.falls c.always.ensures.first c.args.copy c.beats-t.result _ there
     (clock-own _ _ c.args.copy c.beats-t.result there c.beats-t.ensures)
     (rw (← c.self.view_is) at c.due_start-start.ensures))
 
@@ -46,7 +46,7 @@ pub execute_or_put-requires-clause-start : goal.execute_or_put-requires-clause-s
 execute_or_put-requires-clause-start g c =
     let there = rw (← c.self.view_is) at c.requires.copy in
     rw (c.in_order-list.ensures, c.settle.ensures)
-    (start-at c.self.invariant.0 c.len.ensures.falls c.len.ensures.first c.args.copy c.beats-t.result _ there
+    (start-at c.self.invariant.0 c.always.ensures.falls c.always.ensures.first c.args.copy c.beats-t.result _ there
     (clock-own _ _ c.args.copy c.beats-t.result there c.beats-t.ensures)
     (rw (← c.self.view_is) at c.due_start-start.ensures))
 
@@ -54,22 +54,21 @@ pub execute_or_put-requires-clause-few : goal.execute_or_put-requires-clause-few
 execute_or_put-requires-clause-few g c =
     let grown = ap (λ (l : OneList). length l.items) (rw (c.in_order-list.ensures, c.settle.ensures) at c.append_tick.ensures) in
     let both = length-append c.cut.new.self.items (tick_of c.self.inside.list.all c.beats-t.result) in
-    let len = c.len-2.ensures.len in
-    let small = c.len-2.type_inv in
+    let small = c.always-2.ensures.few in
     rw (c.in_order-list.ensures, c.settle.ensures) (omega arith)
 
 pub bring_to_list_end-requires-clause-at : goal.bring_to_list_end-requires-clause-at
 bring_to_list_end-requires-clause-at g c =
     let appended = rw (c.in_order-list.ensures, c.settle.ensures) at c.append_tick.ensures in
     let change = changed g (goal.at.bring_to_list_end-requires-clause-at g c).After-beats-t in
-    λ j some upto. ends-at c.self.invariant.0 c.len.ensures.falls c.len.ensures.first change
-    c.cut.ensures appended j some upto ∙ sym c.len-from.ensures.len
+    λ j some upto. ends-at c.self.invariant.0 c.always.ensures.falls c.always.ensures.first change
+    c.cut.ensures appended j some upto ∙ sym c.len-from.ensures
 
 pub remake_runs_ahead-requires-clause-clock : goal.remake_runs_ahead-requires-clause-clock
 remake_runs_ahead-requires-clause-clock g c =
     let appended = rw (c.in_order-list.ensures, c.settle.ensures) at c.append_tick.ensures in
     let change = changed g (goal.at.remake_runs_ahead-requires-clause-clock g c).After-beats-t in
-    rw (c.deref.ensures.0, c.kept_with-clocks.ensures, c.clocks.ensures) (given c.self.invariant.0 c.len.ensures.falls c.len.ensures.first change
+    rw (c.deref.ensures.0, c.kept_with-clocks.ensures, c.clocks.ensures) (given c.self.invariant.0 c.always.ensures.falls c.always.ensures.first change
     c.cut.ensures
     appended c.bring_to_list_end.ensures).clock
 
@@ -77,7 +76,7 @@ pub remake_runs_ahead-requires-clause-falls : goal.remake_runs_ahead-requires-cl
 remake_runs_ahead-requires-clause-falls g c =
     let appended = rw (c.in_order-list.ensures, c.settle.ensures) at c.append_tick.ensures in
     let change = changed g (goal.at.remake_runs_ahead-requires-clause-falls g c).After-beats-t in
-    rw (c.deref.ensures.0, c.kept_with-clocks.ensures, c.clocks.ensures) (given c.self.invariant.0 c.len.ensures.falls c.len.ensures.first change
+    rw (c.deref.ensures.0, c.kept_with-clocks.ensures, c.clocks.ensures) (given c.self.invariant.0 c.always.ensures.falls c.always.ensures.first change
     c.cut.ensures
     appended c.bring_to_list_end.ensures).falls
 
@@ -85,7 +84,7 @@ pub remake_runs_ahead-requires-clause-room : goal.remake_runs_ahead-requires-cla
 remake_runs_ahead-requires-clause-room g c =
     let appended = rw (c.in_order-list.ensures, c.settle.ensures) at c.append_tick.ensures in
     let change = changed g (goal.at.remake_runs_ahead-requires-clause-room g c).After-beats-t in
-    rw (c.deref.ensures.0, c.kept_with-clocks.ensures, c.clocks.ensures, c.in_order-list.ensures, c.settle.ensures) (given c.self.invariant.0 c.len.ensures.falls c.len.ensures.first change
+    rw (c.deref.ensures.0, c.kept_with-clocks.ensures, c.clocks.ensures, c.in_order-list.ensures, c.settle.ensures) (given c.self.invariant.0 c.always.ensures.falls c.always.ensures.first change
     c.cut.ensures
     appended c.bring_to_list_end.ensures).room
 
@@ -101,16 +100,16 @@ invariant_of-self g c =
     let items = rw (c.deref.ensures.0, c.kept_with-clocks.ensures, c.clocks.ensures, c.in_order-list.ensures, c.settle.ensures) at c.remake_runs_ahead.ensures.items in
     let ends = rw (c.deref.ensures.0, c.kept_with-clocks.ensures, c.clocks.ensures, c.in_order-list.ensures, c.settle.ensures) at c.remake_runs_ahead.ensures.ends in
     let put =
-    apart-put c.self.invariant.0 c.len.ensures.falls c.len.ensures.first c.args.copy
+    apart-put c.self.invariant.0 c.always.ensures.falls c.always.ensures.first c.args.copy
     c.beats-t.result _ change.there
-    (after-world c.self.invariant.0 c.len.ensures.falls c.len.ensures.first c.args.copy
+    (after-world c.self.invariant.0 c.always.ensures.falls c.always.ensures.first c.args.copy
     c.beats-t.result d (option_copied c.args.given) change.there at (rw (← c.self.view_is) at c.requires.given)) in
     rw (c.execute_or_put.ensures.worlds d, c.max-stale.ensures, c.in_order-list.ensures, c.settle.ensures) (kept-own
-    (kept-stale c.self.invariant.0 c.len.ensures.falls c.len.ensures.first change c.cut.ensures
+    (kept-stale c.self.invariant.0 c.always.ensures.falls c.always.ensures.first change c.cut.ensures
     appended c.bring_to_list_end.ensures
     c.remake_runs_ahead.new.run items ends c.remake_runs_ahead.ensures.spare _ (omega arith) (omega arith)
     (omega arith) put)
-    (settled-apart c.self.invariant.0 c.len.ensures.falls c.len.ensures.first change c.cut.ensures
+    (settled-apart c.self.invariant.0 c.always.ensures.falls c.always.ensures.first change c.cut.ensures
     appended c.bring_to_list_end.ensures
     c.remake_runs_ahead.new.run items ends c.beats-t.result at refl refl refl _
     c.settled_by-settled.result c.self.invariant.1 c.settled_by-settled.ensures.front
@@ -121,7 +120,7 @@ returns-clause-runs g c =
     let appended = rw (c.in_order-list.ensures, c.settle.ensures) at c.append_tick.ensures in
     let change = changed g (goal.at.returns-clause-runs g c).After-beats-t in
     rw (← c.self.view_is, c.max-stale.ensures, c.settle.ensures) (same-state _ _ _ _ _ _ _
-    (runs-remade c.self.invariant.0 c.len.ensures.falls c.len.ensures.first change c.cut.ensures
+    (runs-remade c.self.invariant.0 c.always.ensures.falls c.always.ensures.first change c.cut.ensures
     appended c.bring_to_list_end.ensures
     c.remake_runs_ahead.new.run (rw (c.deref.ensures.0, c.kept_with-clocks.ensures, c.clocks.ensures, c.in_order-list.ensures, c.settle.ensures) at c.remake_runs_ahead.ensures.items)
     (rw (c.deref.ensures.0, c.kept_with-clocks.ensures, c.clocks.ensures, c.in_order-list.ensures, c.settle.ensures) at c.remake_runs_ahead.ensures.ends) c.remake_runs_ahead.ensures.spare))
@@ -129,6 +128,6 @@ returns-clause-runs g c =
 pub returns-clause-repaired : goal.returns-clause-repaired
 returns-clause-repaired g c =
     rw (← c.self.view_is)
-    (apart-repaired c.self.invariant.0 c.len.ensures.falls c.len.ensures.first c.args.copy
+    (apart-repaired c.self.invariant.0 c.always.ensures.falls c.always.ensures.first c.args.copy
     (rw (← c.self.view_is) at c.requires.copy) (rw (← c.self.view_is) at c.requires.behind)
     (rw (← c.self.view_is) at c.requires.apart))

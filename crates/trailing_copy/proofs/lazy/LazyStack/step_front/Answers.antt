@@ -11,7 +11,7 @@ pub pass-requires-clause-upto : goal.pass-requires-clause-upto
 pass-requires-clause-upto g c =
     let there = rw (← c.self.view_is) at c.requires.copy in
     let at = clock-own _ _ c.args.copy c.beats-t.result there.1 c.beats-t.ensures in
-    rw (c.execute_or_put-by.ensures.count, c.in_order-list.ensures, c.settle.ensures) (front-fits c.self.invariant.0 c.len.ensures.falls c.len.ensures.first c.beats-t.result
+    rw (c.execute_or_put-by.ensures.count, c.in_order-list.ensures, c.settle.ensures) (front-fits c.self.invariant.0 c.always.ensures.falls c.always.ensures.first c.beats-t.result
     c.args.copy there.0 there.1 at
     (rw (← c.self.view_is) at c.requires.below)
     (rw (← c.self.view_is) at c.requires.behind) (rw (← c.self.view_is) at c.requires.front))
@@ -21,22 +21,21 @@ execute_or_put-by-requires-clause-few g c =
     let there = rw (← c.self.view_is) at c.requires.copy in
     let at = clock-own _ _ c.args.copy c.beats-t.result there.1 c.beats-t.ensures in
     let fits =
-    front-fits c.self.invariant.0 c.len.ensures.falls c.len.ensures.first c.beats-t.result c.args.copy there.0 there.1 at
+    front-fits c.self.invariant.0 c.always.ensures.falls c.always.ensures.first c.beats-t.result c.args.copy there.0 there.1 at
     (rw (← c.self.view_is) at c.requires.below)
     (rw (← c.self.view_is) at c.requires.behind) (rw (← c.self.view_is) at c.requires.front) in
     rw (c.in_order-list.ensures, c.settle.ensures) (let some = there.0 in
     let within = there.1 in
-    let many = run-many c.self.invariant.0 c.len.ensures.falls c.len.ensures.first in
-    let inside = end-inside c.self.invariant.0 c.len.ensures.falls c.len.ensures.first (c.args.copy - 1) (omega arith) in
-    let len = c.len.ensures.len in
-    let small = c.len.type_inv in
+    let many = run-many c.self.invariant.0 c.always.ensures.falls c.always.ensures.first in
+    let inside = end-inside c.self.invariant.0 c.always.ensures.falls c.always.ensures.first (c.args.copy - 1) (omega arith) in
+    let small = c.always.ensures.few in
     omega arith)
 
 pub execute_or_put-by-requires-clause-start : goal.execute_or_put-by-requires-clause-start
 execute_or_put-by-requires-clause-start g c =
     let there = (rw (← c.self.view_is) at c.requires.copy).1 in
     rw (c.in_order-list.ensures, c.settle.ensures)
-    (start-at c.self.invariant.0 c.len.ensures.falls c.len.ensures.first c.args.copy c.beats-t.result _ there
+    (start-at c.self.invariant.0 c.always.ensures.falls c.always.ensures.first c.args.copy c.beats-t.result _ there
     (clock-own _ _ c.args.copy c.beats-t.result there c.beats-t.ensures)
     (rw (← c.self.view_is) at c.due_start-start.ensures))
 
@@ -44,17 +43,17 @@ pub invariant_of-self : goal.invariant_of-self
 invariant_of-self g c =
     let there = rw (← c.self.view_is) at c.requires.copy in
     let at = clock-own _ _ c.args.copy c.beats-t.result there.1 c.beats-t.ensures in
-    let many = run-many c.self.invariant.0 c.len.ensures.falls c.len.ensures.first in
+    let many = run-many c.self.invariant.0 c.always.ensures.falls c.always.ensures.first in
     let inside = there.1 in
     let d = c.self.inside.opening in
     rw (c.pass.ensures, c.execute_or_put-by.ensures.count, c.execute_or_put-by.ensures.worlds d, c.in_order-list.ensures, c.settle.ensures) (kept-own
-    (front-kept c.self.invariant.0 c.len.ensures.falls c.len.ensures.first c.beats-t.result c.args.copy _ there.0 there.1 at
+    (front-kept c.self.invariant.0 c.always.ensures.falls c.always.ensures.first c.beats-t.result c.args.copy _ there.0 there.1 at
     (rw (← c.self.view_is) at c.requires.below)
     (rw (← c.self.view_is) at c.requires.behind) (rw (← c.self.view_is) at c.requires.front)
-    (λ made. own-world c.self.invariant.0 c.len.ensures.falls c.len.ensures.first c.args.copy c.beats-t.result _ (omega arith) at
-    (after-world c.self.invariant.0 c.len.ensures.falls c.len.ensures.first c.args.copy c.beats-t.result d
+    (λ made. own-world c.self.invariant.0 c.always.ensures.falls c.always.ensures.first c.args.copy c.beats-t.result _ (omega arith) at
+    (after-world c.self.invariant.0 c.always.ensures.falls c.always.ensures.first c.args.copy c.beats-t.result d
     (option_copied c.args.given) (omega arith) at (rw (← c.self.view_is) at c.requires.given) made)))
-    (settled-front c.self.invariant.0 c.len.ensures.falls c.len.ensures.first _ c.args.copy c.beats-t.result
+    (settled-front c.self.invariant.0 c.always.ensures.falls c.always.ensures.first _ c.args.copy c.beats-t.result
     c.self.invariant.1 there.0 there.1 at (rw (← c.self.view_is) at c.requires.behind)))
 
 pub returns-clause-runs : goal.returns-clause-runs
@@ -62,7 +61,7 @@ returns-clause-runs g c =
     let there = rw (← c.self.view_is) at c.requires.copy in
     let at = clock-own _ _ c.args.copy c.beats-t.result there.1 c.beats-t.ensures in
     rw (← c.self.view_is, c.pass.ensures, c.execute_or_put-by.ensures.count, c.in_order-list.ensures, c.settle.ensures)
-    (same-state _ _ _ _ _ _ _ (front-runs c.self.invariant.0 c.len.ensures.falls c.len.ensures.first c.beats-t.result
+    (same-state _ _ _ _ _ _ _ (front-runs c.self.invariant.0 c.always.ensures.falls c.always.ensures.first c.beats-t.result
     c.args.copy there.0 there.1 at
     (rw (← c.self.view_is) at c.requires.below)
     (rw (← c.self.view_is) at c.requires.behind) (rw (← c.self.view_is) at c.requires.front)).0)
@@ -72,6 +71,6 @@ returns-clause-repaired g c =
     let there = rw (← c.self.view_is) at c.requires.copy in
     let at = clock-own _ _ c.args.copy c.beats-t.result there.1 c.beats-t.ensures in
     rw (← c.self.view_is)
-    (front-runs c.self.invariant.0 c.len.ensures.falls c.len.ensures.first c.beats-t.result c.args.copy there.0 there.1 at
+    (front-runs c.self.invariant.0 c.always.ensures.falls c.always.ensures.first c.beats-t.result c.args.copy there.0 there.1 at
     (rw (← c.self.view_is) at c.requires.below)
     (rw (← c.self.view_is) at c.requires.behind) (rw (← c.self.view_is) at c.requires.front)).1

@@ -7,11 +7,11 @@ pub returns : goal.returns
 returns g c =
     let there = rw (← c.self.view_is) at c.requires.there in
     let fresh = rw (← c.self.view_is) at c.requires.fresh in
-    let many = run-many c.self.invariant.0 c.len.ensures.falls c.len.ensures.first in
+    let many = run-many c.self.invariant.0 c.always.ensures.falls c.always.ensures.first in
     rw (← c.self.view_is)
     (c.index.ensures
-    ∙ world-at c.self.invariant.0 c.len.ensures.falls c.len.ensures.first c.args.copy _ (omega arith)
+    ∙ world-at c.self.invariant.0 c.always.ensures.falls c.always.ensures.first c.args.copy _ (omega arith)
     (omega arith)
     ∙ ap (world_of g.G.Game.rules c.self.inside.opening) (sym
-    (run-at c.self.invariant.0 c.len.ensures.falls c.len.ensures.first c.args.copy
+    (run-at c.self.invariant.0 c.always.ensures.falls c.always.ensures.first c.args.copy
     (omega arith))))
