@@ -7,13 +7,13 @@ ghost use Rattle.match_hall.specs.Stops.{IsStoppedDrain};
 
 use crate::events::push_turn;
 use game_trait::{Game, MirrorId};
-use mirror_core::{DeferredMirror, Mirrored};
+use mirror_core::{MirrorWith, Mirrored, RefreshPolicy};
 use tss_base::NoMemory;
 
 /// Makes turns until the mirror is drained, at most a given number, and appends what they print. On
 /// `NoMemory` it stopped at one of them, whose text wasn't appended.
-pub fn drain_mirror<G: Game>(
-    mirror: &mut DeferredMirror<G>,
+pub fn drain_mirror<G: Game, P: RefreshPolicy>(
+    mirror: &mut MirrorWith<G, P>,
     number: MirrorId,
     turns: u32,
     out: &mut Vec<u8>,

@@ -11,7 +11,7 @@ use crate::show::push_repairs;
 use arrayvec::ArrayVec;
 use game_trait::{Command, Event, Game, MirrorId, Number};
 use match_data::{Match, ScriptLine, find_command};
-use mirror_core::{DeferredMirror, turn_events};
+use mirror_core::{MirrorWith, RefreshPolicy, turn_events};
 use tss_base::NoMemory;
 
 /// The events of one script line: of a turn a tick and a step of each copy, and else one at most.
@@ -58,8 +58,8 @@ pub fn events_of(m: &Match, copies: u8, line: &ScriptLine) -> Events
 
 /// Makes a turn of the mirror of this number, and appends what it prints. On `NoMemory` the turn
 /// was made, and `out` is unchanged.
-pub fn push_turn<G: Game>(
-    mirror: &mut DeferredMirror<G>,
+pub fn push_turn<G: Game, P: RefreshPolicy>(
+    mirror: &mut MirrorWith<G, P>,
     number: MirrorId,
     out: &mut Vec<u8>,
 ) -> Result<(), NoMemory>

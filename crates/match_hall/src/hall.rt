@@ -9,7 +9,7 @@ ghost use Rattle.sync_model.specs.Turns.{drain, IsDrained};
 ghost use Rattle.match_data.specs.Data.{IsScriptLine};
 ghost use Rattle.game_trait.specs.declared.limits.TheConstants.{MOST_ROOM};
 ghost use Rattle.sync_model.specs.State.{opening_state};
-ghost use Rattle.match_hall.specs.Script.{all_plans, mirror_of, changed_at, told_at, events_of, after_line, after_script, opening_mirrors, log_of, logs_from};
+ghost use Rattle.match_hall.specs.Script.{all_plans, mirror_of, changed_at, told_at, events_of, after_line, after_script, opening_mirrors, logs_from};
 ghost use Rattle.match_hall.specs.Ready.{IsReady};
 ghost use Rattle.match_hall.specs.Report.{showing, line_text, script_text, drains_text, mirrors_text, lines_of_mirrors};
 ghost use Rattle.match_hall.specs.Stops.{IsStoppedScript, IsStoppedDraining, IsFrontPut};
@@ -18,6 +18,7 @@ ghost use Rattle.watch_board.specs.Told.{AreTold};
 
 use crate::drain::drain_mirror;
 use crate::events::{command_of, push_turn};
+use crate::logs::logs_of;
 use crate::open::{open, open_with};
 use crate::script::mirror_of;
 use crate::show::{push_copy, push_line_of_mirror, push_mirror, push_run};
@@ -203,40 +204,6 @@ fn push_lines_of_mirrors<G: Game>(
         number += 1;
     }
     Ok(())
-}
-
-/// Appends the log of the mirror of this number: the events that changed it, in order. On `NoMemory`
-/// the logs are unchanged.
-pub fn push_log<G: Game, M: Mirrored<G>>(
-    alloc: Global,
-    number: MirrorId,
-    mirror: &M,
-    logs: &mut Seq<MirrorLog>,
-) -> Result<(), NoMemory>
-    ensures ok { OnOk result (logs.new
-        ≡ logs.old ++ log_of number (M.state mirror.now) ∷ []) }
-    ensures err { OnErr result (logs.new ≡ logs.old) }
-{
-    let events = Vec::from_slice(alloc, mirror.events())?;
-    logs.push(MirrorLog::new(number, events))
-}
-
-// The logs of mirrors, mirror 0 first. Want of memory makes none.
-#[tactic(auto, unfolding(crate::specs::Script::logs_from))]
-fn logs_of<G: Game>(
-    alloc: Global,
-    mirrors: &[DeferredMirror<G>],
-) -> Result<Seq<MirrorLog>, NoMemory>
-    requires { length mirrors.now ≤ 8 }
-    ensures { IfOk result (λ kept. kept ≡ logs_from 0 mirrors.now) }
-{
-    let mut kept = Seq::new(alloc);
-    let mut number: MirrorId = 0;
-    for mirror in mirrors {
-        push_log::<G, _>(alloc, number, mirror, &mut kept)?;
-        number += 1;
-    }
-    Ok(kept)
 }
 
 impl<G: Game + Shown> Hall<G> {

@@ -10,7 +10,7 @@ ghost use Rattle.match_hall.specs.Report.{showing, run_of, copy_block, copy_bloc
 
 use game_trait::{Arrived, Game, MirrorId, Reply, Stepped};
 use match_setup::{Roster, Shown};
-use mirror_core::{DeferredMirror, Mirrored};
+use mirror_core::{DeferredMirror, MirrorWith, Mirrored, RefreshPolicy};
 use report_text::{copy_block, line_end, mirror_line, repair_line, run_head, run_mark};
 use tss_base::NoMemory;
 
@@ -75,10 +75,10 @@ pub fn push_copy<G: Game + Shown, M: Mirrored<G>>(
 
 // Appends a copy's run line. On `NoMemory` some of it may have been appended.
 #[tactic(auto, unfolding(report_text::specs::Mirrors::run_line))]
-fn push_run_parts<G: Game>(
+fn push_run_parts<G: Game, P: RefreshPolicy>(
     out: &mut Vec<u8>,
     number: MirrorId,
-    mirror: &DeferredMirror<G>,
+    mirror: &MirrorWith<G, P>,
     copy: u8,
 ) -> Result<(), NoMemory>
     requires { copy < length mirror.now.runs }
@@ -94,10 +94,10 @@ fn push_run_parts<G: Game>(
 }
 
 /// Appends the line of a copy's run. The copy is there. On `NoMemory` `out` is unchanged.
-pub fn push_run<G: Game>(
+pub fn push_run<G: Game, P: RefreshPolicy>(
     out: &mut Vec<u8>,
     number: MirrorId,
-    mirror: &DeferredMirror<G>,
+    mirror: &MirrorWith<G, P>,
     copy: u8,
 ) -> Result<(), NoMemory>
     requires { copy < length mirror.now.runs }

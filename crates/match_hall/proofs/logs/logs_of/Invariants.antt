@@ -1,6 +1,6 @@
 use Rattle.std.proofs.Common.{◌≡◌, ◌++◌, drop}
 use Rattle.match_hall.specs.Script.{logs_from}
-use Rattle.match_hall.proofs.hall.logs_of.Given as goal
+use Rattle.match_hall.proofs.logs.logs_of.Given as goal
 
 abbrev pub invariant-loop-mirror : goal.invariant-loop-mirror
 invariant-loop-mirror g l = record {
