@@ -1,5 +1,5 @@
 -- The links of a net as each line changes one of them.
-use Rattle.std.proofs.Common.{◌≡◌, ℕ, ◌<◌, false, cond, List, [], ◌∷◌, ◌++◌, length, get_or, Some, Contains, refl, ap, sym, ◌∙◌, subst, arith}
+use Rattle.std.proofs.Common.{◌≡◌, ℕ, ◌<◌, false, cond, List, [], ◌∷◌, ◌++◌, length, get_or, set, Some, Contains, refl, ap, sym, ◌∙◌, subst, arith}
 use Rattle.std.specs.List.{AllByRecursion}
 use Rattle.std.proofs.lemmas.List.{get_or_default}
 use Rattle.game_trait.specs.declared.command.Command.{Command}
@@ -12,18 +12,31 @@ use Rattle.lossy_link.specs.declared.link.Carried.TheVariants as carried
 use Rattle.lossy_link.specs.Ends.{is_open}
 use Rattle.lossy_link.specs.Link.{LinkState, new_link, has_flown, brought}
 use Rattle.lossy_link.specs.Carried.{IsCarried}
-use Rattle.lossy_link.specs.Links.{NetLinks, AreLinks, row_at, link_at, row_issued, next_links, script_of, note_text, arriving, carry_text, nothing_line}
+use Rattle.lossy_link.specs.Links.{NetLinks, AreLinks, row_at, link_at, row_issued, changed, next_links, script_of, note_text, arriving, carry_text, nothing_line}
 use Rattle.lossy_link.specs.Outcome.{script_in, note_in, outcome_of}
 use Rattle.lossy_link.proofs.Places.{IsPlace}
 use Rattle.lossy_link.proofs.LinksLaws.{issue-room}
 use Rattle.lossy_link.proofs.NetLaws.{told-link}
-use Rattle.lossy_link.proofs.RowLaws.{all-numbered}
+use Rattle.lossy_link.proofs.RowLaws.{row-set, all-numbered}
 
 -- the row that was read
 pub row-is :
     (rows items : List (List LinkState)) (from at : ℕ) (row : List LinkState) → at ≡ from → items ≡ rows → from < length rows → row ≡ get_or items at row → row ≡ row_at rows from
 row-is rows items from at row same view there is =
     is ∙ ap (λ (n : ℕ). get_or items n row) same ∙ ap (λ (rs : List (List LinkState)). get_or rs from row) view ∙ get_or_default rows from row [] there
+
+-- a row as it was read of a net that is looked at from inside, and the net once a link of that row was changed
+pub row-inside :
+    (n k : NetLinks) (from at : ℕ) (row : List LinkState) → k ≡ n → at ≡ from → from < length n.rows → row ≡ get_or k.rows at row → row ≡ row_at n.rows from
+row-inside n k from at row same is there read = row-is n.rows k.rows from at row is (ap (λ (s : NetLinks). s.rows) same) there read
+
+pub link-changed :
+    (f : LinkState → LinkState) (n k : NetLinks) (from to at : ℕ) (row new : List LinkState) → k ≡ n → at ≡ from → from < length n.rows → row ≡ get_or k.rows at row
+    → new ≡ changed_at f to row → record k { rows = set k.rows at new } ≡ record n { rows = changed f from to n.rows }
+link-changed f n k from to at row new same is there read made =
+    ap (λ (rows : List (List LinkState)). record k { rows = rows })
+    (row-set (λ r. changed_at f to r) k.rows k.rows from at row new is refl (subst (λ (s : NetLinks). from < length s.rows) (sym same) there) read made)
+    ∙ ap (λ (s : NetLinks). record s { rows = changed f from to s.rows }) same
 
 -- ---- what is printed of a line that changes something or not
 

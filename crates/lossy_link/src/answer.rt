@@ -9,27 +9,16 @@ ghost use Rattle.lossy_link.specs.Finish.{ended_net, lossy_text};
 use crate::net::Net;
 use game_trait::Game;
 use lossy_text::LossyText;
-use match_data::MirrorLog;
+use match_hall::Played;
 use match_setup::Shown;
 use std::alloc::Global;
 use tss_base::{NoMemory, Seq};
-
-/// The answer of a match over a lossy net: its text, and the logs of its mirrors, mirror 0 first.
-#[derive(Drop)]
-pub struct LossyAnswer {
-    pub text: Seq<u8>,
-    pub kept: Seq<MirrorLog>,
-}
 
 /// Plays a match that opens with this world over a lossy net: all its lines, then what is left in
 /// the links is sent and carried, and the mirrors are drained. The text is what the lines print,
 /// and then the mirrors at their end, as a match that is played ends. On `NoMemory` nothing is
 /// returned.
-pub fn lossy<G: Game + Shown>(
-    alloc: Global,
-    x: &LossyText,
-    opening: &G,
-) -> Result<LossyAnswer, NoMemory>
+pub fn lossy<G: Game + Shown>(alloc: Global, x: &LossyText, opening: &G) -> Result<Played, NoMemory>
     ensures text { let show : Showing G =
         record { rules = G.rules; lines = G.lines; names = x.now.game.names } in
         IfOk result (λ a. a.text ≡ lossy_text show opening.now x.now) }
@@ -40,7 +29,7 @@ pub fn lossy<G: Game + Shown>(
     let mut net = Net::over(alloc, x, opening, &mut text)?;
     net.finish(x, &mut text)?;
     let kept = net.logs(alloc)?;
-    Ok(LossyAnswer {
+    Ok(Played {
         text: Seq::of(text),
         kept,
     })

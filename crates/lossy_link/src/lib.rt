@@ -14,9 +14,10 @@ mod out_end;
 mod packet;
 mod row;
 
-pub use answer::{LossyAnswer, lossy};
+pub use answer::lossy;
 pub use in_end::InEnd;
 pub use lossy_text::{LossyText, NetLine, read_lossy};
+pub use match_hall::Played as LossyAnswer;
 pub use net::Net;
 pub use out_end::OutEnd;
 pub use packet::{Heard, Packet};

@@ -1,35 +1,24 @@
-use Rattle.std.proofs.Common.{◌≡◌, ◌<◌, List, length, refl, ap, sym, ◌∙◌, subst}
-use Rattle.match_hall.specs.Script.{changed_at}
-use Rattle.lossy_text.specs.declared.net_line.NetLine.TheVariants.{Carry}
-use Rattle.lossy_link.specs.Link.{LinkState, after_carry}
-use Rattle.lossy_link.specs.Links.{NetLinks, next_links}
+use Rattle.std.proofs.Common.{ap, ◌∙◌}
+use Rattle.lossy_link.specs.Link.{after_carry}
+use Rattle.lossy_link.specs.Links.{next_links}
 use Rattle.lossy_link.specs.Outcome.{script_in, note_in}
-use Rattle.lossy_link.proofs.Places.{IsPlace}
-use Rattle.lossy_link.proofs.RowLaws.{row-set}
-use Rattle.lossy_link.proofs.Linking.{row-is, carry-script, carry-note}
+use Rattle.lossy_link.proofs.Linking.{row-inside, link-changed, carry-script, carry-note}
 use Rattle.lossy_link.proofs.links.Links.carry.Goals as goal
 
 pub returns-clause-state : goal.returns-clause-state
 unfolding next_links
 returns-clause-state c =
-    let n = c.self.inside in
-    let below : c.args.from < length n.rows.items = subst (λ (s : NetLinks). c.args.from < length s.rows) (sym c.self.view_is) c.requires.0 in
-    ap (λ (rows : List (List LinkState)). record { room = n.issued.room; issued = n.issued.items; rows = rows })
-    (row-set (λ row. changed_at (after_carry c.args.packet) c.args.to row) n.rows.items n.rows.items c.args.from
-    c.from.result c.index_mut.result.now c.carry.new.self c.from.ensures refl below c.index_mut.ensures.value
-    c.carry.ensures.state)
-    ∙ ap (λ (s : NetLinks). next_links c.args.m.now.commands s (Carry c.args.from c.args.to c.args.packet)) c.self.view_is
+    link-changed (after_carry c.args.packet) _ _ c.args.from c.args.to c.from.result c.index_mut.result.now c.carry.new.self c.self.view_is c.from.ensures c.requires.0
+    c.index_mut.ensures.value c.carry.ensures.state
 
 pub returns-clause-script : goal.returns-clause-script
 returns-clause-script c =
-    let rows_is : c.self.inside.rows.items ≡ c.args.self.now.rows = ap (λ (s : NetLinks). s.rows) c.self.view_is in
-    let there : IsPlace c.args.self.now.rows c.args.from c.args.to = record { from = c.requires.0; to = c.requires.1 } in
-    let row = row-is c.args.self.now.rows c.self.inside.rows.items c.args.from c.from.result c.index_mut.result.now c.from.ensures rows_is c.requires.0 c.index_mut.ensures.value in
-    ap script_in c.of_carried.ensures ∙ carry-script c.args.m.now.commands c.args.self.now c.args.from c.args.to c.args.packet c.index_mut.result.now c.carry.result there row c.carry.ensures.answer
+    ap script_in c.of_carried.ensures
+    ∙ carry-script c.args.m.now.commands c.args.self.now c.args.from c.args.to c.args.packet c.index_mut.result.now c.carry.result (record { from = c.requires.0; to = c.requires.1 })
+    (row-inside _ _ c.args.from c.from.result c.index_mut.result.now c.self.view_is c.from.ensures c.requires.0 c.index_mut.ensures.value) c.carry.ensures.answer
 
 pub returns-clause-note : goal.returns-clause-note
 returns-clause-note c =
-    let rows_is : c.self.inside.rows.items ≡ c.args.self.now.rows = ap (λ (s : NetLinks). s.rows) c.self.view_is in
-    let there : IsPlace c.args.self.now.rows c.args.from c.args.to = record { from = c.requires.0; to = c.requires.1 } in
-    let row = row-is c.args.self.now.rows c.self.inside.rows.items c.args.from c.from.result c.index_mut.result.now c.from.ensures rows_is c.requires.0 c.index_mut.ensures.value in
-    ap note_in c.of_carried.ensures ∙ carry-note c.args.self.now c.args.from c.args.to c.args.packet c.index_mut.result.now c.carry.result there row c.carry.ensures.answer
+    ap note_in c.of_carried.ensures
+    ∙ carry-note c.args.self.now c.args.from c.args.to c.args.packet c.index_mut.result.now c.carry.result (record { from = c.requires.0; to = c.requires.1 })
+    (row-inside _ _ c.args.from c.from.result c.index_mut.result.now c.self.view_is c.from.ensures c.requires.0 c.index_mut.ensures.value) c.carry.ensures.answer
