@@ -14,21 +14,13 @@ ghost use Rattle.match_score.specs.Score.{standings, ends_of, watched_text};
 
 use crate::rows::rows;
 use arena_rules::Arena;
-use match_data::{Match, MirrorLog};
-use match_hall::Hall;
+use match_data::Match;
 use match_hall::laws::mirrors_take_no_more_than_a_script_brings;
+use match_hall::{Hall, Played};
 use report_text::{done_line, score_json};
 use std::alloc::Global;
 use tss_base::{NoMemory, Seq};
 use watch_board::{Board, Watcher};
-
-/// The answer to a match that is played to watchers: its text, and the logs of its mirrors,
-/// mirror 0 first.
-#[derive(Drop)]
-pub struct ScoreAnswer {
-    pub text: Seq<u8>,
-    pub kept: Seq<MirrorLog>,
-}
 
 // The mirrors of a match, played to the watchers of a board and drained. The lines of those that
 // leave are appended.
@@ -87,11 +79,7 @@ fn text_of(
 /// Plays a match to watchers and drains it. The text is that of `score`: the scoreboard, then the
 /// lines of the watchers, who were told what changed mirror 0, then mirror 1, and so on. On
 /// `NoMemory` nothing is returned.
-pub fn score(
-    alloc: Global,
-    m: &Match,
-    watchers: Vec<Box<dyn Watcher>>,
-) -> Result<ScoreAnswer, NoMemory>
+pub fn score(alloc: Global, m: &Match, watchers: Vec<Box<dyn Watcher>>) -> Result<Played, NoMemory>
     ensures text { IfOk result
         (λ s. s.text ≡ watched_text (map (λ w. behaviour w) watchers.items) m.now) }
     ensures kept { IfOk result (λ s. s.kept ≡ logs_from 0 (ends_of m.now)) }
@@ -102,5 +90,5 @@ pub fn score(
     let scores = scoreboard(alloc, m, &hall)?;
     let text = text_of(alloc, scores.as_slice(), lines.as_slice(), board)?;
     let kept = hall.logs(alloc)?;
-    Ok(ScoreAnswer { text, kept })
+    Ok(Played { text, kept })
 }

@@ -5,4 +5,5 @@
 mod answer;
 mod rows;
 
-pub use answer::{ScoreAnswer, score};
+pub use answer::score;
+pub use match_hall::Played as ScoreAnswer;
