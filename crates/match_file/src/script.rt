@@ -15,7 +15,7 @@ use tss_base::{NoMemory, Seq};
 /// lines.
 #[derive(Drop)]
 pub struct Script {
-    lines: Seq<ScriptLine>,
+    lines: Vec<ScriptLine>,
     shown: usize,
 }
 
@@ -26,9 +26,9 @@ impl Model for Script {
 
     ghost Value = { List ScriptLine };
 
-    ghost view = { λ s. s.lines };
+    ghost view = { λ s. s.lines.items };
 
-    ghost invariant = { λ s. s.shown ≡ count_by shows s.lines };
+    ghost invariant = { λ s. s.shown ≡ count_by shows s.lines.items };
 }
 
 impl Script {
@@ -37,7 +37,7 @@ impl Script {
         ensures { result ≡ [] }
     {
         Script {
-            lines: Seq::new(alloc),
+            lines: Vec::new(alloc),
             shown: 0,
         }
     }
@@ -63,7 +63,8 @@ impl Script {
         self.has_room() && self.shown < MOST_SHOWING_LINES
     }
 
-    /// Appends the line, for which there is room. On `NoMemory` the script is unchanged.
+    /// Appends the line, for which there is room. The first one makes room for as many as a script may
+    /// have, so that none is moved when more come. On `NoMemory` the script is unchanged.
     pub fn push(&mut self, line: ScriptLine) -> Result<(), NoMemory>
         requires { length self.old < MOST_SCRIPT_LINES }
         ensures ok { OnOk result (self.new ≡ self.old ++ line ∷ []) }
@@ -74,6 +75,9 @@ impl Script {
         } else {
             self.shown
         };
+        if self.lines.is_empty() {
+            self.lines.reserve(MOST_SCRIPT_LINES)?;
+        }
         self.lines.push(line)?;
         self.shown = shown;
         Ok(())
@@ -84,6 +88,6 @@ impl Script {
         ensures { result ≡ self }
     {
         let Script { lines, .. } = self;
-        lines
+        Seq::of(lines)
     }
 }
