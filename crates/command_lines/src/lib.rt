@@ -9,4 +9,4 @@ mod words;
 pub use print::{print_command, push_command};
 pub use ranges::{CommandRanges, last_player};
 pub use read::{CommandFault, read_command};
-pub use words::CommandWords;
+pub use words::{CommandWords, act_of};

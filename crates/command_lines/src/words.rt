@@ -23,8 +23,8 @@ pub struct CommandWords<'a> {
     act: Act,
 }
 
-// The act of the version, which is 1 or 2, that the word names.
-fn act_of(version: u8, word: &[u8]) -> Result<Act, Cause>
+/// The act of the version, which is 1 or 2, that the word names; else `Shape`.
+pub fn act_of(version: u8, word: &[u8]) -> Result<Act, Cause>
     ensures { Answers (λ x. x) result (picked act_word (acts_of version) word.now) }
 {
     if word == b"go".as_slice() {
