@@ -19,14 +19,14 @@ use Rattle.tss_base.proofs.ListLaws.{all_append}
 use Rattle.tss_io.proofs.RunLaws.{bind_assoc}
 use Rattle.tss_io.proofs.RunToLaws.{to_again}
 use Rattle.tss_io.proofs.Spaced.{Lacks}
-use Rattle.tss_io.proofs.MachineLaws.{SaidText, ExactText, one_more, text_found, text_first, lines_whole, run_step, run_inside, run_as, bind_same}
+use Rattle.tss_io.proofs.MachineLaws.{SaidText, ExactText, follows_text, one_more, text_found, text_first, lines_whole, run_step, run_inside, run_as, bind_same}
 use Rattle.match_file.specs.declared.body.Body.{Body}
 use Rattle.match_file.specs.declared.opening.Opening.{Opening}
 use Rattle.match_data.specs.Data.{MatchData, IsMatch}
 use Rattle.match_file.specs.Reading.{is_last, match_of, as_match, match_at, read_match, At, head_due, length_due, grid_due, mirrors_due, delays_due, pace_due, in_body, take_line, at_last}
 use Rattle.match_file.specs.Sections.{IsRead}
 use Rattle.match_file.specs.Text.{match_lines, match_text}
-use Rattle.match_file.specs.Around.{Around, first_due, in_match, behind, behind_match, after_line, first_step, take_around, checks_around, last_around, around, first_at, read_around}
+use Rattle.match_file.specs.Around.{Around, first_due, in_match, behind, behind_match, after_line, first_step, take_around, checks_around, last_around, around, IsMet, first_at, read_around}
 use Rattle.match_file.proofs.AtLaws.{IsAt, at_said, at_exact, match_is, chain}
 use Rattle.match_file.proofs.MatchIsRead.{opening_of, body_of, is_read}
 use Rattle.match_file.proofs.ReadIsMatch.{is_match_of}
@@ -38,6 +38,11 @@ pub record ExactTail {T : Type 0} (tail : MatchData → Machine T) (start : T) (
   pub exact : (m : MatchData) → IsMatch m → ExactText (tail m) (Is m) (said m)
   pub starts : (m : MatchData) → IsMatch m → Is m start
   pub nothing : (m : MatchData) → said m start ≡ []
+
+-- what each line keeps is true wherever good lines alone led
+pub met_is : {T : Type 0} {tail : MatchData → Machine T} {start : T} {Is : MatchData → T → Type 0} {said : MatchData → T → List ℕ} → ExactTail tail start Is said
+    → (m : MatchData) (t : T) → IsMatch m → IsMet (tail m) start t → Is m t
+met_is {start = start} x m t is met = (follows_text (x.exact m is) start met.0 t (x.starts m is) met.1).1
 
 -- what is always true of such a text, as far as it was read
 abbrev pub IsAround : {T : Type 0} → (MatchData → T → Type 0) → Around T → Type 0

@@ -8,7 +8,7 @@ use Rattle.tss_io.specs.Lines.{Lines, lines_of}
 use Rattle.tss_io.specs.Machines.{Machine}
 use Rattle.tss_io.specs.Reading.{refused_at}
 use Rattle.tss_io.specs.Results.{◌>>=◌}
-use Rattle.tss_io.specs.Runs.{at, run_to, ended}
+use Rattle.tss_io.specs.Runs.{at, Follows, run_to, ended}
 use Rattle.match_data.specs.Data.{MatchData}
 use Rattle.match_file.specs.Reading.{At, head_due, length_due, grid_due, mirrors_due, delays_due, pace_due, in_body, take_line, checks_of, at_last, match_of, read_match}
 
@@ -69,6 +69,10 @@ around head tail start = record {
   checks = checks_around head tail;
   is_last = last_around tail;
 }
+
+-- good lines alone led here
+abbrev pub IsMet : {S : Type 0} → Machine S → S → S → Type 0
+IsMet m start s = (front : List (List ℕ)) × Follows m.take m.is_last start front s
 
 -- the lines behind the first
 abbrev pub first_at : List ℕ → Lines → Result (Unit {0} × Lines) Cause
