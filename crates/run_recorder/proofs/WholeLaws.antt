@@ -71,6 +71,13 @@ whole_found text r e = through _ _ _ e (λ (x : MatchData × Tail) x_is e.
     ) in
     subst (λ (k : RaceRecord). IsRecord k × (text ≡ record_text k)) (same_record (record_with x) r e) found)
 
+pub read_with : (text head : List ℕ) (y : MatchData × Tail) → head ≡ record_head → read_around LONGEST_RECORD_TEXT head record_machine no_tail text ≡ Ok y → read_record text ≡ Ok (record_with y)
+unfolding read_record
+read_with text head y same e =
+    let read : read_around LONGEST_RECORD_TEXT record_head record_machine no_tail text ≡ Ok y =
+    subst (λ (h : List ℕ). read_around LONGEST_RECORD_TEXT h record_machine no_tail text ≡ Ok y) same e in
+    rw read refl
+
 head_lacks : Lacks 10 record_head
 head_lacks = (refl, (refl, (refl, (refl, (refl, (refl, (refl, (refl, (refl, (refl, (refl, (refl, tt))))))))))))
 
