@@ -11,14 +11,13 @@ use Rattle.tss_io.specs.Lines.{words_of, as_line, lines_text}
 use Rattle.tss_io.specs.Forms.{front_at, last_at}
 use Rattle.tss_io.specs.Kinds.{Kind, Sound, is_long, step}
 use Rattle.tss_io.specs.Machines.{take_by, take_words, take_whole}
-use Rattle.tss_io.specs.Lines.{Lines}
-use Rattle.tss_io.specs.Runs.{Follows, Stop, run_to}
+use Rattle.tss_io.specs.Runs.{Follows}
 use Rattle.tss_io.proofs.AboveLaws.{not_above}
 use Rattle.tss_base.proofs.ListLaws.{all_push}
 use Rattle.tss_io.proofs.FormLaws.{number_exact}
 use Rattle.tss_io.proofs.Lengths.{section_length}
 use Rattle.tss_io.proofs.KindLaws.{ExactKind, line_text, line_fits, line_length}
-use Rattle.tss_io.proofs.MachineLaws.{Said, in_text, table_exact, ran_said}
+use Rattle.tss_io.proofs.MachineLaws.{Said, in_text, table_exact}
 use Rattle.tss_io.proofs.Printing.{lines_text-append}
 use Rattle.tss_io.proofs.RunLaws.{follows_more}
 use Rattle.tss_base.proofs.ListLaws.{all_append}
@@ -32,7 +31,7 @@ use Rattle.lossy_text.specs.declared.net_line.NetLine.TheVariants.{Issue, Send, 
 use Rattle.lossy_text.specs.declared.tail.Stage.{Stage}
 use Rattle.lossy_text.specs.declared.tail.Stage.TheVariants.{NetDue, InNet, Done}
 use Rattle.lossy_text.specs.declared.tail.Tail.{Tail}
-use Rattle.lossy_text.specs.Data.{IsLink, IsNetLine, IsLossy}
+use Rattle.lossy_text.specs.Data.{IsLink, IsNetLine}
 use Rattle.lossy_text.specs.Kinds.{is_net_due, is_in_net, is_done, no_tail, is_event_due, is_end_due, with_line, net_kind, net_table, is_last, net_machine}
 use Rattle.lossy_text.specs.Text.{count_line, net_line, last_line, net_lines}
 use Rattle.lossy_text.proofs.ExactKinds.{NetFits, LinkFits, PacketFits, net_exact, issue_exact, send_exact, carry_exact, ack_exact, hear_exact, turn_exact}
@@ -159,17 +158,6 @@ said_whole m t is last =
     let count : length t.lines + t.left ≡ length t.lines = omega (arith, none) in
     let few = is.few in
     (rw (stage, count) refl, omega arith)
-
--- nothing was read
-no_tail_is : (m : MatchData) → IsTail m no_tail
-no_tail_is m = record { few = lit≤ tt; each = tt; fresh = λ _. refl; whole = λ h. absurd cc }
-
--- what was read to its end is lines of the net that a text can give
-pub read_lossy_lines : (m : MatchData) → IsMatch m → (n : ℕ) (lines : Lines) (x : Stop Tail) → run_to (take_by (net_table m)) is_last n no_tail lines ≡ Ok x
-    → IsLossy (record { game = m; lines = x.state.lines })
-read_lossy_lines m is n lines x read =
-    let r = ran_said (table_exact (net_table m) is_last (net_table_exact m is)) n no_tail lines x (no_tail_is m) read in
-    record { game = is; count = (said_whole m x.state r.is r.last).1; lines = r.is.each }
 
 -- ---- what is written is taken
 

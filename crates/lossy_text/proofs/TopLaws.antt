@@ -46,6 +46,14 @@ whole_found text x e = through _ _ _ e (λ (y : MatchData × Tail) y_is e.
     ) in
     subst (λ (k : LossyData). IsLossy k × (text ≡ lossy_text k)) (same_text (lossy_with y) x e) found)
 
+-- and can be held
+pub read_with : (text head : List ℕ) (y : MatchData × Tail) → head ≡ lossy_head → read_around LONGEST_LOSSY_TEXT head net_machine no_tail text ≡ Ok y
+    → IsLossy (lossy_with y) × (read_lossy text ≡ Ok (lossy_with y))
+read_with text head y same e =
+    let read : around_of text ≡ Ok y = subst (λ (h : List ℕ). read_around LONGEST_LOSSY_TEXT h net_machine no_tail text ≡ Ok y) same e in
+    let whole : read_lossy text ≡ Ok (lossy_with y) = rw read refl in
+    ((whole_found text (lossy_with y) whole).0, whole)
+
 head_lacks : Lacks 10 lossy_head
 head_lacks = (refl, (refl, (refl, (refl, (refl, (refl, (refl, (refl, (refl, (refl, (refl, tt)))))))))))
 

@@ -1,23 +1,22 @@
 //! The lines behind the match of a lossy text.
 
-ghost use Rattle.std.specs.Prelude.{◌≡◌, ◌≤◌, ◌<◌, ◌+◌, ◌-◌, ◌^◌, [], ◌∷◌, ◌++◌, length, IfOk, OnOk};
+ghost use Rattle.std.specs.Prelude.{◌≡◌, ◌-◌, OnOk};
 ghost use Rattle.tss_io.specs.Forms.{number_in};
 ghost use Rattle.tss_io.specs.Kinds.{step};
-ghost use Rattle.tss_io.specs.Lines.{lines_of, words_of};
+ghost use Rattle.tss_io.specs.Lines.{words_of};
 ghost use Rattle.tss_io.specs.Machines.{take_words, take_by};
-ghost use Rattle.tss_io.specs.Reading.{Answers, GivesLine, Placed};
-ghost use Rattle.tss_io.specs.Runs.{line_step, run_to, stopped};
-ghost use Rattle.match_data.specs.Data.{MatchData, IsMatch};
-ghost use Rattle.lossy_text.specs.Data.{IsLossy};
-ghost use Rattle.lossy_text.specs.Kinds.{is_net_due, is_in_net, is_done, is_event_due, is_end_due, with_line, net_kind, issue_kind, send_kind, carry_kind, ack_kind, hear_kind, turn_kind, net_table, is_last, no_tail};
+ghost use Rattle.tss_io.specs.Reading.{Answers, GivesLine};
+ghost use Rattle.lossy_text.specs.declared.net_line.NetLine.TheVariants.{Send, Carry, Hear};
+ghost use Rattle.lossy_text.specs.Kinds.{is_net_due, is_in_net, is_done, is_event_due, is_end_due, with_line, net_kind, issue_kind, send_kind, carry_kind, ack_kind, hear_kind, turn_kind, net_table};
 
 use crate::net_line::NetLine;
 use game_trait::MirrorId;
 use game_trait::limits::{GREATEST_NET_NUMBER, MOST_NET_LINES};
 use match_data::Match;
+use match_file::BehindMatch;
 use std::alloc::Global;
 use tss_base::{NoMemory, Seq};
-use tss_io::words::{front, last, next_line, number};
+use tss_io::words::{front, last, number};
 use tss_io::{Cause, LineFault, check, is_above};
 
 /// How far a lossy text was read behind its match.
@@ -68,16 +67,6 @@ fn mirror_of(game: &Match, word: &[u8]) -> Result<MirrorId, Cause>
 }
 
 impl Tail {
-    fn new(alloc: Global) -> Tail
-        ensures { result ≡ no_tail }
-    {
-        Tail {
-            stage: Stage::NetDue,
-            left: 0,
-            lines: Seq::new(alloc),
-        }
-    }
-
     // Whether a line of the net is due.
     fn is_event_due(&self) -> bool
         ensures { result ≡ is_event_due self.now }
@@ -127,18 +116,31 @@ impl Tail {
         Ok(())
     }
 
-    fn take_send(&mut self, game: &Match, words: &[u8]) -> Result<(), LineFault>
-        ensures { GivesLine (λ _. self.new) result
-            (step (send_kind game.now) self.old (words_of words.now)) }
+    // The two mirrors of a link and the number behind them, where a line of the net is due.
+    fn link_number(&self, game: &Match, words: &[u8]) -> Result<(MirrorId, MirrorId, u32), Cause>
+        ensures send { Answers (λ x. with_line self.now (Send x.0 x.1 x.2)) result
+            (step (send_kind game.now) self.now (words_of words.now)) }
+        ensures carry { Answers (λ x. with_line self.now (Carry x.0 x.1 x.2)) result
+            (step (carry_kind game.now) self.now (words_of words.now)) }
+        ensures hear { Answers (λ x. with_line self.now (Hear x.0 x.1 x.2)) result
+            (step (hear_kind game.now) self.now (words_of words.now)) }
     {
         check(self.is_event_due(), Cause::Shape)?;
         let (from, words) = front(words)?;
         let (to, words) = front(words)?;
-        let packet = last(words)?;
+        let count = last(words)?;
         let from = mirror_of(game, from)?;
         let to = mirror_of(game, to)?;
-        let packet = number(0, GREATEST_NET_NUMBER, packet)?;
+        let count = number(0, GREATEST_NET_NUMBER, count)?;
         check(from != to, Cause::Number)?;
+        Ok((from, to, count))
+    }
+
+    fn take_send(&mut self, game: &Match, words: &[u8]) -> Result<(), LineFault>
+        ensures { GivesLine (λ _. self.new) result
+            (step (send_kind game.now) self.old (words_of words.now)) }
+    {
+        let (from, to, packet) = self.link_number(game, words)?;
         self.push(NetLine::Send { from, to, packet })?;
         Ok(())
     }
@@ -147,14 +149,7 @@ impl Tail {
         ensures { GivesLine (λ _. self.new) result
             (step (carry_kind game.now) self.old (words_of words.now)) }
     {
-        check(self.is_event_due(), Cause::Shape)?;
-        let (from, words) = front(words)?;
-        let (to, words) = front(words)?;
-        let packet = last(words)?;
-        let from = mirror_of(game, from)?;
-        let to = mirror_of(game, to)?;
-        let packet = number(0, GREATEST_NET_NUMBER, packet)?;
-        check(from != to, Cause::Number)?;
+        let (from, to, packet) = self.link_number(game, words)?;
         self.push(NetLine::Carry { from, to, packet })?;
         Ok(())
     }
@@ -177,14 +172,7 @@ impl Tail {
         ensures { GivesLine (λ _. self.new) result
             (step (hear_kind game.now) self.old (words_of words.now)) }
     {
-        check(self.is_event_due(), Cause::Shape)?;
-        let (from, words) = front(words)?;
-        let (to, words) = front(words)?;
-        let count = last(words)?;
-        let from = mirror_of(game, from)?;
-        let to = mirror_of(game, to)?;
-        let count = number(0, GREATEST_NET_NUMBER, count)?;
-        check(from != to, Cause::Number)?;
+        let (from, to, count) = self.link_number(game, words)?;
         self.push(NetLine::Hear { from, to, count })?;
         Ok(())
     }
@@ -226,7 +214,7 @@ impl Tail {
 
     // A line behind the match.
     #[tactic(auto, unfolding(tss_io::specs::Machines::take_by, tss_io::specs::Machines::take_whole))]
-    fn take(&mut self, game: &Match, line: &[u8]) -> Result<(), LineFault>
+    fn take_line(&mut self, game: &Match, line: &[u8]) -> Result<(), LineFault>
         ensures { GivesLine (λ _. self.new) result
             (take_by (net_table game.now) self.old line.now) }
     {
@@ -238,41 +226,28 @@ impl Tail {
         let (word, words) = front(line)?;
         self.take_words(game, word, words)
     }
-
-    // The next line, and the text behind it.
-    #[tactic(auto, unfolding(tss_io::specs::Runs::line_step))]
-    fn take_line<'a>(&mut self, game: &Match, text: &'a [u8]) -> Result<&'a [u8], LineFault>
-        ensures read { GivesLine (λ rest. (self.new, lines_of rest.now)) result
-            (line_step (take_by (net_table game.now)) self.old (lines_of text.now)) }
-        ensures shorter { IfOk result (λ rest. length rest.now < length text.now) }
-    {
-        let (line, rest) = next_line(text)?;
-        self.take(game, line)?;
-        Ok(rest)
-    }
 }
 
-/// The lines behind the match, up to the last, and the text behind it. The number of the line that
-/// is read is kept in `line`, which has the first one's.
-pub fn read_tail<'a>(
-    alloc: Global,
-    game: &Match,
-    line: &mut u32,
-    text: &'a [u8],
-) -> Result<(Tail, &'a [u8]), LineFault>
-    requires game { IsMatch game.now }
-    requires counted { line.old + length text.now < 2 ^ 32 }
-    ensures read { Placed (λ x. stopped x.0 line.new (lines_of x.1.now)) line.new result
-        (run_to (take_by (net_table game.now)) is_last line.old no_tail (lines_of text.now)) }
-    // Of the match, these are lines that a text can give.
-    ensures sound { IfOk result
-        (λ x. IsLossy (record { game = game.now; lines = x.0.lines })) }
-{
-    let mut tail = Tail::new(alloc);
-    let mut rest = text;
-    while !is_done(tail.stage) {
-        rest = tail.take_line(game, rest)?;
-        *line += 1;
+impl BehindMatch for Tail {
+    ghost use Rattle.lossy_text.specs.Kinds.{net_machine, no_tail};
+
+    ghost machine = { net_machine };
+
+    ghost start = { no_tail };
+
+    fn new(alloc: Global) -> Tail {
+        Tail {
+            stage: Stage::NetDue,
+            left: 0,
+            lines: Seq::new(alloc),
+        }
     }
-    Ok((tail, rest))
+
+    fn is_last(&self) -> bool {
+        is_done(self.stage)
+    }
+
+    fn take(&mut self, _alloc: Global, game: &Match, line: &[u8]) -> Result<(), LineFault> {
+        self.take_line(game, line)
+    }
 }
