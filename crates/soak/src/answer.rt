@@ -12,8 +12,8 @@ use crate::agree::are_all_at;
 use crate::laws::the_text_says_same_yes;
 use arena_rules::Arena;
 use game_trait::{Game, MirrorId, execute_in_order};
-use match_data::{Match, MirrorLog};
-use match_hall::Hall;
+use match_data::Match;
+use match_hall::{Hall, Played};
 use match_maker::make_match;
 use report_text::{done_line, same_line, soak_line};
 use std::alloc::Global;
@@ -22,13 +22,6 @@ use watch_board::Board;
 
 // How many commands the match of a number has.
 const COMMANDS: u32 = 4096;
-
-/// The answer to the number of a match: its text, and the logs of its mirrors, mirror 0 first.
-#[derive(Drop)]
-pub struct SoakAnswer {
-    pub text: Seq<u8>,
-    pub kept: Seq<MirrorLog>,
-}
 
 // Plays and drains the match's mirrors, without watchers.
 fn play(alloc: Global, opening: &Arena, m: &Match) -> Result<Hall<Arena>, NoMemory>
@@ -93,7 +86,7 @@ fn text_of(
 }
 
 // The answer to a number, with the match that it makes and its opening.
-fn answer(alloc: Global, number: u32, opening: &Arena, m: &Match) -> Result<SoakAnswer, NoMemory>
+fn answer(alloc: Global, number: u32, opening: &Arena, m: &Match) -> Result<Played, NoMemory>
     ensures told { IfOk result (λ s. TellsOf arena_rules
         (time_ordered arena_rules opening.now m.now.commands m.now.length) number
         (played opening.now m.now) s.text) }
@@ -103,11 +96,11 @@ fn answer(alloc: Global, number: u32, opening: &Arena, m: &Match) -> Result<Soak
     let hall = play(alloc, opening, m)?;
     let text = text_of(alloc, number, &hall, m.mirrors, &world)?;
     let kept = hall.logs(alloc)?;
-    Ok(SoakAnswer { text, kept })
+    Ok(Played { text, kept })
 }
 
 // Makes the match of a number and plays it; what is told of it compares its copies.
-fn make_and_play(alloc: Global, number: u32) -> Result<SoakAnswer, NoMemory>
+fn make_and_play(alloc: Global, number: u32) -> Result<Played, NoMemory>
     ensures told { IfOk result (λ s. IsSoakText number s.text) }
     ensures kept { IfOk result (λ s. s.kept ≡ logs_from 0 (soaked number)) }
 {
@@ -118,7 +111,7 @@ fn make_and_play(alloc: Global, number: u32) -> Result<SoakAnswer, NoMemory>
 /// Makes the match of a number, plays it along its script and drains it. The text is that of
 /// `soak`: it says that all copies have the time-ordered execution of all commands as their world,
 /// which was compared and is so for every number. On `NoMemory` nothing is returned.
-pub fn soak(alloc: Global, number: u32) -> Result<SoakAnswer, NoMemory>
+pub fn soak(alloc: Global, number: u32) -> Result<Played, NoMemory>
     ensures told { IfOk result (λ s. IsSoakText number s.text) }
     ensures same { IfOk result (λ s. s.text ≡ soak_text number) }
     ensures kept { IfOk result (λ s. s.kept ≡ logs_from 0 (soaked number)) }

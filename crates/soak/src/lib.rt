@@ -7,4 +7,5 @@ mod answer;
 pub mod laws;
 
 pub use agree::are_all_at;
-pub use answer::{SoakAnswer, soak};
+pub use answer::soak;
+pub use match_hall::Played as SoakAnswer;
