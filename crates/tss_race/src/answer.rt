@@ -8,7 +8,8 @@ ghost use Rattle.tss_race.specs.Record.{IsRecordOfRace};
 use crate::record::record_of;
 use copy_workers::Gate;
 use game_trait::Game;
-use match_data::{Match, MirrorLog};
+use match_data::Match;
+use match_hall::Played;
 use match_setup::Shown;
 use race_hall::race;
 use run_recorder::{RaceRecord, print_record};
@@ -17,21 +18,14 @@ use std::sync::Wait;
 use std::thread::Threads;
 use tss_base::{NoMemory, Seq};
 
-/// What is answered to a match that is raced: its record's text, and the logs, mirror 0 first.
-#[derive(Drop)]
-pub struct Raced {
-    pub text: Seq<u8>,
-    pub kept: Seq<MirrorLog>,
-}
-
-/// Races a match that opens so, and answers the record of that race.
+/// Races a match that opens so, and answers the text of the record of that race, and its logs.
 pub fn race_match<R: Threads + Wait + Sync, G: Game + Shown + Send, P: Gate + Sync>(
     rt: &R,
     alloc: Global,
     opening: &G,
     m: Match,
     gate: &P,
-) -> Result<Raced, NoMemory>
+) -> Result<Played, NoMemory>
     ensures { let show : Showing G = record { rules = G.rules; lines = G.lines; names = m.names } in
         IfOk result (λ a. (mirrors : List (MirrorState G))
         × IsRecordOfRace show opening.now m mirrors a.text a.kept) }
@@ -44,7 +38,7 @@ pub fn race_match<R: Threads + Wait + Sync, G: Game + Shown + Send, P: Gate + Sy
         logs,
         worlds: _,
     } = r;
-    Ok(Raced {
+    Ok(Played {
         text: Seq::of(text),
         kept: logs,
     })

@@ -2,12 +2,11 @@
 
 ghost use Rattle.std.specs.Prelude.{◌≡◌, ◌≤◌, length, IfOk};
 ghost use Rattle.match_hall.specs.Report.{Showing};
-ghost use Rattle.match_hall.specs.Script.{logs_from};
 ghost use Rattle.tss_race.specs.Record.{blocks_from, worlds_from, record_of};
 
 use game_trait::{Game, MirrorId};
-use match_data::{Match, MirrorLog};
-use match_hall::{push_copy, push_log};
+use match_data::Match;
+use match_hall::{logs_of, push_copy};
 use match_setup::{Roster, Shown};
 use mirror_core::Mirror;
 use run_recorder::{Block, RaceRecord};
@@ -55,21 +54,6 @@ fn worlds_of<G: Game + Shown>(
         number += 1;
     }
     Ok(worlds)
-}
-
-// The logs of mirrors, mirror 0 first. Want of memory makes none.
-#[tactic(auto, unfolding(match_hall::specs::Script::logs_from))]
-fn logs_of<G: Game>(alloc: Global, mirrors: &[Mirror<G>]) -> Result<Seq<MirrorLog>, NoMemory>
-    requires { length mirrors.now ≤ 8 }
-    ensures { IfOk result (λ logs. logs ≡ logs_from 0 mirrors.now) }
-{
-    let mut logs = Seq::new(alloc);
-    let mut number: MirrorId = 0;
-    for mirror in mirrors {
-        push_log::<G, _>(alloc, number, mirror, &mut logs)?;
-        number += 1;
-    }
-    Ok(logs)
 }
 
 /// The record of a match whose mirrors ended so: their logs, and the worlds of their copies. Want

@@ -1,9 +1,0 @@
-use Rattle.std.proofs.Common.{◌≡◌, ◌++◌, drop}
-use Rattle.match_hall.specs.Script.{logs_from}
-use Rattle.tss_race.proofs.record.logs_of.Given as goal
-
-abbrev pub invariant-loop-mirror : goal.invariant-loop-mirror
-invariant-loop-mirror g l = record {
-  id : l.number ≡ l.mirror-index;
-  logs : l.logs ++ logs_from l.number (drop l.mirror-index l.mirrors) ≡ logs_from 0 l.mirrors;
-}
