@@ -26,7 +26,8 @@ use Rattle.live_text.specs.declared.request.Request.TheVariants as requests
 use Rattle.live_mirror.specs.Events.{after_requests, IsAmong}
 use Rattle.live_mirror.specs.Record.{with_commands, MayBeCommands, IsEnd, AreEnds, each_block, log_of, worlds_of, record_of, told_at_ends, put_together}
 use Rattle.live_mirror.specs.Session.{SessionState, after_request, mirror_after, opening_session}
-use Rattle.live_mirror.specs.Told.{answer_text, copy_blocks, drain_text, record_part}
+use Rattle.match_hall.specs.Report.{copy_blocks, drain_text}
+use Rattle.live_mirror.specs.Told.{answer_text, record_part}
 use Rattle.live_mirror.proofs.Audited.{audited}
 use Rattle.live_mirror.proofs.Kept.{session_kept}
 
