@@ -2,6 +2,7 @@
 
 ghost use Rattle.std.specs.Prelude.{◌≡◌};
 ghost use Rattle.game_trait.specs.Keys.{key_of, in_key_order, NamesDiffer};
+ghost use Rattle.game_trait.specs.Later.{earlier, earlier_item};
 
 /// A time in whole ticks, from the start of the match.
 pub type Tick = u32;
@@ -66,6 +67,17 @@ impl Command {
             number: self.number,
         }
     }
+
+    /// The command, its time told from so many ticks on: one that is due before them is due at 0.
+    #[inline]
+    pub fn earlier(&self, by: Tick) -> Command
+        ensures { result ≡ earlier by self.now }
+    {
+        Command {
+            time: self.time.saturating_sub(by),
+            ..*self
+        }
+    }
 }
 
 /// One item of a run: a command executed, or the end of a tick.
@@ -75,6 +87,20 @@ pub enum Item {
     Cmd(Command),
     /// The world's own step, once a tick.
     Beat,
+}
+
+impl Item {
+    /// The item, a command's time told from so many ticks on.
+    #[inline]
+    #[tactic(auto, unfolding(crate::specs::Later::earlier_item))]
+    pub fn earlier(&self, by: Tick) -> Item
+        ensures { result ≡ earlier_item by self.now }
+    {
+        match self {
+            Item::Cmd(x) => Item::Cmd(x.earlier(by)),
+            Item::Beat => Item::Beat,
+        }
+    }
 }
 
 /// Puts commands of different names in key order. It takes no memory.

@@ -14,6 +14,6 @@ mod order;
 pub use command::{Act, Command, Item, Key, MirrorId, Number, Tick, order_by_key};
 pub use command_list::CommandList;
 pub use event::{Arrived, Event, Note, Reply, Stepped, Ticked};
-pub use game::Game;
+pub use game::{Game, TimeBlind};
 pub use name_tree::NameTree;
 pub use order::execute_in_order;
