@@ -4,9 +4,9 @@ ghost use Rattle.std.specs.Prelude.{◌≡◌, ◌+◌, ◌-◌, ◌^◌, ◌<�
 ghost use Rattle.std.specs.Prelude.{drop, replicate, slice_get, slice_set};
 ghost use Rattle.game_trait.specs.declared.limits.TheConstants.{MOST_COPIES};
 ghost use Rattle.game_trait.specs.Run.{beats};
-ghost use Rattle.executed_list.specs.Segments.{clocks_at, end_of, filled, raised, Falls};
+ghost use Rattle.executed_list.specs.Segments.{clocks_at, end_of, filled, last_end, raised, run_forgotten, Falls};
 
-use crate::ends::{beats_in, beats_of, fill, raise};
+use crate::ends::{beats_in, beats_of, fill, forget_first, lower, raise};
 use game_trait::{Item, Tick};
 use std::alloc::Global;
 use std::marker::Model;
@@ -114,6 +114,21 @@ impl Segments {
         raise(&mut self.ends, c + 1, 1);
         raise(&mut self.clocks, c + 1, beats_in(x));
         self.spare -= 1;
+    }
+
+    /// Forgets the items of the last copy's run, which all copies have run, and tells the times of the
+    /// others from its clock on: of each run there is left what stands behind them.
+    pub fn forget(&mut self)
+        ensures { let end = last_end self.old.ends in
+            self.new ≡ run_forgotten self.old end (beats (take end self.old.items)) }
+    {
+        let last = self.ends.len() - 1;
+        let end = self.ends[last];
+        let clock = self.clocks[last];
+        forget_first(&mut self.items, end as usize, clock);
+        lower(&mut self.ends, end);
+        lower(&mut self.clocks, clock);
+        self.spare += end;
     }
 
     // The ticks before an end that is at least the copy's and at most that of the copy ahead.
