@@ -5,3 +5,4 @@ pub mod Walks
 mod Kept
 mod Sorting
 mod Filled
+mod Forgotten

@@ -141,8 +141,8 @@ pub fn put_at(buckets: &mut Vec<VecDeque<Placed>>, place: usize, placed: Placed)
     }
 }
 
-// Takes out all that the buckets hold.
-fn empty(buckets: &mut Vec<VecDeque<Placed>>)
+/// Takes out all that the buckets hold.
+pub fn empty(buckets: &mut Vec<VecDeque<Placed>>)
     requires { AllByRecursion (λ b. 2048 ≤ deque_capacity b) buckets.old.items }
     ensures items { joined (map (λ b. b.items) buckets.new.items) ≡ [] }
     ensures cut { AreBuckets [] (map (λ b. b.items) buckets.new.items) }
