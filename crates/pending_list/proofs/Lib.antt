@@ -4,5 +4,6 @@ mod Slots
 pub mod Walks
 mod Kept
 mod Sorting
+pub mod Rising
 mod Filled
 mod Forgotten

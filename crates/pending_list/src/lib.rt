@@ -2,6 +2,7 @@
 #![tactic(auto)]
 
 mod buckets;
+mod counting;
 mod in_order;
 mod keyed;
 mod order;
