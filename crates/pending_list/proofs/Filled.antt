@@ -3,7 +3,7 @@ use Rattle.std.proofs.Common.{◌≡◌, refl, ◌∙◌, sym, ap, ℕ, zero, su
 use Rattle.std.proofs.lemmas.Bool.{cases_lt}
 use Rattle.std.proofs.lemmas.List.{length-map, map-set, append_assoc, drop_more}
 use Rattle.std.specs.List.{insert}
-use Rattle.pending_list.specs.declared.sized.Placed.{Placed}
+use Rattle.pending_list.specs.declared.keyed.Placed.{Placed}
 use Rattle.pending_list.specs.Sized.{joined, AreBuckets}
 use Rattle.pending_list.specs.Keyed.{placed_of}
 use Rattle.pending_list.proofs.Cut.{joined-is, get-set}

@@ -6,7 +6,7 @@ use Rattle.std.proofs.lemmas.List.Edits.{length-insert}
 use Rattle.std.proofs.lemmas.Option.{slice_get_within}
 use Rattle.std.specs.Prelude.{Option, Some, slice_get}
 use Rattle.std.specs.List.{insert}
-use Rattle.pending_list.specs.declared.sized.Placed.{Placed}
+use Rattle.pending_list.specs.declared.keyed.Placed.{Placed}
 use Rattle.pending_list.specs.Sized.{AreBuckets}
 use Rattle.pending_list.proofs.Cut.{length-drop, IsPutUpto, put-first, put-next}
 

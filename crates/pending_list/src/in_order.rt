@@ -5,8 +5,9 @@ ghost use Rattle.game_trait.specs.Keys.{in_key_order, NamesDiffer};
 ghost use Rattle.game_trait.specs.Ordered.{due_at};
 ghost use Rattle.pending_list.specs.Buckets.{start_of, due_or_none, command_of, IsInOrder};
 
+use crate::keyed::Placed;
 use crate::order::{KeyOrder, due_before, place_of};
-use crate::sized::{Placed, placed_at};
+use crate::sized::placed_at;
 use game_trait::{Command, Tick};
 use std::collections::VecDeque;
 use std::marker::Model;

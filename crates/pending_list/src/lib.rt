@@ -7,6 +7,7 @@ mod in_order;
 mod keyed;
 mod order;
 mod sized;
+mod sorting;
 
 pub use buckets::Buckets;
 pub use in_order::InOrder;

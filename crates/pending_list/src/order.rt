@@ -7,7 +7,8 @@ ghost use Rattle.game_trait.specs.Keys.{before, KeysRise};
 ghost use Rattle.pending_list.specs.Sized.{joined};
 ghost use Rattle.pending_list.specs.Buckets.{AllBefore, NoneBefore, IsStretch, AreSlots, commands_at};
 
-use crate::sized::{Placed, placed_at};
+use crate::keyed::Placed;
+use crate::sized::placed_at;
 use game_trait::{Act, Command, Tick};
 use std::collections::VecDeque;
 use std::marker::Model;

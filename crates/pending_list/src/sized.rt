@@ -8,21 +8,13 @@ ghost use Rattle.std.specs.VecDeque.{deque_len, deque_capacity};
 ghost use Rattle.pending_list.specs.Sized.{joined, AreBuckets};
 ghost use Rattle.pending_list.specs.Keyed.{placed_of};
 
-use crate::keyed::placed;
-use game_trait::Tick;
+use crate::keyed::{Placed, keyed_place};
 use std::alloc::Global;
 use std::collections::VecDeque;
 use tss_base::NoMemory;
 
 // How many a bucket holds.
 const BUCKET: usize = 2_048;
-
-/// A command's slot, and the tick at which it is due.
-#[derive(Clone, Copy)]
-pub struct Placed {
-    pub time: Tick,
-    pub slot: u32,
-}
 
 /// Buckets that hold nothing, with room for so many and one more. On `NoMemory` nothing is created.
 pub fn new_buckets(alloc: Global, room: usize) -> Result<Vec<VecDeque<Placed>>, NoMemory>
@@ -167,7 +159,7 @@ pub fn fill(buckets: &mut Vec<VecDeque<Placed>>, keys: &[u64])
     empty(buckets);
     let mut place = 0;
     for key in keys {
-        put_at(buckets, place, placed(*key));
+        put_at(buckets, place, keyed_place(*key));
         place += 1;
     }
 }

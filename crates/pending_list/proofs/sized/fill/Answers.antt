@@ -8,7 +8,7 @@ loop-key-preserved c =
     let inv = c.loop-key.invariant in
     let more =
     items-more (joined (map (λ b. b.items) c.loop-key.buckets.items)) (joined (map (λ b. b.items) c.put_at.new.buckets.items))
-    c.args.keys.now c.loop-key.key-index c.loop-key.place _ c.loop-key-test.true inv.items inv.place (rw c.placed.ensures at c.put_at.ensures.items) in
+    c.args.keys.now c.loop-key.key-index c.loop-key.place _ c.loop-key-test.true inv.items inv.place (rw c.keyed_place.ensures at c.put_at.ensures.items) in
     record {
       items = more.0;
       at = (let same = inv.at in omega arith);

@@ -2,7 +2,7 @@ use Rattle.std.proofs.Common.{◌≡◌, ◌-◌, ◌∙◌, sym, ap, ℕ, take,
 use Rattle.std.proofs.lemmas.List.{take_all}
 use Rattle.std.proofs.lemmas.Option.{slice_get_past, slice_get-get_or}
 use Rattle.std.specs.Prelude.{slice_get}
-use Rattle.pending_list.specs.declared.sized.Placed.{Placed}
+use Rattle.pending_list.specs.declared.keyed.Placed.{Placed}
 use Rattle.pending_list.proofs.sized.last_over.Goals as goal
 use Rattle.std.specs.VecDeque.{deque_len}
 

@@ -1,7 +1,7 @@
 use Rattle.std.proofs.Common.{◌≡◌, ◌∙◌, sym, ap, ℕ, ◌+◌, ◌*◌, ◌/◌, ◌%◌, ◌<◌, List, [], length, map, get_or, arith}
 use Rattle.std.proofs.lemmas.List.{length-map, get_or-map}
 use Rattle.std.proofs.Math.Nat.{div-add-mod, mod-lt}
-use Rattle.pending_list.specs.declared.sized.Placed.{Placed}
+use Rattle.pending_list.specs.declared.keyed.Placed.{Placed}
 use Rattle.pending_list.specs.Sized.{joined, AreBuckets}
 use Rattle.pending_list.proofs.Cut.{bucket-at}
 use Rattle.pending_list.proofs.sized.placed_at.Goals as goal

@@ -1,6 +1,6 @@
 use Rattle.std.proofs.Common.{◌≤◌, ◌∙◌, ap, List, length, ◌∷◌, min, arith}
 use Rattle.std.proofs.lemmas.List.{length-take}
-use Rattle.pending_list.specs.declared.sized.Placed.{Placed}
+use Rattle.pending_list.specs.declared.keyed.Placed.{Placed}
 use Rattle.pending_list.proofs.sized.put_first.Goals as goal
 
 pub push_front_reserved-requires : goal.push_front_reserved-requires

@@ -1,7 +1,7 @@
 use Rattle.std.proofs.Common.{◌≤◌, ◌∙◌, ap, List, length, min, arith}
 use Rattle.std.proofs.lemmas.List.{length-take}
 use Rattle.std.specs.List.{insert}
-use Rattle.pending_list.specs.declared.sized.Placed.{Placed}
+use Rattle.pending_list.specs.declared.keyed.Placed.{Placed}
 use Rattle.pending_list.proofs.Cut.{insert-popped}
 use Rattle.pending_list.proofs.sized.put_in.Goals as goal
 
