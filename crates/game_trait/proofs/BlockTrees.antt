@@ -176,6 +176,16 @@ tree-wider blocks links entries wider room is more = elim is [
   | inr tree ↦ inr (tree.0, (let fits = tree.1 in omega arith))
 ]
 
+-- without its blocks it is a tree again, once its roots lead nowhere
+pub tree-cleared :
+    (blocks : List (ℕ × ℕ)) (links more : List ℕ) (entries room : ℕ) → IsTreeInRoom blocks links entries room
+    → (length links ≡ 0 → more ≡ []) → (4096 ≤ length links → more ≡ replicate 4096 0)
+    → IsTreeInRoom [] more entries room
+tree-cleared blocks links more entries room is none roots = elim is [
+  | inl empty ↦ inl (refl, (ap (λ (l : List ℕ). length l) (none empty.1.0), empty.1.1))
+  | inr tree ↦ (let four = tree.0.four in inr (rw (roots (omega arith)) tree-roots, tree.1))
+]
+
 -- once there are roots, and room for four links more, there is room for one block more
 pub tree-reserved :
     (blocks : List (ℕ × ℕ)) (links more : List ℕ) (entries wider room : ℕ) → IsTreeInRoom blocks links entries room

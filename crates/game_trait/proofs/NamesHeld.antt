@@ -172,10 +172,11 @@ pub record HasRoom (count : ℕ) (blocks : NamesInRoom) (places : List ℕ) (ent
   pub in_places : length places + 16 ≤ entries
 
 pub has-room :
-    (count : ℕ) (blocks : NamesInRoom) (places : List ℕ) (entries room : ℕ)
-    → AreInBlocks (names_in blocks.items places count) blocks.items places → IsRoomy count blocks entries room
+    (count : ℕ) (blocks : NamesInRoom) (places : List ℕ) (entries room first_room : ℕ)
+    → AreInBlocks (names_in blocks.items places count) blocks.items places
+    → IsRoomy count blocks entries room first_room
     → length (names_in blocks.items places count) < room → HasRoom count blocks places entries room
-has-room count blocks places entries room is roomy less =
+has-room count blocks places entries room first_room is roomy less =
     let long = length-names_in blocks.items places count in
     let sixteen = is.sixteen in
     let in_blocks = roomy.in_blocks in

@@ -3,11 +3,17 @@ use Rattle.std.specs.Prelude.{◌≡◌, ℕ, zero, suc, ◌+◌, ◌*◌, ◌/�
 use Rattle.std.specs.List.{list_any}
 use Rattle.game_trait.specs.CommandList.{same_pair}
 
--- names in the order in which they were appended, a mirror and a number each, and how many there is
+-- blocks in the order in which they were appended, a mirror and a number each, and how many there is
 -- room for
 pub record NamesInRoom : Type 0 where
   pub items : List (ℕ × ℕ)
   pub room : ℕ
+
+-- names of a tree, how many there is room for, and for how many there was when it was made
+pub record NamesOfTree : Type 0 where
+  pub items : List (ℕ × ℕ)
+  pub room : ℕ
+  pub first_room : ℕ
 
 -- one of the names is this mirror and number
 abbrev pub has_name : List (ℕ × ℕ) → ℕ → ℕ → Bool
@@ -55,7 +61,9 @@ names_in blocks places zero = []
 names_in blocks places (suc count) =
     names_in blocks places count ++ name_at blocks (entry_with places (suc count)) ∷ []
 
--- there is room for so many names, each in a block of its own
-pub record IsRoomy (count : ℕ) (blocks : NamesInRoom) (entries room : ℕ) : Type 0 where
+-- there is room for so many names, each in a block of its own, also once there are none
+pub record IsRoomy (count : ℕ) (blocks : NamesInRoom) (entries room first_room : ℕ) : Type 0 where
   pub in_blocks : length blocks.items + room ≤ blocks.room + count
   pub in_places : 16 * (length blocks.items + room) ≤ entries + 16 * count
+  pub first_in_blocks : first_room ≤ blocks.room
+  pub first_in_places : 16 * first_room ≤ entries

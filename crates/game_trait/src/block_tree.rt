@@ -95,6 +95,14 @@ impl BlockTree {
         Ok(())
     }
 
+    /// Takes out all blocks. The room stays, and it takes no memory.
+    pub fn clear(&mut self)
+        ensures { self.new ≡ record self.old { items = [] } }
+    {
+        self.blocks.clear();
+        clear_links(&mut self.links);
+    }
+
     /// The place of a block, which is appended where it isn't there yet. It takes no memory: there
     /// is room for one block more.
     pub fn place(&mut self, from: MirrorId, block: Number) -> usize
@@ -177,6 +185,16 @@ fn reserve_links(links: &mut Vec<u32>, blocks: usize) -> Result<(), AllocError>
     }
     links.reserve(4_096 + 4 * blocks)?;
     links.resize(4_096, 0)
+}
+
+// Takes out all links but the roots, where these are there, and lets them lead nowhere.
+fn clear_links(links: &mut Vec<u32>)
+    ensures none { length links.old.items ≡ 0 → links.new.items ≡ [] }
+    ensures roots { 4096 ≤ length links.old.items → links.new.items ≡ replicate 4096 0 }
+    ensures capacity { vec_capacity links.new ≡ vec_capacity links.old }
+{
+    links.truncate(4_096);
+    links.fill(0);
 }
 
 // Sets a link, where it is there, and appends four links to nowhere, for which there is room.

@@ -12,7 +12,8 @@ use std::marker::Model;
 const MOST_NAMES: usize = u32::MAX as usize;
 
 /// Names of commands, a mirror and a number each, in the order in which they were appended, no two
-/// the same. Contracts see the names, and how many there is room for without taking memory.
+/// the same. Contracts see the names, how many there is room for without taking memory, and for how
+/// many there was when the tree was made.
 ///
 /// They are found by blocks of 16 numbers of one mirror: a block is found in at most 13 steps,
 /// whatever names strangers choose, and in one where they are dense; it tells the places of its
@@ -24,42 +25,47 @@ pub struct NameTree {
     places: Vec<u32>,
     count: usize,
     room: usize,
+    first_room: usize,
 }
 
 impl Model for NameTree {
     ghost use Rattle.std.specs.Prelude.{◌≤◌, vec_capacity};
-    ghost use Rattle.game_trait.specs.NameTree.{NamesInRoom, AreInBlocks, IsRoomy, names_in};
+    ghost use Rattle.game_trait.specs.NameTree.{NamesOfTree, AreInBlocks, IsRoomy, names_in};
     ghost use Rattle.game_trait.specs.declared.name_tree.TheConstants.{MOST_NAMES};
 
-    ghost Value = { NamesInRoom };
+    ghost Value = { NamesOfTree };
 
     ghost view = { λ t. record {
       items = names_in t.blocks.items t.places.items t.count;
       room = t.room;
+      first_room = t.first_room;
     } };
 
     ghost invariant = { λ t.
         AreInBlocks (names_in t.blocks.items t.places.items t.count) t.blocks.items t.places.items
-        × IsRoomy t.count t.blocks (vec_capacity t.places) t.room × (t.room ≤ MOST_NAMES) };
+        × IsRoomy t.count t.blocks (vec_capacity t.places) t.room t.first_room
+        × ((t.room ≤ MOST_NAMES) × (t.first_room ≤ MOST_NAMES)) };
 }
 
 impl NameTree {
     /// No names yet, and no room. It takes no memory.
     pub fn new(alloc: Global) -> NameTree
-        ensures { result ≡ record { items = []; room = 0 } }
+        ensures { result ≡ record { items = []; room = 0; first_room = 0 } }
     {
         NameTree {
             blocks: BlockTree::new(alloc),
             places: Vec::new(alloc),
             count: 0,
             room: 0,
+            first_room: 0,
         }
     }
 
     /// No names yet, with room for `room` of them. On want of memory nothing is created, and room
     /// for more than `u32::MAX` is always wanting.
     pub fn with_room(alloc: Global, room: usize) -> Result<NameTree, AllocError>
-        ensures { IfOk result (λ names. names ≡ record { items = []; room = room }) }
+        ensures { IfOk result
+            (λ names. names ≡ record { items = []; room = room; first_room = room }) }
     {
         if room > MOST_NAMES {
             return Err(AllocError);
@@ -69,6 +75,7 @@ impl NameTree {
             places: Vec::with_capacity(alloc, 16 * room)?,
             count: 0,
             room,
+            first_room: room,
         })
     }
 
@@ -77,6 +84,7 @@ impl NameTree {
     pub fn reserve(&mut self) -> Result<(), AllocError>
         ensures items { self.new.items ≡ self.old.items }
         ensures room { self.old.room ≤ self.new.room }
+        ensures first_room { self.new.first_room ≡ self.old.first_room }
         ensures ok { OnOk result (length self.new.items < self.new.room) }
         ensures err { OnErr result (self.new.room ≡ self.old.room) }
     {
@@ -90,6 +98,17 @@ impl NameTree {
         self.places.reserve(16)?;
         self.room = self.count + 1;
         Ok(())
+    }
+
+    /// Takes out all names. Then there is the room with which the tree was made, and it takes no
+    /// memory.
+    pub fn clear(&mut self)
+        ensures { self.new ≡ record self.old { items = []; room = self.old.first_room } }
+    {
+        self.blocks.clear();
+        self.places.clear();
+        self.count = 0;
+        self.room = self.first_room;
     }
 
     /// Appends a name that isn't there yet, where there is room. It takes no memory.
