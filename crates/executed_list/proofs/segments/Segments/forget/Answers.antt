@@ -1,4 +1,4 @@
-use Rattle.std.proofs.Common.{◌≡◌, ◌∙◌, ◌+◌, refl, length, arith}
+use Rattle.std.proofs.Common.{◌∙◌, ◌+◌, refl, arith}
 use Rattle.executed_list.specs.Segments.{run_forgotten}
 use Rattle.executed_list.proofs.Grown.{one}
 use Rattle.executed_list.proofs.Forgotten.{last-is, last-within, ends-least, ticks-least, forgotten-kept, forgotten-is}
