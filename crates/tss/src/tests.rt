@@ -7,6 +7,7 @@ mod commands;
 mod copies;
 mod deferred;
 mod ends;
+mod forgets;
 mod limits;
 mod links;
 mod locks;
