@@ -124,7 +124,7 @@ none-counted k (x ∷ xs) none = (
 )
 
 -- behind the last copy's run a run has no command that is older than the last copy's clock
-behind-the-last :
+pub behind-the-last :
     (accepted : List Command) (last run rest : List Item) → run ≡ last ++ rest → IsComplete accepted last → IsComplete accepted run
     → AllByRecursion (λ x. beats last ≤ x.time) (commands_of rest)
 unfolding IsComplete
@@ -200,12 +200,12 @@ runs-on accepted front last b (r ∷ runs) complete_last complete begin =
     (runs-on accepted front last b runs complete_last complete.1 begin.1)
 
 -- what holds of all runs, of which there are some, holds of the last
-last-all : (P : List Item → Type 0) (runs : List (List Item)) → 0 < length runs → AllByRecursion P runs → P (last_of [] runs)
+pub last-all : (P : List Item → Type 0) (runs : List (List Item)) → 0 < length runs → AllByRecursion P runs → P (last_of [] runs)
 unfolding last_of
 last-all P [] some all = absurd (omega arith)
 last-all P (r ∷ rs) some all = all-last P r rs all.0 all.1
 
-all-begin : (runs : List (List Item)) → 0 < length runs → IsChained runs → AllByRecursion (λ q. IsPrefix (last_of [] runs) q) runs
+pub all-begin : (runs : List (List Item)) → 0 < length runs → IsChained runs → AllByRecursion (λ q. IsPrefix (last_of [] runs) q) runs
 unfolding last_of
 all-begin [] some chained = absurd (omega arith)
 all-begin (r ∷ rs) some chained = begin-with-last r rs chained

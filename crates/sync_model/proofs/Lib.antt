@@ -23,5 +23,5 @@ pub mod Epochs
 pub mod Renewals
 pub mod Following
 pub mod HostWorlds
-mod Forgetting
-mod Forgotten
+pub mod Forgetting
+pub mod Forgotten

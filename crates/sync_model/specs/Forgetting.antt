@@ -1,6 +1,7 @@
 -- A mirror that has forgotten what lies behind its last copy, beside one that remembers all.
 use Rattle.std.specs.Prelude.{◌≡◌, ℕ, ◌+◌, ◌-◌, ◌<◌, false, nat_le, nat_lt, List, [], ◌++◌, map, filter, drop, length}
 use Rattle.std.specs.List.{list_any}
+use Rattle.game_trait.specs.declared.command.Command.{Command}
 use Rattle.game_trait.specs.declared.command.Item.{Item}
 use Rattle.game_trait.specs.declared.event.Event.{Event}
 use Rattle.game_trait.specs.declared.event.Event.TheVariants.{Tick, Arrive, Step, Restagger}
@@ -36,13 +37,19 @@ IsRemembered b whole Tick = Unit {0}
 IsRemembered b whole (Step c) = c < length whole.runs
 IsRemembered b whole (Restagger p) = Unit {0}
 
+-- the commands that are due after so many ticks, and what stands behind the first n items of a run,
+-- their times told from these ticks on
+abbrev pub left_commands : ℕ → List Command → List Command
+left_commands b accepted = map (earlier b) (filter (λ x. nat_le b x.time) accepted)
+
+abbrev pub left_run : ℕ → ℕ → List Item → List Item
+left_run b n run = map (earlier_item b) (drop n run)
+
 -- a mirror that forgets all that lies behind its last copy
 abbrev pub forgotten : {W : Type 0} → Rules W → MirrorState W → MirrorState W
 forgotten rules s = record s {
   opening = world_of rules s.opening (last_of [] s.runs);
   clock = s.clock - last_clock s.runs;
-  accepted =
-      map (earlier (last_clock s.runs)) (filter (λ x. nat_le (last_clock s.runs) x.time) s.accepted);
-  runs =
-      map (λ run. map (earlier_item (last_clock s.runs)) (drop (length (last_of [] s.runs)) run)) s.runs;
+  accepted = left_commands (last_clock s.runs) s.accepted;
+  runs = map (left_run (last_clock s.runs) (length (last_of [] s.runs))) s.runs;
 }

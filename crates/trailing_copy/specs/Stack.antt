@@ -1,5 +1,5 @@
 -- What contracts see of the copies of a mirror, and how they are kept.
-use Rattle.std.specs.Prelude.{◌≡◌, ℕ, ◌+◌, ◌<◌, ◌≤◌, nat_lt, if◌then◌else◌, List, map, drop, length}
+use Rattle.std.specs.Prelude.{◌≡◌, ℕ, ◌+◌, ◌-◌, ◌<◌, ◌≤◌, nat_lt, if◌then◌else◌, List, [], map, drop, length}
 use Rattle.std.specs.Prelude.{Option, Some, None, slice_index_or, slice_set}
 use Rattle.std.specs.List.{AllByRecursion}
 use Rattle.game_trait.specs.declared.limits.TheConstants.{LONGEST_MATCH, MOST_COPIES}
@@ -8,7 +8,10 @@ use Rattle.game_trait.specs.declared.command.Item.{Item}
 use Rattle.game_trait.specs.Game.{Rules}
 use Rattle.game_trait.specs.Run.{beats, world_of}
 use Rattle.game_trait.specs.Ordered.{ordered}
+use Rattle.sync_model.specs.Lists.{last_of}
+use Rattle.sync_model.specs.State.{last_clock}
 use Rattle.sync_model.specs.Staggered.{IsTrailing}
+use Rattle.sync_model.specs.Forgetting.{left_commands, left_run}
 use Rattle.executed_list.specs.Segments.{OneList, runs_at, end_of}
 
 -- the opening world, the match's length in ticks, the accepted commands in order of acceptance, the
@@ -29,6 +32,17 @@ pub record LazyCopies (W : Type 0) : Type 0 where
   pub runs : List (List Item)
   pub spare : ℕ
   pub stale : ℕ
+
+-- copies that forget the run of the last one: its world is the opening, and of the commands and of the
+-- other runs there is left what comes after it, its times told from the last copy's clock on; there is
+-- room for as many commands more as were forgotten
+abbrev pub forgotten_copies : {W : Type 0} → Rules W → LazyCopies W → LazyCopies W
+forgotten_copies rules s = record s {
+  opening = world_of rules s.opening (last_of [] s.runs);
+  accepted = left_commands (last_clock s.runs) s.accepted;
+  runs = map (left_run (last_clock s.runs) (length (last_of [] s.runs))) s.runs;
+  spare = s.spare + (length s.accepted - length (left_commands (last_clock s.runs) s.accepted));
+}
 
 -- from copy n on, each world is the world of its run
 abbrev pub AreWorlds : {W : Type 0} → Rules W → W → OneList → ℕ → List W → Type 0
