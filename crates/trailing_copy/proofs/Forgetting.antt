@@ -1,6 +1,6 @@
 -- Copies that forget the last one's run.
 use Rattle.std.proofs.Common.{◌≡◌, refl, ◌∙◌, ap, sym, subst, ℕ, zero, suc, ◌+◌, ◌-◌, ◌≤◌, ◌<◌, true, false, cond, leb}
-use Rattle.std.proofs.Common.{List, [], ◌∷◌, ◌++◌, map, filter, take, drop, length, get_or, arith}
+use Rattle.std.proofs.Common.{List, [], ◌∷◌, map, filter, take, drop, length, get_or, arith}
 use Rattle.std.specs.List.{AllByRecursion}
 use Rattle.std.proofs.lemmas.List.{get_or-map, length-map, length-drop, length-take-le, take-map, drop-map}
 use Rattle.std.proofs.Math.Seq.{drop-nil, take-nil}
@@ -21,7 +21,7 @@ use Rattle.sync_model.specs.Forgetting.{left_commands, left_run}
 use Rattle.sync_model.proofs.Lists.{last_of-at}
 use Rattle.sync_model.proofs.Forgetting.{ordered-left}
 use Rattle.sync_model.proofs.Forgotten.{all-begin}
-use Rattle.executed_list.specs.Segments.{OneList, Falls, end_of, runs_at, clocks_at}
+use Rattle.executed_list.specs.Segments.{OneList, Falls, end_of, last_end, runs_at, clocks_at, run_forgotten}
 use Rattle.trailing_copy.specs.Stack.{IsStack, IsSettled, LazyCopies, forgotten_copies}
 use Rattle.trailing_copy.proofs.Ahead.{falls-between}
 use Rattle.trailing_copy.proofs.Remade.{run-many, clock-at, run-at, world-at, end-inside}
@@ -108,15 +108,16 @@ worlds-left {W} rules opening k last blind (r ∷ runs) begin =
 abbrev pub runs_left : List (List Item) → List (List Item)
 runs_left runs = map (left_run (last_clock runs) (length (last_of [] runs))) runs
 
-abbrev pub list_without : ℕ → ℕ → OneList → OneList
-list_without t n s = record {
-  items = left_run t n s.items;
-  ends = map (λ e. e - n) s.ends;
-  spare = s.spare + n;
-}
-
 abbrev pub list_left : OneList → OneList
-list_left s = list_without (last_clock (runs_at s.items s.ends)) (length (last_of [] (runs_at s.items s.ends))) s
+list_left s = run_forgotten s (length (last_of [] (runs_at s.items s.ends))) (last_clock (runs_at s.items s.ends))
+
+-- the last copy's clock, the clock and the end that the list reads of it, and its world
+pub record IsLast {W : Type 0} (rules : Rules W) (opening : W) (runs : List (List Item)) (t b n : ℕ) (w : W) :
+    Type 0 where
+  pub clock : t ≡ last_clock runs
+  pub told : b ≡ last_clock runs
+  pub end : n ≡ length (last_of [] runs)
+  pub world : w ≡ world_of rules opening (last_of [] runs)
 
 module _ {W : Type 0} {rules : Rules W} {opening : W} {ticks : ℕ} {all : List Command} {spare : ℕ}
     {s : OneList} {worlds : List W} {clocks : List ℕ} {stale : ℕ}
@@ -126,7 +127,7 @@ module _ {W : Type 0} {rules : Rules W} {opening : W} {ticks : ℕ} {all : List 
   some = (let few = h.few_stale in omega arith)
 
   -- the last copy's run, as contracts see it and as the list keeps it
-  pub last-run : last_of [] (runs_at s.items s.ends) ≡ take (end_of s.ends (length s.ends - 1)) s.items
+  pub last-run : last_of [] (runs_at s.items s.ends) ≡ take (last_end s.ends) s.items
   last-run =
       let many = run-many h falls first in
       let one = some in
@@ -134,11 +135,11 @@ module _ {W : Type 0} {rules : Rules W} {opening : W} {ticks : ℕ} {all : List 
       ∙ ap (λ (i : ℕ). get_or (runs_at s.items s.ends) (i - 1) []) many
       ∙ run-at h falls first (length s.ends - 1) (omega arith)
 
-  pub last-length : length (last_of [] (runs_at s.items s.ends)) ≡ end_of s.ends (length s.ends - 1)
+  pub last-length : length (last_of [] (runs_at s.items s.ends)) ≡ last_end s.ends
   last-length =
       let one = some in
       ap (λ (l : List Item). length l) last-run
-      ∙ length-take-le (end_of s.ends (length s.ends - 1)) s.items (end-inside h falls first (length s.ends - 1) (omega arith))
+      ∙ length-take-le (last_end s.ends) s.items (end-inside h falls first (length s.ends - 1) (omega arith))
 
   begin : AllByRecursion (λ q. IsPrefix (last_of [] (runs_at s.items s.ends)) q) (runs_at s.items s.ends)
   begin =
@@ -247,59 +248,53 @@ module _ {W : Type 0} {rules : Rules W} {opening : W} {ticks : ℕ} {all : List 
             ∙ earlier-later k (ordered (left_commands k all) low high);
       }
 
-  -- the last copy's clock and its world, as they are read
-  pub last-clock :
-      (c t : ℕ) → c ≡ length s.ends - 1 → t ≡ beats (take (end_of s.ends c) s.items) → t ≡ last_clock (runs_at s.items s.ends)
-  last-clock c t last at =
-      at ∙ ap (λ (i : ℕ). beats (take (end_of s.ends i) s.items)) last ∙ ap beats (sym last-run)
-
-  pub last-world :
-      (c : ℕ) (w : W) → c ≡ length s.ends - 1 → w ≡ get_or worlds c w
-      → w ≡ world_of rules opening (last_of [] (runs_at s.items s.ends))
-  last-world c w last at =
+  -- as they are read
+  pub last-is :
+      (c t : ℕ) (w : W) → c ≡ length s.ends - 1 → t ≡ beats (take (end_of s.ends c) s.items) → w ≡ get_or worlds c w
+      → IsLast rules opening (runs_at s.items s.ends) t (beats (take (last_end s.ends) s.items)) (last_end s.ends) w
+  last-is c t w last at_clock at_world =
       let few = h.few_stale in
-      at
-      ∙ world-at h falls first c w (omega arith) (omega arith)
-      ∙ ap (λ (i : ℕ). world_of rules opening (take (end_of s.ends i) s.items)) last
-      ∙ ap (world_of rules opening) (sym last-run)
+      record {
+        clock = at_clock ∙ ap (λ (i : ℕ). beats (take (end_of s.ends i) s.items)) last ∙ ap beats (sym last-run);
+        told = ap beats (sym last-run);
+        end = sym last-length;
+        world =
+            at_world
+            ∙ world-at h falls first c w (omega arith) (omega arith)
+            ∙ ap (λ (i : ℕ). world_of rules opening (take (end_of s.ends i) s.items)) last
+            ∙ ap (world_of rules opening) (sym last-run);
+      }
 
-  -- what is left, by that clock and that world, and by the clock and the end that the list reads
-  pub forgotten :
-      (m t b n : ℕ) (w : W) → AreTimeBlind rules → IsSettled all s clocks m
-      → w ≡ world_of rules opening (last_of [] (runs_at s.items s.ends)) → t ≡ last_clock (runs_at s.items s.ends)
-      → b ≡ last_clock (runs_at s.items s.ends)
-      → n ≡ length (last_of [] (runs_at s.items s.ends))
-      → IsStack rules w ticks (left_commands t all) (spare + (length all - length (left_commands t all)))
-      (list_without b n s) worlds (clocks_at (list_without b n s).items (list_without b n s).ends) stale
-      × IsSettled (left_commands t all) (list_without b n s) (clocks_at (list_without b n s).items (list_without b n s).ends) m
-  forgotten m t b n w blind settled at_w at_t at_b at_n =
-      rw (at_w, at_t, at_b, at_n) (kept-own (forgotten-kept blind) (forgotten-settled m settled))
+  module _ {t b n : ℕ} {w : W} (last : IsLast rules opening (runs_at s.items s.ends) t b n w) where
+    pub forgotten :
+        (m : ℕ) → AreTimeBlind rules → IsSettled all s clocks m
+        → IsStack rules w ticks (left_commands t all) (spare + (length all - length (left_commands t all)))
+        (run_forgotten s n b) worlds (clocks_at (run_forgotten s n b).items (run_forgotten s n b).ends) stale
+        × IsSettled (left_commands t all) (run_forgotten s n b) (clocks_at (run_forgotten s n b).items (run_forgotten s n b).ends) m
+    forgotten m blind settled =
+        rw (last.world, last.clock, last.told, last.end) (kept-own (forgotten-kept blind) (forgotten-settled m settled))
 
-  pub forgotten-state :
-      (t b n : ℕ) (w : W)
-      → w ≡ world_of rules opening (last_of [] (runs_at s.items s.ends)) → t ≡ last_clock (runs_at s.items s.ends)
-      → b ≡ last_clock (runs_at s.items s.ends)
-      → n ≡ length (last_of [] (runs_at s.items s.ends))
-      → Path (LazyCopies W)
-      (record {
-        opening = w;
-        ticks = ticks;
-        accepted = left_commands t all;
-        runs = runs_at (list_without b n s).items (list_without b n s).ends;
-        spare = spare + (length all - length (left_commands t all));
-        stale = stale;
-      })
-      (forgotten_copies rules (record {
-        opening = opening;
-        ticks = ticks;
-        accepted = all;
-        runs = runs_at s.items s.ends;
-        spare = spare;
-        stale = stale;
-      }))
-  forgotten-state t b n w at_w at_t at_b at_n =
-      rw (at_w, at_t, at_b, at_n)
-      (same-state (world_of rules opening (last_of [] (runs_at s.items s.ends))) ticks
-      (left_commands (last_clock (runs_at s.items s.ends)) all)
-      (spare + (length all - length (left_commands (last_clock (runs_at s.items s.ends)) all))) stale
-      (runs_at (list_left s).items (list_left s).ends) (runs_left (runs_at s.items s.ends)) forgotten-runs)
+    pub forgotten-state :
+        Path (LazyCopies W)
+        (record {
+          opening = w;
+          ticks = ticks;
+          accepted = left_commands t all;
+          runs = runs_at (run_forgotten s n b).items (run_forgotten s n b).ends;
+          spare = spare + (length all - length (left_commands t all));
+          stale = stale;
+        })
+        (forgotten_copies rules (record {
+          opening = opening;
+          ticks = ticks;
+          accepted = all;
+          runs = runs_at s.items s.ends;
+          spare = spare;
+          stale = stale;
+        }))
+    forgotten-state =
+        rw (last.world, last.clock, last.told, last.end)
+        (same-state (world_of rules opening (last_of [] (runs_at s.items s.ends))) ticks
+        (left_commands (last_clock (runs_at s.items s.ends)) all)
+        (spare + (length all - length (left_commands (last_clock (runs_at s.items s.ends)) all))) stale
+        (runs_at (list_left s).items (list_left s).ends) (runs_left (runs_at s.items s.ends)) forgotten-runs)

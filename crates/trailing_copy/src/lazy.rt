@@ -38,10 +38,10 @@ use tss_base::NoMemory;
 /// 0 on, have worlds that are still to be made. Only `new` takes memory.
 #[derive(Drop)]
 pub struct LazyStack<G: Game> {
-    opening: G,
-    list: Buckets,
-    run: Segments,
-    worlds: Vec<G>,
+    pub(crate) opening: G,
+    pub(crate) list: Buckets,
+    pub(crate) run: Segments,
+    pub(crate) worlds: Vec<G>,
     // how many copies, from copy 0 on, have worlds that are still to be made
     stale: u8,
     // a copy ahead of whose run all stands in time order

@@ -4,6 +4,7 @@
 
 mod clocks;
 mod due;
+mod forget;
 mod lazy;
 mod repairs;
 mod stack;
