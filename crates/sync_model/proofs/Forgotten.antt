@@ -16,7 +16,7 @@ use Rattle.game_trait.proofs.Runs.{beats-append, commands_of-append, world_of-ap
 use Rattle.game_trait.proofs.OrderedParts.{ordered-join}
 use Rattle.sync_model.specs.Lists.{last_of}
 use Rattle.sync_model.specs.State.{MirrorState, last_clock}
-use Rattle.sync_model.specs.Staggered.{IsAhead, IsChained, IsComplete, IsStaggered}
+use Rattle.sync_model.specs.Staggered.{IsAhead, IsChained, IsComplete, IsTrailing}
 use Rattle.game_trait.specs.Later.{AreTimeBlind, later, earlier, later_item, earlier_item}
 use Rattle.sync_model.specs.Forgetting.{whole_run, IsLeft, forgotten}
 use Rattle.sync_model.proofs.Forgetting.{filter-through, map-get, ordered-left}
@@ -211,9 +211,10 @@ all-begin [] some chained = absurd (omega arith)
 all-begin (r ∷ rs) some chained = begin-with-last r rs chained
 
 pub forgotten-left :
-    {W : Type 0} (rules : Rules W) (b : ℕ) (whole left : MirrorState W) → AreTimeBlind rules → IsStaggered left → IsLeft rules b whole left
+    {W : Type 0} (rules : Rules W) (b : ℕ) (whole left : MirrorState W) → AreTimeBlind rules → IsTrailing left.accepted left.runs
+    → last_clock left.runs ≤ left.clock → IsLeft rules b whole left
     → IsLeft rules (b + last_clock left.runs) whole (forgotten rules left)
-forgotten-left {W} rules b whole left blind staggered h =
+forgotten-left {W} rules b whole left blind trailing behind h =
     let last = last_of [] left.runs in
     let k = beats last in
     let front = ordered whole.accepted 0 b in
@@ -221,11 +222,10 @@ forgotten-left {W} rules b whole left blind staggered h =
     let passed : ordered whole.accepted b (b + k) ≡ map (later_item b) last =
     ap (λ (i : ℕ). ordered whole.accepted i (b + k)) (sym at)
     ∙ ordered-left b whole.accepted left.accepted h.accepted 0 k
-    ∙ ap (map (later_item b)) (sym staggered.trailing.last_ordered) in
+    ∙ ap (map (later_item b)) (sym trailing.last_ordered) in
     let longer : ordered whole.accepted 0 (b + k) ≡ whole_run front b last =
     ordered-join whole.accepted 0 b (b + k) (omega arith) (omega arith) ∙ ap (λ (l : List Item). front ++ l) passed in
-    let complete = staggered.trailing.complete in
-    let behind = last-all (λ run. beats run ≤ left.clock) left.runs h.some_copy staggered.in_bounds.behind_clock in
+    let complete = trailing.complete in
     let clock = h.clock in
     let some = h.some_copy in
     record {
@@ -243,6 +243,6 @@ forgotten-left {W} rules b whole left blind staggered h =
       runs =
           h.runs
           ∙ runs-on left.accepted front last b left.runs (last-all (IsComplete left.accepted) left.runs h.some_copy complete) complete
-          (all-begin left.runs h.some_copy staggered.trailing.chained)
+          (all-begin left.runs h.some_copy trailing.chained)
           ∙ ap (λ (l : List Item). map (whole_run l (b + k)) (map (λ run. map (earlier_item k) (drop (length last) run)) left.runs)) (sym longer);
     }

@@ -1,13 +1,13 @@
 //! What a mirror stands on that forgets what lies behind its last copy: that this changes nothing.
 
-ghost use Rattle.std.specs.Prelude.{◌≡◌, ℕ, ◌+◌, ◌<◌, length, map};
+ghost use Rattle.std.specs.Prelude.{◌≡◌, ℕ, ◌+◌, ◌<◌, ◌≤◌, length, map};
 ghost use Rattle.game_trait.specs.declared.event.Event.{Event};
 ghost use Rattle.game_trait.specs.Ordered.{due_at};
 ghost use Rattle.game_trait.specs.Run.{world_of};
 ghost use Rattle.sync_model.specs.State.{MirrorState, copy_clock, delays_of, last_clock};
 ghost use Rattle.sync_model.specs.Change.{next, said};
 ghost use Rattle.sync_model.specs.Drafts.{run_of};
-ghost use Rattle.sync_model.specs.Staggered.{IsStaggered};
+ghost use Rattle.sync_model.specs.Staggered.{IsTrailing};
 ghost use Rattle.game_trait.specs.Later.{AreTimeBlind, later, later_event, later_reply};
 ghost use Rattle.sync_model.specs.Forgetting.{IsLeft, IsRemembered, forgotten};
 
@@ -31,10 +31,12 @@ pub fn forgetting_changes_no_answer<G: Game>()
 {}
 
 /// A mirror of whose first ticks some were forgotten may forget all that lies behind its last copy, where
-/// no rule of the game looks at a command's time.
+/// no rule of the game looks at a command's time. Its copies trail as always, and the last one isn't ahead
+/// of the mirror's clock.
 pub fn what_lies_behind_the_last_copy_is_forgotten<G: Game>()
     ensures { (b : ℕ) (whole left : MirrorState G)
-        → AreTimeBlind G.rules → IsStaggered left → IsLeft G.rules b whole left
+        → AreTimeBlind G.rules → IsTrailing left.accepted left.runs → last_clock left.runs ≤ left.clock
+        → IsLeft G.rules b whole left
         → IsLeft G.rules (b + last_clock left.runs) whole (forgotten G.rules left) }
 {}
 
