@@ -7,7 +7,7 @@ mod in_order;
 mod keyed;
 mod order;
 mod sized;
-mod sorting;
+mod sorted;
 
 pub use buckets::Buckets;
 pub use in_order::InOrder;
