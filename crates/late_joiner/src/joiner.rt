@@ -1,31 +1,21 @@
 //! A mirror that joins a match late.
 
-ghost use Rattle.std.specs.Prelude.{◌≡◌, ◌↔◌, ◌⊎◌, ◌+◌, ◌<◌, ◌≤◌, true, false, IfOk, IfErr, length, slice_index_or};
-ghost use Rattle.std.specs.List.{AllByRecursion, list_any};
+ghost use Rattle.std.specs.Prelude.{◌≡◌, ◌+◌, ◌<◌, true, false, length};
+ghost use Rattle.std.specs.List.{list_any};
 ghost use Rattle.game_trait.specs.Keys.{same_name};
-ghost use Rattle.std.specs.Prelude.{Err};
 ghost use Rattle.game_trait.specs.Ordered.{time_ordered};
 ghost use Rattle.sync_model.specs.Change.{said, answers};
 ghost use Rattle.sync_model.specs.Drafts.{run_of};
 ghost use Rattle.sync_model.specs.History.{repairs as repairs_of};
-ghost use Rattle.sync_model.specs.Schedule.{copies_of_first, ticks_of_first};
 ghost use Rattle.sync_model.specs.Turns.{turn_events, is_drained, drain, drain_bound};
-ghost use Rattle.late_joiner.specs.declared.joined.JoinFault.TheVariants.{TooLate};
-ghost use Rattle.late_joiner.specs.Snapshot.{IsSnapshot};
-ghost use Rattle.late_joiner.specs.Joiner.{opened, full_length, accepted_at, all_accepted, joined, told_from, joiner_next, joiner_after, FitsJoiner, world_of_run, IsShort};
+ghost use Rattle.late_joiner.specs.Joiner.{full_length, accepted_at, all_accepted, joined, told_from, joiner_next, joiner_after, FitsJoiner, world_of_run, IsShort};
 
-use crate::handed::Snapshot;
-use crate::joined::{JoinFault, Joined};
-use crate::opening::open;
+use crate::joined::Joined;
 use crate::shifted::Shifted;
 use arrayvec::ArrayVec;
-use game_trait::limits::{MOST_PLANS, MOST_ROOM};
 use game_trait::{Arrived, Command, CommandList, Event, Game, Reply, Stepped, Tick, Ticked};
 use mirror_core::{DeferredMirror, Mirrored};
-use stagger_clock::Stagger;
-use std::alloc::Global;
 use std::marker::Model;
-use tss_base::NoMemory;
 
 /// A mirror that joins a match late, opened from another mirror's snapshot (this project's own).
 /// It has a mirror of its own over the remaining ticks, whose repaired copies execute when they are
@@ -76,48 +66,6 @@ fn told(start: Tick, arrived: Arrived) -> Joined
 }
 
 impl<G: Game> Joiner<G> {
-    /// A mirror that joins the match from a snapshot, with the match's 1 to 8 plans, of as many
-    /// ticks and copies each, and with room for `room` arrivals, the snapshot's rest among them,
-    /// and `restaggers` changes of the plan, of which it takes one; each at most 1,048,576. It
-    /// moves to the snapshot's plan and accepts all of the rest. Where no tick is left it is
-    /// TooLate, with the snapshot's clock and the match's length. It takes all the memory that the
-    /// joiner ever needs. On `NoMemory` nothing is created.
-    pub fn new(
-        alloc: Global,
-        snap: Snapshot<G>,
-        plans: &[Stagger],
-        room: u32,
-        restaggers: u32,
-    ) -> Result<Joiner<G>, JoinFault>
-        requires some_plan { 0 < length plans.now }
-        requires few_plans { length plans.now ≤ MOST_PLANS }
-        requires equal_ticks { AllByRecursion (λ plan. plan.length ≡ ticks_of_first plans.now)
-            plans.now }
-        requires equal_copies { AllByRecursion
-            (λ plan. length plan.delays ≡ copies_of_first plans.now)
-            plans.now }
-        requires snapshot { IsSnapshot G.rules (ticks_of_first plans.now) (length plans.now) snap }
-        requires rest { length snap.rest ≤ room }
-        requires room { room ≤ MOST_ROOM }
-        requires restaggers { (0 < restaggers) × (restaggers ≤ MOST_ROOM) }
-        ensures too_late { (result ≡ Err (TooLate snap.clock (ticks_of_first plans.now)))
-            ↔ (snap.clock ≡ ticks_of_first plans.now) }
-        ensures fault { IfErr result (λ e. (e ≡ JoinFault.NoMemory)
-            ⊎ (e ≡ TooLate snap.clock (ticks_of_first plans.now))) }
-        ensures opened { IfOk result (λ j. j ≡ opened snap plans.now room restaggers) }
-        ensures rest { IfOk result (λ j. accepted_at j ≡ snap.rest) }
-    {
-        let ticks = plans[0].length();
-        if snap.clock == ticks {
-            return Err(JoinFault::TooLate {
-                clock: snap.clock,
-                length: ticks,
-            });
-        }
-        let joiner = open(alloc, snap, plans, room, restaggers)?;
-        Ok(joiner)
-    }
-
     /// A command that is due within the match arrives. Where one with the same mirror and number
     /// had passed or was accepted, the answer is Repeat; where it is older than the snapshot's
     /// clock, Before, with both; and nothing changes. Where it is older than the last copy's clock
