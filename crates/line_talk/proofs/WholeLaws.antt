@@ -1,5 +1,5 @@
 -- A whole talk: what comes behind the lines.
-use Rattle.std.proofs.Common.{◌≡◌, ℕ, ◌≤◌, true, false, List, [], ◌∷◌, ◌++◌, length, take, drop, Option, Result, Ok, Err, inl, inr, refl, sym, ap, subst, ◌∙◌, append_assoc, append-nil, arith}
+use Rattle.std.proofs.Common.{◌≡◌, ℕ, ◌≤◌, true, false, List, [], ◌∷◌, ◌++◌, length, take, drop, Option, Result, Ok, Err, inl, inr, refl, sym, ap, subst, ◌∙◌, append_assoc, append-nil, length-append, ◌+◌, arith}
 use Rattle.std.specs.Prelude.{IfSome, IfOk, OnOk, OnErr}
 use Rattle.std.proofs.lemmas.List.{take-append-drop}
 use Rattle.tss_io.specs.Lines.{lines_of}
@@ -233,3 +233,24 @@ broken-talk a h old new limit too_long t =
         front = (f.front.0 ++ more, ap (λ (l : List ℕ). l ++ more) f.front.1 ∙ append_assoc (course silence f.talk).told f.front.0 more);
       };
     }
+
+front-of : {X : Type 0} (xs ys : List X) → take (length xs) (xs ++ ys) ≡ xs
+front-of [] ys = refl
+front-of (x ∷ xs) ys = ap (λ l. x ∷ l) (front-of xs ys)
+
+-- a talk that is too long, by the bytes that were heard
+pub one-past :
+    {S : Type 0} (a : Answering S) (h : Hearing S) (old new : Shown) (limit : ℕ) (text : List ℕ) → IsPast a h old new limit text
+    → (bytes : List ℕ) × (length bytes ≡ limit + 1) × (a.is_over (hear a h (lines_of (take limit bytes))).state ≡ false)
+    × IsWholeTalk (dues a h) old new bytes (dues a h (take limit bytes) ++ text)
+one-past a h old new limit text p =
+    let bytes = p.front ++ p.one in
+    let front : take limit bytes ≡ p.front = ap (λ (n : ℕ). take n bytes) (sym p.counted) ∙ front-of p.front p.one in
+    let counted = p.counted in
+    let one = p.one_more in
+    let more : length bytes ≡ limit + 1 = omega (arith, length-append p.front p.one) in (
+      bytes,
+      more,
+      (ap (λ (l : List ℕ). a.is_over (hear a h (lines_of l)).state) front ∙ p.goes),
+      subst (λ (l : List ℕ). IsWholeTalk (dues a h) old new bytes (dues a h l ++ text)) (sym front) p.talk,
+    )
