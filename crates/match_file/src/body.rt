@@ -219,9 +219,8 @@ impl Body {
         let command = words.read(opening.ranges())?;
         let player = usize::from(command.player);
         check(player < self.players.len(), Cause::Name)?;
-        let is_named = self.commands.has(command.from, command.number);
-        check(!is_named, Cause::Name)?;
-        self.commands.push(&command)?;
+        let is_new = self.commands.insert(&command)?;
+        check(is_new, Cause::Name)?;
         Ok(())
     }
 
@@ -348,12 +347,13 @@ impl Body {
         let Some((command, rest)) = command_of(opening.ranges(), text) else {
             return Ok(None);
         };
-        if self.may_open()
-            && self.commands.len() < most_commands(opening.version)
-            && usize::from(command.player) < self.players.len()
-            && !self.commands.has(command.from, command.number)
+        if !self.may_open()
+            || self.commands.len() >= most_commands(opening.version)
+            || usize::from(command.player) >= self.players.len()
         {
-            self.commands.push(&command)?;
+            return Ok(None);
+        }
+        if self.commands.insert(&command)? {
             return Ok(Some(rest));
         }
         Ok(None)

@@ -1,6 +1,6 @@
 //! The commands of a match, as far as they were read.
 
-ghost use Rattle.std.specs.Prelude.{◌≡◌, ◌++◌, ◌∷◌, [], false, length, OnOk, OnErr};
+ghost use Rattle.std.specs.Prelude.{◌≡◌, ◌++◌, ◌∷◌, [], not, if◌then◌else◌, length, IfOk, OnOk, OnErr};
 ghost use Rattle.game_trait.specs.CommandList.{has_command};
 
 use game_trait::{Command, CommandList, MirrorId, Number};
@@ -48,15 +48,15 @@ impl Commands {
         self.list.has(from, number)
     }
 
-    /// Appends the command, whose mirror and number none has yet. On `NoMemory` the commands are
-    /// unchanged.
-    pub fn push(&mut self, x: &Command) -> Result<(), NoMemory>
-        requires { has_command self.old x.now.from x.now.number ≡ false }
-        ensures ok { OnOk result (self.new ≡ self.old ++ x.now ∷ []) }
+    /// Appends the command where none has its mirror and number, and tells whether it did. On
+    /// `NoMemory` the commands are unchanged.
+    pub fn insert(&mut self, x: &Command) -> Result<bool, NoMemory>
+        ensures added { IfOk result (λ added. added ≡ not (has_command self.old x.now.from x.now.number)) }
+        ensures ok { OnOk result (self.new
+            ≡ (if has_command self.old x.now.from x.now.number then self.old else self.old ++ x.now ∷ [])) }
         ensures err { OnErr result (self.new ≡ self.old) }
     {
-        self.list.push(x)?;
-        Ok(())
+        Ok(self.list.insert(x)?)
     }
 
     /// The list of them. It takes no memory.
