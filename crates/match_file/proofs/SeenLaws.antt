@@ -1,5 +1,5 @@
 -- Lines that are seen at once, and that they are taken as ever.
-use Rattle.std.proofs.Common.{◌≡◌, ℕ, ◌+◌, ◌-◌, ◌<◌, ◌≤◌, true, false, Bool, ltb, ◌&&◌, List, [], ◌∷◌, ◌++◌, length, Ok, refl, ap, length-append, append_assoc, arith}
+use Rattle.std.proofs.Common.{◌≡◌, ℕ, ◌-◌, ◌<◌, ◌≤◌, true, false, Bool, ltb, ◌&&◌, List, [], ◌∷◌, ◌++◌, length, Ok, refl, ap, length-append, append_assoc, arith}
 use Rattle.std.specs.Prelude.{decimal}
 use Rattle.std.specs.Prelude.{codes}
 use Rattle.game_trait.specs.declared.command.Command.{Command}
