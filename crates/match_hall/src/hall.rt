@@ -18,7 +18,7 @@ ghost use Rattle.watch_board.specs.Told.{AreTold};
 
 use crate::drain::drain_mirror;
 use crate::events::{command_of, push_turn};
-use crate::logs::logs_of;
+use crate::logs::into_logs;
 use crate::open::{open, open_with};
 use crate::script::mirror_of;
 use crate::show::{push_copy, push_line_of_mirror, push_mirror, push_run};
@@ -326,11 +326,12 @@ impl<G: Game + Shown> Hall<G> {
         &self.mirrors[usize::from(mirror)]
     }
 
-    /// The logs of the mirrors, mirror 0 first: of each the events that changed it, in order. Want
-    /// of memory makes none.
-    pub fn logs(&self, alloc: Global) -> Result<Seq<MirrorLog>, NoMemory>
-        ensures { IfOk result (λ kept. kept ≡ logs_from 0 self.now) }
+    /// The logs of the mirrors, mirror 0 first: of each the events that changed it, in order, which
+    /// are taken over and not copied. On `NoMemory` nothing is created.
+    pub fn into_logs(self, alloc: Global) -> Result<Seq<MirrorLog>, NoMemory>
+        ensures { IfOk result (λ kept. kept ≡ logs_from 0 self) }
     {
-        logs_of(alloc, self.mirrors.as_slice())
+        let Hall { mirrors } = self;
+        into_logs(alloc, mirrors)
     }
 }

@@ -42,3 +42,22 @@ pub fn logs_of<G: Game, P: RefreshPolicy>(
     }
     Ok(kept)
 }
+
+/// The logs of mirrors of either kind, mirror 0 first, which take the mirrors' events over. On
+/// `NoMemory` nothing is created.
+#[tactic(auto, unfolding(crate::specs::Script::logs_from))]
+pub fn into_logs<G: Game, P: RefreshPolicy>(
+    alloc: Global,
+    mirrors: Vec<MirrorWith<G, P>>,
+) -> Result<Seq<MirrorLog>, NoMemory>
+    requires { length mirrors.items ≤ 8 }
+    ensures { IfOk result (λ kept. kept ≡ logs_from 0 mirrors.items) }
+{
+    let mut kept = Seq::new(alloc);
+    let mut number: MirrorId = 0;
+    for mirror in mirrors {
+        kept.push(MirrorLog::new(number, mirror.into_events()))?;
+        number += 1;
+    }
+    Ok(kept)
+}

@@ -89,6 +89,6 @@ pub fn score(alloc: Global, m: &Match, watchers: Vec<Box<dyn Watcher>>) -> Resul
     let hall = play(alloc, m, &mut board, &mut lines)?;
     let scores = scoreboard(alloc, m, &hall)?;
     let text = text_of(alloc, scores.as_slice(), lines.as_slice(), board)?;
-    let kept = hall.logs(alloc)?;
+    let kept = hall.into_logs(alloc)?;
     Ok(Played { text, kept })
 }

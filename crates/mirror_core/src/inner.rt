@@ -391,4 +391,12 @@ impl<G: Game> MirrorCore<G> {
     {
         self.stack.refresh();
     }
+
+    /// The history alone. It takes no memory.
+    pub fn into_events(self) -> Vec<Event>
+        ensures { result.items ≡ self.state.history }
+    {
+        let MirrorCore { history, .. } = self;
+        history
+    }
 }

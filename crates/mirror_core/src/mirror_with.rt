@@ -225,6 +225,15 @@ impl<G: Game, P: RefreshPolicy> MirrorWith<G, P> {
     {
         self.core.drained()
     }
+
+    /// The history alone: the events that changed the mirror, in order. It takes no memory, and lets
+    /// go of all else.
+    pub fn into_events(self) -> Vec<Event>
+        ensures { result.items ≡ self.history }
+    {
+        let MirrorWith { core, .. } = self;
+        core.into_events()
+    }
 }
 
 impl<G: Game, P: RefreshPolicy> Mirrored<G> for MirrorWith<G, P> {

@@ -95,7 +95,7 @@ fn answer(alloc: Global, number: u32, opening: &Arena, m: &Match) -> Result<Play
     let world = in_order(alloc, opening, m)?;
     let hall = play(alloc, opening, m)?;
     let text = text_of(alloc, number, &hall, m.mirrors, &world)?;
-    let kept = hall.logs(alloc)?;
+    let kept = hall.into_logs(alloc)?;
     Ok(Played { text, kept })
 }
 

@@ -76,7 +76,7 @@ pub fn play<G: Game + Shown>(alloc: Global, opening: &G, m: &Match) -> Result<Du
     hall.drain(&mut text)?;
     hall.show(&m.roster, &mut text)?;
     done_line(&mut text)?;
-    let kept = hall.logs(alloc)?;
+    let kept = hall.into_logs(alloc)?;
     Ok(Due {
         status: Status::Complete,
         text: Seq::of(text),
