@@ -28,7 +28,7 @@ pub fn lossy<G: Game + Shown>(alloc: Global, x: &LossyText, opening: &G) -> Resu
     let mut text = Vec::new(alloc);
     let mut net = Net::over(alloc, x, opening, &mut text)?;
     net.finish(x, &mut text)?;
-    let kept = net.logs(alloc)?;
+    let kept = net.into_logs(alloc)?;
     Ok(Played {
         text: Seq::of(text),
         kept,

@@ -30,7 +30,7 @@ use std::marker::Model;
 use tss_base::{NoMemory, Seq};
 
 /// The net of a match: a link from each mirror to each, and the mirrors. Only `over`, `finish` and
-/// `logs` take memory.
+/// `into_logs` take memory.
 #[derive(Drop)]
 pub struct Net<G: Game> {
     links: Links,
@@ -173,11 +173,12 @@ impl<G: Game + Shown> Net<G> {
         done_line(out)
     }
 
-    /// The logs of the mirrors, mirror 0 first: of each the events that changed it, in order. Want
-    /// of memory makes none.
-    pub fn logs(&self, alloc: Global) -> Result<Seq<MirrorLog>, NoMemory>
-        ensures { IfOk result (λ kept. kept ≡ logs_from 0 self.now.mirrors) }
+    /// The logs of the mirrors, mirror 0 first: of each the events that changed it, in order, which
+    /// are taken over and not copied. On `NoMemory` nothing is created.
+    pub fn into_logs(self, alloc: Global) -> Result<Seq<MirrorLog>, NoMemory>
+        ensures { IfOk result (λ kept. kept ≡ logs_from 0 self.mirrors) }
     {
-        self.hall.logs(alloc)
+        let Net { hall, .. } = self;
+        hall.into_logs(alloc)
     }
 }
