@@ -1,0 +1,185 @@
+-- A command at what is left of a mirror, beside the mirror that remembers all.
+use Rattle.std.proofs.Common.{◌≡◌, refl, ◌∙◌, ap, sym, subst, ℕ, ◌+◌, ◌-◌, ◌≤◌, ◌<◌, Bool, true, false, cond, ◌||◌, not, eqb, leb, ltb}
+use Rattle.std.proofs.Common.{List, [], ◌∷◌, ◌++◌, map, filter, length, arith}
+use Rattle.std.specs.Prelude.{IfSome}
+use Rattle.std.specs.List.{list_any}
+use Rattle.std.proofs.lemmas.Bool.{lt-ltb, le-ltb}
+use Rattle.std.proofs.lemmas.Bool.Decides.{nat_tests}
+use Rattle.game_trait.specs.declared.command.Command.{Command}
+use Rattle.game_trait.specs.declared.event.Event.TheVariants.{Arrive}
+use Rattle.game_trait.specs.declared.event.Arrived.{Arrived}
+use Rattle.game_trait.specs.declared.event.Arrived.TheVariants.{Taken as AsTaken, Repeat as AsRepeat, Late as AsLate}
+use Rattle.game_trait.specs.declared.event.Reply.TheVariants.{Arrive as ToArrive}
+use Rattle.game_trait.specs.Game.{Rules}
+use Rattle.game_trait.specs.Keys.{same_name}
+use Rattle.game_trait.specs.Later.{later, earlier, later_event, later_reply}
+use Rattle.sync_model.specs.State.{MirrorState, last_clock}
+use Rattle.sync_model.specs.Settle.{repaired}
+use Rattle.sync_model.specs.Change.{next, said, is_repeat, is_late, proposed_by_arrival}
+use Rattle.sync_model.specs.Forgetting.{IsLeft, IsRemembered}
+use Rattle.sync_model.proofs.Cases.{away, taken, said_taken}
+use Rattle.rolling_mirror.specs.declared.arrival.Arrival.{Arrival}
+use Rattle.rolling_mirror.specs.declared.arrival.Arrival.TheVariants.{Taken, Repeat, Late, Far, Full}
+use Rattle.rolling_mirror.specs.Rolling.{RollState, IsWindowOf, left_after, last_tick, window_end, in_window, said_to_arrival, arrived, as_arrived}
+use Rattle.rolling_mirror.proofs.Windows.{event-window, last-clocks}
+
+-- ---- the events of a mirror
+
+again : {W : Type 0} (s : MirrorState W) (x : Command) → is_repeat s x ≡ true → (next s (Arrive x) ≡ s) × (said s (Arrive x) ≡ ToArrive AsRepeat)
+unfolding next said
+again s x e = (rw e refl, rw e refl)
+
+turned_away_late :
+    {W : Type 0} (s : MirrorState W) (x : Command) → is_repeat s x ≡ false → is_late s x ≡ true
+    → (next s (Arrive x) ≡ away s x) × (said s (Arrive x) ≡ ToArrive (AsLate (last_clock s.runs)))
+unfolding next said
+turned_away_late s x e l = (rw (e, l) refl, rw (e, l) refl)
+
+pub let_in :
+    {W : Type 0} (s : MirrorState W) (x : Command) → is_repeat s x ≡ false → is_late s x ≡ false
+    → (next s (Arrive x) ≡ taken s x) × (said s (Arrive x) ≡ said_taken s x)
+unfolding next said
+let_in s x e l = (rw (e, l) refl, rw (e, l) refl)
+
+-- ---- names
+
+any-split :
+    (b : ℕ) (p : Command → Bool) (xs : List Command)
+    → list_any p xs ≡ list_any p (filter (λ y. ltb y.time b) xs) || list_any p (filter (λ y. leb b y.time) xs)
+any-split b p [] = refl
+any-split b p (x ∷ xs) =
+    let rest = any-split b p xs in
+    let other : leb b x.time ≡ not (ltb x.time b) = grind (arith, nat_tests) in
+    rw other
+    (elim (ltb x.time b) as (λ v. p x || list_any p xs
+    ≡ list_any p (cond v (x ∷ filter (λ y. ltb y.time b) xs) (filter (λ y. ltb y.time b) xs))
+    || list_any p (cond (not v) (x ∷ filter (λ y. leb b y.time) xs) (filter (λ y. leb b y.time) xs))) [
+      | true ↦ rw rest (elim (p x) as (λ v. v || (list_any p (filter (λ y. ltb y.time b) xs) || list_any p (filter (λ y. leb b y.time) xs))
+          ≡ (v || list_any p (filter (λ y. ltb y.time b) xs)) || list_any p (filter (λ y. leb b y.time) xs)) [ true ↦ refl | false ↦ refl ])
+      | false ↦ rw rest (elim (list_any p (filter (λ y. ltb y.time b) xs)) as (λ v. p x || (v || list_any p (filter (λ y. leb b y.time) xs))
+          ≡ v || (p x || list_any p (filter (λ y. leb b y.time) xs))) [ true ↦ elim (p x) as (λ u. u || true ≡ true) [ true ↦ refl | false ↦ refl ] | false ↦ refl ])
+    ])
+
+named-later : (b : ℕ) (x : Command) (ys : List Command) → list_any (same_name x) (map (later b) ys) ≡ list_any (same_name x) ys
+unfolding same_name
+named-later b x [] = refl
+named-later b x (y ∷ ys) = ap (λ (v : Bool). same_name x y || v) (named-later b x ys)
+
+-- an earlier command has the same name
+pub repeat-earlier : {W : Type 0} (s : MirrorState W) (b : ℕ) (x : Command) → is_repeat s (earlier b x) ≡ is_repeat s x
+unfolding same_name
+repeat-earlier s b x = refl
+
+later-earlier : (b : ℕ) (x : Command) → b ≤ x.time → later b (earlier b x) ≡ x
+later-earlier b x due = (let e : (x.time - b) + b ≡ x.time = omega arith in ap (λ (t : ℕ). record x { time = t }) e)
+
+-- ---- the answer, case by case
+
+module _ {W : Type 0} (r : RollState W) (x : Command) where
+  pub said-repeat : is_repeat r.left x ≡ true → said_to_arrival r x ≡ Repeat
+  said-repeat again = rw again refl
+
+  pub said-late : is_repeat r.left x ≡ false → ltb x.time (last_tick r) ≡ true → said_to_arrival r x ≡ Late (last_tick r)
+  said-late new late = rw (new, late) refl
+
+  pub said-far :
+      is_repeat r.left x ≡ false → ltb x.time (last_tick r) ≡ false → leb (window_end r) x.time ≡ true
+      → said_to_arrival r x ≡ Far (window_end r)
+  said-far new due far = rw (new, due, far) refl
+
+  pub said-full :
+      is_repeat r.left x ≡ false → ltb x.time (last_tick r) ≡ false → leb (window_end r) x.time ≡ false → eqb r.spare 0 ≡ true
+      → said_to_arrival r x ≡ Full
+  said-full new due near full = rw (new, due, near, full) refl
+
+  pub said-in :
+      is_repeat r.left x ≡ false → ltb x.time (last_tick r) ≡ false → leb (window_end r) x.time ≡ false → eqb r.spare 0 ≡ false
+      → said_to_arrival r x ≡ Taken (repaired (r.left.accepted ++ in_window r x ∷ []) (proposed_by_arrival (in_window r x) r.left.runs))
+  said-in new due near some = rw (new, due, near, some) refl
+
+  said-cases :
+      (Q : Arrival → Type 0)
+      → (is_repeat r.left x ≡ true → Q Repeat)
+      → (is_repeat r.left x ≡ false → ltb x.time (last_tick r) ≡ true → Q (Late (last_tick r)))
+      → Q (Far (window_end r)) → Q Full
+      → (is_repeat r.left x ≡ false → ltb x.time (last_tick r) ≡ false
+      → Q (Taken (repaired (r.left.accepted ++ in_window r x ∷ []) (proposed_by_arrival (in_window r x) r.left.runs))))
+      → Q (said_to_arrival r x)
+  said-cases Q again late far full taken =
+      let n = repaired (r.left.accepted ++ in_window r x ∷ []) (proposed_by_arrival (in_window r x) r.left.runs) in
+      elim (is_repeat r.left x) as (λ v. is_repeat r.left x ≡ v → Q (cond v Repeat (cond (ltb x.time (last_tick r)) (Late (last_tick r)) (cond (leb (window_end r) x.time) (Far (window_end r)) (cond (eqb r.spare 0) Full (Taken n)))))) [
+        | true ↦ again
+        | false ↦ λ e.
+            elim (ltb x.time (last_tick r)) as (λ v. ltb x.time (last_tick r) ≡ v → Q (cond v (Late (last_tick r)) (cond (leb (window_end r) x.time) (Far (window_end r)) (cond (eqb r.spare 0) Full (Taken n))))) [
+              | true ↦ late e
+              | false ↦ λ l.
+                  elim (leb (window_end r) x.time) as (λ v. Q (cond v (Far (window_end r)) (cond (eqb r.spare 0) Full (Taken n)))) [
+                    | true ↦ far
+                    | false ↦ elim (eqb r.spare 0) as (λ v. Q (cond v Full (Taken n))) [ true ↦ full | false ↦ taken e l ]
+                  ]
+            ]
+            refl
+      ]
+      refl
+
+-- ---- and the mirror that remembers all
+
+module _ {W : Type 0} (rules : Rules W) (r : RollState W) (x : Command) (within : r.left.clock < r.left.length)
+    (whole : MirrorState W) (h : IsWindowOf rules whole r) (before : whole.clock < whole.length)
+    (known : list_any (same_name x) (filter (λ y. ltb y.time r.base) whole.accepted) ≡ false) where
+  same-repeat : is_repeat whole x ≡ is_repeat r.left x
+  same-repeat =
+      any-split r.base (same_name x) whole.accepted
+      ∙ ap (λ (v : Bool). v || list_any (same_name x) (filter (λ y. leb r.base y.time) whole.accepted)) known
+      ∙ ap (list_any (same_name x)) h.accepted
+      ∙ named-later r.base x r.left.accepted
+
+  same-late : is_late whole x ≡ ltb x.time (last_tick r)
+  same-late = ap (ltb x.time) (last-clocks rules r.base whole r.left h)
+
+  away-window : IsWindowOf rules (away whole x) r
+  away-window = record {
+    some_copy = h.some_copy;
+    opening = h.opening;
+    plans = h.plans;
+    plan = h.plan;
+    clock = h.clock;
+    accepted = h.accepted;
+    runs = h.runs;
+  }
+
+  -- the promise for an answer
+  abbrev Holds : Arrival → Type 0
+  Holds a =
+      IfSome (as_arrived a)
+      (λ answer. IsWindowOf rules (next whole (Arrive x)) (arrived r x a) × (said whole (Arrive x) ≡ ToArrive answer))
+
+  repeat-window : is_repeat r.left x ≡ true → Holds Repeat
+  repeat-window e = (let w = again whole x (same-repeat ∙ e) in (rw w.0 h, w.1))
+
+  late-window : is_repeat r.left x ≡ false → ltb x.time (last_tick r) ≡ true → Holds (Late (last_tick r))
+  late-window e l =
+      let w = turned_away_late whole x (same-repeat ∙ e) (same-late ∙ l) in
+      (rw w.0 away-window, w.1 ∙ ap (λ (n : ℕ). ToArrive (AsLate n)) (last-clocks rules r.base whole r.left h))
+
+  taken-window :
+      is_repeat r.left x ≡ false → ltb x.time (last_tick r) ≡ false
+      → Holds (Taken (repaired (r.left.accepted ++ in_window r x ∷ []) (proposed_by_arrival (in_window r x) r.left.runs)))
+  unfolding later_event later_reply same_name
+  taken-window e l =
+      let due : r.base + last_clock r.left.runs ≤ x.time = grind (arith, nat_tests) in
+      let y = in_window r x in
+      let back = later-earlier r.base x (omega arith) in
+      let on_time : is_late r.left y ≡ false = grind (arith, nat_tests) in
+      let here = let_in r.left y e on_time in
+      let both = event-window rules r (left_after r (Arrive y)) (Arrive y) refl within whole h before known in (
+        subst (λ (z : Command). IsWindowOf rules (next whole (Arrive z)) (left_after r (Arrive y))) back both.0,
+        ap (λ (z : Command). said whole (Arrive z)) (sym back) ∙ both.1 ∙ ap (later_reply r.base) here.1,
+      )
+
+  pub arrival-window :
+      (t : RollState W) (a : Arrival) → a ≡ said_to_arrival r x → t ≡ arrived r x a
+      → IfSome (as_arrived a) (λ answer. IsWindowOf rules (next whole (Arrive x)) t × (said whole (Arrive x) ≡ ToArrive answer))
+  arrival-window t a answer state =
+      subst (λ (u : RollState W). IfSome (as_arrived a) (λ answer. IsWindowOf rules (next whole (Arrive x)) u × (said whole (Arrive x) ≡ ToArrive answer))) (sym state)
+      (subst Holds (sym answer) (said-cases r x Holds repeat-window late-window tt tt taken-window))

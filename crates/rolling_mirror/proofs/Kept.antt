@@ -1,0 +1,191 @@
+-- Each event keeps what is always true.
+use Rattle.std.proofs.Common.{◌≡◌, refl, ◌∙◌, ap, sym, subst, ℕ, zero, suc, ◌+◌, ◌-◌, ◌^◌, ◌≤◌, ◌<◌, Bool, true, false, ◌||◌, eqb, leb}
+use Rattle.std.proofs.Common.{List, [], ◌∷◌, ◌++◌, map, length, get_or, set, drop, arith, length-append}
+use Rattle.std.proofs.Math.ListN.{length-set}
+use Rattle.std.proofs.lemmas.Bool.{or_parts}
+use Rattle.std.proofs.lemmas.Bool.Decides.{nat_tests}
+use Rattle.std.proofs.lemmas.List.{length-map, map-append}
+use Rattle.std.proofs.Math.Seq.{drop-append_seam}
+use Rattle.std.specs.List.{AllByRecursion}
+use Rattle.game_trait.specs.declared.command.Command.{Command}
+use Rattle.game_trait.specs.declared.command.Item.{Item}
+use Rattle.game_trait.specs.declared.command.Item.TheVariants.{Cmd, Beat}
+use Rattle.game_trait.specs.CommandList.{name_of}
+use Rattle.game_trait.specs.NameTree.{NamesOfTree}
+use Rattle.game_trait.specs.Game.{Rules}
+use Rattle.game_trait.specs.Later.{earlier_item}
+use Rattle.game_trait.specs.Run.{beats, IsPrefix}
+use Rattle.game_trait.proofs.Lists.{all-to_map, all-from_map, all-both, all-weaker}
+use Rattle.game_trait.proofs.Runs.{beats-append}
+use Rattle.sync_model.specs.Lists.{last_of}
+use Rattle.sync_model.specs.Schedule.{Schedule}
+use Rattle.sync_model.specs.State.{MirrorState, copy_clock, last_clock}
+use Rattle.sync_model.specs.Settle.{settle}
+use Rattle.sync_model.specs.Staggered.{IsTrailing}
+use Rattle.sync_model.specs.Change.{is_idle, with_late, with_tick, proposed_by_step, proposed_by_arrival}
+use Rattle.sync_model.specs.Forgetting.{left_run, left_commands, forgotten}
+use Rattle.sync_model.proofs.Lists.{all-put}
+use Rattle.sync_model.proofs.Settle.{settle-length}
+use Rattle.sync_model.proofs.Staggered.{below_limit}
+use Rattle.sync_model.proofs.Trailing.{beats-step, beats-arrival}
+use Rattle.sync_model.proofs.Forgotten.{last-all, all-begin}
+use Rattle.rolling_mirror.specs.Rolling.{RollState, is_held, rolled}
+use Rattle.rolling_mirror.specs.Kept.{ArePlansOf, IsRolling}
+use Rattle.rolling_mirror.proofs.Named.{left-fewer}
+
+-- the plans fit another state of as many copies, and of the same length and plan
+same-plans :
+    {W : Type 0} (s t : MirrorState W) (plans : List Schedule) → ArePlansOf s plans → t.length ≡ s.length → length t.runs ≡ length s.runs
+    → t.plan < length plans → ArePlansOf t plans
+same-plans s t plans h ticks copies there = record {
+  ticks_each = subst (λ (n : ℕ). AllByRecursion (λ plan. plan.length ≡ n) plans) (sym ticks) h.ticks_each;
+  copies_each = subst (λ (n : ℕ). AllByRecursion (λ plan. length plan.delays ≡ n) plans) (sym copies) h.copies_each;
+  in_force = there;
+}
+
+-- what bounds clocks bounds equal ones, and where one is put that it bounds too
+same-clocks : (n : ℕ) (old new : List (List Item)) → map beats new ≡ map beats old → AllByRecursion (λ run. beats run ≤ n) old → AllByRecursion (λ run. beats run ≤ n) new
+same-clocks n old new same h =
+    all-from_map (λ k. k ≤ n) beats new (subst (AllByRecursion (λ k. k ≤ n)) (sym same) (all-to_map (λ k. k ≤ n) beats old h))
+
+one-clock :
+    (n : ℕ) (old new : List (List Item)) (c k : ℕ) → map beats new ≡ set (map beats old) c k → k ≤ n
+    → AllByRecursion (λ run. beats run ≤ n) old → AllByRecursion (λ run. beats run ≤ n) new
+one-clock n old new c k same most h =
+    all-from_map (λ m. m ≤ n) beats new (subst (AllByRecursion (λ m. m ≤ n)) (sym same) (all-put (λ m. m ≤ n) (map beats old) c k (all-to_map (λ m. m ≤ n) beats old h) most))
+
+-- the clock of what is left of a run
+beats-earlier : (n : ℕ) (run : List Item) → beats (map (earlier_item n) run) ≡ beats run
+unfolding beats earlier_item
+beats-earlier n [] = refl
+beats-earlier n (Cmd x ∷ run) = beats-earlier n run
+beats-earlier n (Beat ∷ run) = ap (λ (k : ℕ). k + 1) (beats-earlier n run)
+
+beats-left : (last run : List Item) → IsPrefix last run → beats (left_run (beats last) (length last) run) + beats last ≡ beats run
+beats-left last run begins =
+    let rest = begins.0 in
+    let left : drop (length last) run ≡ rest = ap (drop (length last)) begins.1 ∙ drop-append_seam last rest in
+    let long : beats run ≡ beats last + beats rest = ap beats begins.1 ∙ beats-append last rest in
+    let same : beats (left_run (beats last) (length last) run) ≡ beats rest = beats-earlier (beats last) (drop (length last) run) ∙ ap beats left in
+    omega arith
+
+module _ {W : Type 0} {r : RollState W} {plans : List Schedule} {names : NamesOfTree} (h : IsRolling r plans names) where
+  -- the last copy isn't ahead of the clock
+  pub last-behind : last_clock r.left.runs ≤ r.left.clock
+  last-behind = last-all (λ run. beats run ≤ r.left.clock) r.left.runs h.some_copy h.behind_clock
+
+  -- a tick
+  pub rolling-moved : r.left.clock + 1 < r.left.length → r.base + (r.left.clock + 1) < 2 ^ 32 → IsRolling (record r { left = record r.left { clock = r.left.clock + 1 } }) plans names
+  rolling-moved within fits = record {
+    plans_are = same-plans r.left (record r.left { clock = r.left.clock + 1 }) plans h.plans_are refl refl h.plans_are.in_force;
+    some_copy = h.some_copy;
+    within_window = within;
+    behind_clock = all-weaker (λ run. beats run ≤ r.left.clock) (λ run. beats run ≤ r.left.clock + 1) r.left.runs (λ run b. omega arith) h.behind_clock;
+    within_session = fits;
+    names_are = h.names_are;
+    names_room = h.names_room;
+    first_room = h.first_room;
+  }
+
+  -- a step that runs
+  pub rolling-ran :
+      (c : ℕ) → IsTrailing r.left.accepted r.left.runs → is_idle r.left c ≡ false
+      → IsRolling (record r { left = record r.left { runs = settle r.left.accepted (proposed_by_step r.left.accepted r.left.runs c) } }) plans names
+  rolling-ran c trailing more =
+      let new = settle r.left.accepted (proposed_by_step r.left.accepted r.left.runs c) in
+      let room = below_limit r.left c more in
+      let upto = room.2 in
+      let many : length new ≡ length r.left.runs =
+      settle-length r.left.accepted (proposed_by_step r.left.accepted r.left.runs c)
+      ∙ length-set r.left.runs c (with_tick r.left.accepted (get_or r.left.runs c [])) in
+      let some = h.some_copy in
+      record {
+        plans_are = same-plans r.left (record r.left { runs = new }) plans h.plans_are refl many h.plans_are.in_force;
+        some_copy = omega arith;
+        within_window = h.within_window;
+        behind_clock =
+            one-clock r.left.clock r.left.runs new c (copy_clock r.left.runs c + 1) (beats-step trailing c room.0) (omega arith) h.behind_clock;
+        within_session = h.within_session;
+        names_are = h.names_are;
+        names_room = h.names_room;
+        first_room = h.first_room;
+      }
+
+  -- what lies behind the last copy is forgotten
+  pub rolling-rolled :
+      (rules : Rules W) → IsTrailing r.left.accepted r.left.runs
+      → IsRolling (rolled rules r) plans (record names {
+        items = map name_of (left_commands (last_clock r.left.runs) r.left.accepted);
+        room = names.first_room;
+      })
+  rolling-rolled rules trailing =
+      let last = last_of [] r.left.runs in
+      let k = beats last in
+      let behind = last-behind in
+      let left = left_commands k r.left.accepted in
+      let runs = map (left_run k (length last)) r.left.runs in
+      let many : length runs ≡ length r.left.runs = length-map r.left.runs (left_run k (length last)) in
+      let some = h.some_copy in
+      let within = h.within_window in
+      let fits = h.within_session in
+      let named : length names.items ≡ length r.left.accepted = ap length h.names_are ∙ length-map r.left.accepted name_of in
+      let renamed : length (map name_of left) ≡ length left = length-map left name_of in
+      let fewer = left-fewer k r.left.accepted in
+      let room = h.first_room in
+      record {
+        plans_are = same-plans r.left (forgotten rules r.left) plans h.plans_are refl many h.plans_are.in_force;
+        some_copy = omega arith;
+        within_window = omega arith;
+        behind_clock =
+            all-to_map (λ run. beats run ≤ r.left.clock - k) (left_run k (length last)) r.left.runs
+            (all-both (λ run. beats run ≤ r.left.clock) (λ run. IsPrefix last run) (λ run. beats (left_run k (length last) run) ≤ r.left.clock - k) r.left.runs
+            (λ run upto begins. (let long = beats-left last run begins in omega arith)) h.behind_clock
+            (all-begin r.left.runs h.some_copy trailing.chained));
+        within_session = omega arith;
+        names_are = refl;
+        names_room = omega arith;
+        first_room = omega arith;
+      }
+
+  -- another plan
+  pub rolling-restaggered : (p : ℕ) → p < length plans → IsRolling (record r { left = record r.left { plan = p } }) plans names
+  rolling-restaggered p there = record {
+    plans_are = same-plans r.left (record r.left { plan = p }) plans h.plans_are refl refl there;
+    some_copy = h.some_copy;
+    within_window = h.within_window;
+    behind_clock = h.behind_clock;
+    within_session = h.within_session;
+    names_are = h.names_are;
+    names_room = h.names_room;
+    first_room = h.first_room;
+  }
+
+  -- a command that is taken
+  pub rolling-taken :
+      (x : Command) → IsTrailing r.left.accepted r.left.runs → 0 < r.spare
+      → IsRolling (record r {
+        left = record r.left {
+          accepted = r.left.accepted ++ x ∷ [];
+          runs = settle (r.left.accepted ++ x ∷ []) (proposed_by_arrival x r.left.runs);
+        };
+        spare = r.spare - 1;
+      }) plans (record names { items = names.items ++ name_of x ∷ [] })
+  rolling-taken x trailing spare =
+      let all = r.left.accepted ++ x ∷ [] in
+      let new = settle all (proposed_by_arrival x r.left.runs) in
+      let many : length new ≡ length r.left.runs =
+      settle-length all (proposed_by_arrival x r.left.runs) ∙ length-map r.left.runs (with_late x) in
+      let some = h.some_copy in
+      let room = h.names_room in
+      let first = h.first_room in
+      let longer = length-append names.items (name_of x ∷ []) in
+      record {
+        plans_are = same-plans r.left (record r.left { accepted = all; runs = new }) plans h.plans_are refl many h.plans_are.in_force;
+        some_copy = omega arith;
+        within_window = h.within_window;
+        behind_clock = same-clocks r.left.clock r.left.runs new (beats-arrival trailing x) h.behind_clock;
+        within_session = h.within_session;
+        names_are = ap (λ (l : List _). l ++ name_of x ∷ []) h.names_are ∙ sym (map-append name_of r.left.accepted (x ∷ []));
+        names_room = omega arith;
+        first_room = omega arith;
+      }

@@ -1,0 +1,5 @@
+mod Named
+mod Windows
+mod Kept
+mod Arrivals
+mod Turns

@@ -1,0 +1,109 @@
+-- Steps of each copy of what is left of a mirror, beside the mirror that remembers all.
+use Rattle.std.proofs.Common.{◌≡◌, refl, ◌∙◌, ap, sym, subst, ℕ, zero, suc, ◌+◌, ◌-◌, ◌≤◌, ◌<◌, true, false, cond, List, [], ◌∷◌, ◌++◌, length, append_assoc, append-nil, length-append, arith}
+use Rattle.game_trait.specs.declared.event.Event.{Event}
+use Rattle.game_trait.specs.declared.event.Event.TheVariants.{Tick, Step}
+use Rattle.game_trait.specs.declared.event.Reply.{Reply}
+use Rattle.game_trait.specs.declared.event.Reply.TheVariants.{Tick as ToTick, Step as ToStep}
+use Rattle.game_trait.specs.declared.event.Stepped.{Stepped}
+use Rattle.game_trait.specs.declared.event.Ticked.TheVariants.{Moved}
+use Rattle.game_trait.specs.Game.{Rules}
+use Rattle.game_trait.specs.Later.{later_event, later_reply}
+use Rattle.sync_model.specs.State.{MirrorState}
+use Rattle.sync_model.specs.Change.{next, said, after, answers}
+use Rattle.sync_model.specs.Turns.{steps_from, turn, turn_events}
+use Rattle.sync_model.proofs.Cases.{step-cases, next-fixed, copies_of}
+use Rattle.sync_model.proofs.Forgetting.{as-many}
+use Rattle.rolling_mirror.specs.Rolling.{RollState, IsWindowOf, left_after, left_after_all, answers_left, steps_of_each}
+use Rattle.rolling_mirror.proofs.Windows.{event-window}
+
+-- a step moves no clock of a mirror
+pub step-clock : {W : Type 0} (s : MirrorState W) (c : ℕ) → (next s (Step c)).clock ≡ s.clock
+step-clock s c = step-cases s c (λ t r. t.clock ≡ s.clock) (λ e. refl) (λ e. refl)
+
+pub steps-window :
+    {W : Type 0} (rules : Rules W) (n c : ℕ) (r : RollState W) → c + n ≤ length r.left.runs → r.left.clock < r.left.length
+    → (whole : MirrorState W) → IsWindowOf rules whole r → whole.clock < whole.length
+    → IsWindowOf rules (after whole (steps_from c n)) (left_after_all r (steps_from c n))
+    × (answers whole (steps_from c n) ≡ answers_left r (steps_from c n))
+unfolding after answers steps_from left_after_all answers_left later_event later_reply said
+steps-window rules zero c r few within whole h before = (h, refl)
+steps-window rules (suc n) c r few within whole h before =
+    let many = as-many rules r.base whole r.left h in
+    let one = event-window rules r (left_after r (Step c)) (Step c) refl within whole h before (omega arith) in
+    let fixed = next-fixed r.left (Step c) in
+    let fixed_whole = next-fixed whole (Step c) in
+    let at = step-clock r.left c in
+    let at_whole = step-clock whole c in
+    let copies : copies_of (next r.left (Step c)) ≡ length r.left.runs = fixed.copies in
+    let ticks = fixed.length in
+    let ticks_whole = fixed_whole.length in
+    let more = steps-window rules n (c + 1) (left_after r (Step c)) (omega arith) (omega arith) (next whole (Step c)) one.0 (omega arith) in
+    (more.0, ap (λ (l : List Reply). l ++ answers (next whole (Step c)) (steps_from (c + 1) n)) (ap (λ (a : Reply). a ∷ []) one.1) ∙ ap (λ (l : List Reply). said r.left (Step c) ∷ l) more.1)
+
+-- a turn whose tick moves the clock
+pub turn-window :
+    {W : Type 0} (rules : Rules W) (t : RollState W) → t.left.clock < t.left.length
+    → (whole : MirrorState W) → whole.clock + 1 < whole.length → IsWindowOf rules (next whole Tick) t
+    → (next whole Tick).clock ≤ whole.clock + 1 → said whole Tick ≡ ToTick Moved
+    → IsWindowOf rules (turn whole) (left_after_all t (steps_of_each t))
+    × (answers whole (turn_events (length whole.runs)) ≡ ToTick Moved ∷ answers_left t (steps_of_each t))
+unfolding after answers
+turn-window rules t within whole before h upto moved =
+    let fixed = next-fixed whole Tick in
+    let copies : copies_of (next whole Tick) ≡ length whole.runs = fixed.copies in
+    let ticks = fixed.length in
+    let many : length t.left.runs ≡ length whole.runs = sym (as-many rules t.base (next whole Tick) t.left h) ∙ copies in
+    let all = steps-window rules (length t.left.runs) 0 t (omega arith) within (next whole Tick) h (omega arith) in (
+      subst (λ (n : ℕ). IsWindowOf rules (after (next whole Tick) (steps_from 0 n)) (left_after_all t (steps_of_each t))) many all.0,
+      ap (λ (a : Reply). a ∷ answers (next whole Tick) (steps_from 0 (length whole.runs))) moved
+      ∙ ap (λ (n : ℕ). ToTick Moved ∷ answers (next whole Tick) (steps_from 0 n)) (sym many)
+      ∙ ap (λ (l : List Reply). ToTick Moved ∷ l) all.1,
+    )
+
+-- ---- on the way
+
+-- the steps of the copies from c on are still to be made, and these were answered
+pub record IsOnItsWay {W : Type 0} (start now : RollState W) (first : Reply) (replies : List Reply) (n c : ℕ) : Type 0 where
+  pub many : length now.left.runs ≡ n
+  pub few : length replies ≡ c + 1
+  pub state : left_after_all now (steps_from c (n - c)) ≡ left_after_all start (steps_from 0 n)
+  pub answers : replies ++ answers_left now (steps_from c (n - c)) ≡ first ∷ answers_left start (steps_from 0 n)
+
+pub way-begins : {W : Type 0} (start : RollState W) (first : Reply) (n : ℕ) → length start.left.runs ≡ n → IsOnItsWay start start first (first ∷ []) n 0
+way-begins start first n many = (let all : n - 0 ≡ n = omega arith in record {
+  many = many;
+  few = refl;
+  state = ap (λ (k : ℕ). left_after_all start (steps_from 0 k)) all;
+  answers = ap (λ (k : ℕ). first ∷ answers_left start (steps_from 0 k)) all;
+})
+
+pub way-goes :
+    {W : Type 0} (start now new : RollState W) (first : Reply) (replies : List Reply) (n c : ℕ) (a : Stepped) → c < n
+    → IsOnItsWay start now first replies n c → new ≡ left_after now (Step c) → said now.left (Step c) ≡ ToStep a
+    → IsOnItsWay start new first (replies ++ ToStep a ∷ []) n (c + 1)
+unfolding left_after_all answers_left steps_from
+way-goes start now new first replies n c a below h is answer =
+    let copies : copies_of (next now.left (Step c)) ≡ length now.left.runs = (next-fixed now.left (Step c)).copies in
+    let back : n - c ≡ suc (n - (c + 1)) = omega arith in
+    let rest : List Event = steps_from (c + 1) (n - (c + 1)) in
+    let state = rw back at h.state in
+    let answers = rw back at h.answers in
+    subst (λ (t : RollState _). IsOnItsWay start t first (replies ++ ToStep a ∷ []) n (c + 1)) (sym is) (record {
+      many = copies ∙ h.many;
+      few = (let few = h.few in omega (arith, length-append replies (ToStep a ∷ [])));
+      state = state;
+      answers =
+          append_assoc replies (ToStep a ∷ []) (answers_left (left_after now (Step c)) rest)
+          ∙ ap (λ (r : Reply). replies ++ r ∷ answers_left (left_after now (Step c)) rest) (sym answer)
+          ∙ answers;
+    })
+
+pub way-ends :
+    {W : Type 0} (start now : RollState W) (first : Reply) (replies : List Reply) (n c : ℕ) → n ≤ c → IsOnItsWay start now first replies n c
+    → (now ≡ left_after_all start (steps_from 0 n)) × (replies ≡ first ∷ answers_left start (steps_from 0 n))
+unfolding left_after_all answers_left steps_from
+way-ends start now first replies n c past h =
+    let none : n - c ≡ 0 = omega arith in
+    let state = rw none at h.state in
+    let answers = rw none at h.answers in
+    (state, sym (append-nil replies) ∙ answers)

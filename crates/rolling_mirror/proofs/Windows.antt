@@ -1,0 +1,147 @@
+-- What is left of a mirror, beside the mirror that remembers all.
+use Rattle.std.proofs.Common.{◌≡◌, refl, ◌∙◌, ap, sym, subst, ℕ, ◌+◌, ◌-◌, ◌≤◌, ◌<◌, Bool, true, false, cond, ◌||◌, not, leb, ltb}
+use Rattle.std.proofs.Common.{List, [], ◌∷◌, ◌++◌, map, filter, length, get_or, drop, replicate, arith}
+use Rattle.std.specs.List.{list_any}
+use Rattle.std.proofs.lemmas.Bool.Decides.{nat_tests}
+use Rattle.game_trait.specs.declared.command.Command.{Command}
+use Rattle.game_trait.specs.declared.command.Item.{Item}
+use Rattle.game_trait.specs.declared.event.Event.{Event}
+use Rattle.game_trait.specs.declared.event.Event.TheVariants.{Tick, Arrive, Step, Restagger}
+use Rattle.game_trait.specs.declared.event.Reply.TheVariants.{Tick as ToTick, Step as ToStep, Restaggered}
+use Rattle.game_trait.specs.declared.event.Ticked.{Ticked}
+use Rattle.game_trait.specs.declared.event.Ticked.TheVariants.{Moved}
+use Rattle.game_trait.specs.declared.event.Stepped.{Stepped}
+use Rattle.game_trait.specs.Game.{Rules}
+use Rattle.game_trait.specs.Later.{AreTimeBlind, later, later_item, later_event, later_reply}
+use Rattle.game_trait.specs.Run.{beats}
+use Rattle.game_trait.specs.Ordered.{ordered}
+use Rattle.game_trait.proofs.OrderedParts.{beats-ordered, ordered-join}
+use Rattle.sync_model.specs.Lists.{last_of}
+use Rattle.sync_model.specs.State.{MirrorState, opening_state, copy_clock, last_clock}
+use Rattle.sync_model.specs.Staggered.{IsTrailing}
+use Rattle.sync_model.specs.Change.{next, said, is_over}
+use Rattle.sync_model.specs.Forgetting.{whole_run, IsLeft, IsRemembered, forgotten}
+use Rattle.sync_model.proofs.Lists.{last-map}
+use Rattle.sync_model.proofs.Forgetting.{event-left-over, as-many, last-whole, ordered-left}
+use Rattle.sync_model.proofs.Forgotten.{whole-yet, forgotten-left}
+use Rattle.rolling_mirror.specs.Rolling.{RollState, IsWindowOf, without_lists, left_after, rolled}
+
+-- what is left has no part of the lists
+left-bare : {W : Type 0} (rules : Rules W) (b : ℕ) (whole s : MirrorState W) → IsLeft rules b whole s → IsLeft rules b whole (without_lists s)
+left-bare rules b whole s h = record {
+  some_copy = h.some_copy;
+  opening = h.opening;
+  plans = h.plans;
+  plan = h.plan;
+  clock = h.clock;
+  accepted = h.accepted;
+  runs = h.runs;
+}
+
+-- before any event
+pub opening-window :
+    {W : Type 0} (rules : Rules W) (opening : W) (window n : ℕ) (plans : List (List ℕ)) (spare plan_spare : ℕ)
+    → 0 < length (opening_state opening n plans spare plan_spare).runs
+    → IsLeft rules 0 (opening_state opening n plans spare plan_spare) (opening_state opening window plans 0 0)
+opening-window rules opening window n plans spare plan_spare some =
+    let h = whole-yet rules (opening_state opening n plans spare plan_spare) some in
+    record {
+      some_copy = h.some_copy;
+      opening = h.opening;
+      plans = h.plans;
+      plan = h.plan;
+      clock = h.clock;
+      accepted = h.accepted;
+      runs = h.runs;
+    }
+
+-- an event that both make
+pub event-window :
+    {W : Type 0} (rules : Rules W) (r t : RollState W) (e : Event) → t ≡ left_after r e → r.left.clock < r.left.length
+    → (whole : MirrorState W) → IsWindowOf rules whole r → whole.clock < whole.length
+    → IsRemembered r.base whole (later_event r.base e)
+    → IsWindowOf rules (next whole (later_event r.base e)) t
+    × (said whole (later_event r.base e) ≡ later_reply r.base (said r.left e))
+event-window rules r t e is within whole h before known =
+    let both = event-left-over rules r.base whole r.left e h before within known in (
+      subst (IsWindowOf rules (next whole (later_event r.base e))) (sym is)
+      (left-bare rules r.base (next whole (later_event r.base e)) (next r.left e) both.0),
+      both.1,
+    )
+
+pub tick-window :
+    {W : Type 0} (rules : Rules W) (r t : RollState W) → t ≡ left_after r Tick → r.left.clock < r.left.length
+    → (whole : MirrorState W) → IsWindowOf rules whole r → whole.clock < whole.length
+    → IsWindowOf rules (next whole Tick) t × (said whole Tick ≡ ToTick Moved)
+unfolding later_event said
+tick-window rules r t is within whole h before =
+    let both = event-window rules r t Tick is within whole h before tt in
+    let here : is_over whole ≡ false = grind (arith, nat_tests) in
+    (both.0, rw here refl)
+
+pub step-window :
+    {W : Type 0} (rules : Rules W) (r t : RollState W) (c : ℕ) (result : Stepped) → t ≡ left_after r (Step c)
+    → said r.left (Step c) ≡ ToStep result → r.left.clock < r.left.length → c < length r.left.runs
+    → (whole : MirrorState W) → IsWindowOf rules whole r → whole.clock < whole.length
+    → IsWindowOf rules (next whole (Step c)) t × (said whole (Step c) ≡ ToStep result)
+unfolding later_event later_reply
+step-window rules r t c result is answer within there whole h before =
+    let many = as-many rules r.base whole r.left h in
+    let both = event-window rules r t (Step c) is within whole h before (omega arith) in
+    (both.0, both.1 ∙ ap (later_reply r.base) answer)
+
+pub restagger-window :
+    {W : Type 0} (rules : Rules W) (r t : RollState W) (p : ℕ) → t ≡ left_after r (Restagger p)
+    → (whole : MirrorState W) → IsWindowOf rules whole r → IsWindowOf rules (next whole (Restagger p)) t
+unfolding next
+restagger-window rules r t p is whole h =
+    subst (IsWindowOf rules (next whole (Restagger p))) (sym is) (record {
+      some_copy = h.some_copy;
+      opening = h.opening;
+      plans = h.plans;
+      plan = refl;
+      clock = h.clock;
+      accepted = h.accepted;
+      runs = h.runs;
+    })
+
+-- what lies behind the last copy is forgotten
+pub rolled-window :
+    {W : Type 0} (rules : Rules W) (r t : RollState W) → AreTimeBlind rules → IsTrailing r.left.accepted r.left.runs
+    → last_clock r.left.runs ≤ r.left.clock → t ≡ rolled rules r
+    → (whole : MirrorState W) → IsWindowOf rules whole r → IsWindowOf rules whole t
+rolled-window rules r t blind trailing behind is whole h =
+    subst (IsWindowOf rules whole) (sym is)
+    (forgotten-left rules r.base whole r.left blind trailing behind h)
+
+-- ---- what is told of the whole
+
+-- the last run that is whole again
+last-of-whole :
+    (front : List Item) (b : ℕ) (runs : List (List Item)) → 0 < length runs
+    → last_of [] (map (whole_run front b) runs) ≡ whole_run front b (last_of [] runs)
+unfolding last_of
+last-of-whole front b [] some = absurd (omega arith)
+last-of-whole front b (r ∷ rs) some = last-map (whole_run front b) r rs
+
+module _ {W : Type 0} (rules : Rules W) (b : ℕ) (whole left : MirrorState W) (h : IsLeft rules b whole left) where
+  long : beats (ordered whole.accepted 0 b) ≡ b
+  long = beats-ordered whole.accepted 0 b ∙ omega arith
+
+  pub last-clocks : last_clock whole.runs ≡ b + last_clock left.runs
+  last-clocks = ap last_clock h.runs ∙ last-whole b whole.accepted left.accepted h.accepted (ordered whole.accepted 0 b) long left.runs h.some_copy
+
+  -- the last copy's run is in time order
+  pub last-ordered : IsTrailing left.accepted left.runs → last_of [] whole.runs ≡ ordered whole.accepted 0 (last_clock whole.runs)
+  last-ordered trailing =
+      let k = last_clock left.runs in
+      let at : b + 0 ≡ b = omega arith in
+      let passed : map (later_item b) (last_of [] left.runs) ≡ ordered whole.accepted b (b + k) =
+      ap (map (later_item b)) trailing.last_ordered
+      ∙ sym (ordered-left b whole.accepted left.accepted h.accepted 0 k)
+      ∙ ap (λ (i : ℕ). ordered whole.accepted i (b + k)) at in
+      ap (last_of []) h.runs
+      ∙ last-of-whole (ordered whole.accepted 0 b) b left.runs h.some_copy
+      ∙ ap (λ (l : List Item). ordered whole.accepted 0 b ++ l) passed
+      ∙ sym (ordered-join whole.accepted 0 b (b + k) (omega arith) (omega arith))
+      ∙ ap (ordered whole.accepted 0) (sym last-clocks)

@@ -1,0 +1,12 @@
+//! A mirror of a session without an end: it forgets what lies behind its last copy, and is at every
+//! moment what is left of a state of `sync_model`.
+#![tactic(auto)]
+
+mod arrival;
+mod events;
+mod forget;
+mod names;
+mod rolling;
+
+pub use arrival::Arrival;
+pub use rolling::RollingMirror;
