@@ -111,6 +111,14 @@ module _ {W : Type 0} {r : RollState W} {plans : List Schedule} {names : NamesOf
         first_room = h.first_room;
       }
 
+  -- there is room for the names of what is left
+  pub renamed-room : (k : ℕ) → length (left_commands k r.left.accepted) ≤ names.first_room
+  renamed-room k =
+      let named : length names.items ≡ length r.left.accepted = ap length h.names_are ∙ length-map r.left.accepted name_of in
+      let fewer = left-fewer k r.left.accepted in
+      let room = h.first_room in
+      omega arith
+
   -- what lies behind the last copy is forgotten
   pub rolling-rolled :
       (rules : Rules W) → IsTrailing r.left.accepted r.left.runs

@@ -3,3 +3,5 @@ mod Windows
 mod Kept
 mod Arrivals
 mod Turns
+mod Limits
+mod Opened

@@ -11,6 +11,7 @@ use Rattle.game_trait.specs.declared.event.Reply.TheVariants.{Tick as ToTick, St
 use Rattle.game_trait.specs.declared.event.Ticked.{Ticked}
 use Rattle.game_trait.specs.declared.event.Ticked.TheVariants.{Moved}
 use Rattle.game_trait.specs.declared.event.Stepped.{Stepped}
+use Rattle.game_trait.specs.declared.event.Stepped.TheVariants.{Ran, Idle}
 use Rattle.game_trait.specs.Game.{Rules}
 use Rattle.game_trait.specs.Later.{AreTimeBlind, later, later_item, later_event, later_reply}
 use Rattle.game_trait.specs.Run.{beats}
@@ -18,8 +19,9 @@ use Rattle.game_trait.specs.Ordered.{ordered}
 use Rattle.game_trait.proofs.OrderedParts.{beats-ordered, ordered-join}
 use Rattle.sync_model.specs.Lists.{last_of}
 use Rattle.sync_model.specs.State.{MirrorState, opening_state, copy_clock, last_clock}
+use Rattle.sync_model.specs.Settle.{settle, repaired}
 use Rattle.sync_model.specs.Staggered.{IsTrailing}
-use Rattle.sync_model.specs.Change.{next, said, is_over}
+use Rattle.sync_model.specs.Change.{next, said, is_over, is_idle, proposed_by_step}
 use Rattle.sync_model.specs.Forgetting.{whole_run, IsLeft, IsRemembered, forgotten}
 use Rattle.sync_model.proofs.Lists.{last-map}
 use Rattle.sync_model.proofs.Forgetting.{event-left-over, as-many, last-whole, ordered-left}
@@ -37,6 +39,36 @@ left-bare rules b whole s h = record {
   accepted = h.accepted;
   runs = h.runs;
 }
+
+-- ---- what is left after an event, case by case
+
+pub after-tick :
+    {W : Type 0} (r : RollState W) → r.left.clock < r.left.length
+    → left_after r Tick ≡ record r { left = record (without_lists r.left) { clock = r.left.clock + 1 } }
+unfolding next
+after-tick r within = (let e : is_over r.left ≡ false = grind (arith, nat_tests) in rw e refl)
+
+pub after-idle :
+    {W : Type 0} (r : RollState W) (c : ℕ) → is_idle r.left c ≡ true
+    → (left_after r (Step c) ≡ record r { left = without_lists r.left }) × (said r.left (Step c) ≡ ToStep Idle)
+unfolding next said
+after-idle r c idle = (rw idle refl, rw idle refl)
+
+pub after-step :
+    {W : Type 0} (r : RollState W) (c : ℕ) → is_idle r.left c ≡ false
+    → (left_after r (Step c)
+    ≡ record r { left = record (without_lists r.left) { runs = settle r.left.accepted (proposed_by_step r.left.accepted r.left.runs c) } })
+    × (said r.left (Step c) ≡ ToStep (Ran (repaired r.left.accepted (proposed_by_step r.left.accepted r.left.runs c))))
+unfolding next said
+after-step r c more = (rw more refl, rw more refl)
+
+pub after-restagger :
+    {W : Type 0} (r : RollState W) (p : ℕ)
+    → left_after r (Restagger p) ≡ record r { left = record (without_lists r.left) { plan = p } }
+unfolding next
+after-restagger r p = refl
+
+-- ---- and the mirror that remembers all
 
 -- before any event
 pub opening-window :

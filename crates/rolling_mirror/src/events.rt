@@ -47,7 +47,8 @@ impl<G: TimeBlind> RollingMirror<G> {
     fn is_held(&self) -> bool
         ensures { result ≡ is_held self.now }
     {
-        self.clock + 1 == self.stagger().length() || self.base + self.clock == Tick::MAX
+        let window = self.stagger().length();
+        self.clock + 1 == window || self.base + self.clock == Tick::MAX
     }
 
     /// Runs a tick of the copy, which is there, where it may run one: it stands its delay behind the
