@@ -11,16 +11,19 @@ use Rattle.game_trait.specs.declared.event.Arrived.{Arrived}
 use Rattle.game_trait.specs.declared.event.Arrived.TheVariants.{Taken as AsTaken, Repeat as AsRepeat, Late as AsLate}
 use Rattle.game_trait.specs.declared.event.Reply.TheVariants.{Arrive as ToArrive}
 use Rattle.game_trait.specs.Game.{Rules}
+use Rattle.game_trait.specs.CommandList.{name_of}
+use Rattle.game_trait.specs.NameTree.{has_name}
+use Rattle.game_trait.proofs.CommandLists.{has-named}
 use Rattle.game_trait.specs.Keys.{same_name}
 use Rattle.game_trait.specs.Later.{later, earlier, later_event, later_reply}
 use Rattle.sync_model.specs.State.{MirrorState, last_clock}
-use Rattle.sync_model.specs.Settle.{repaired}
+use Rattle.sync_model.specs.Settle.{settle, repaired}
 use Rattle.sync_model.specs.Change.{next, said, is_repeat, is_late, proposed_by_arrival}
 use Rattle.sync_model.specs.Forgetting.{IsLeft, IsRemembered}
 use Rattle.sync_model.proofs.Cases.{away, taken, said_taken}
 use Rattle.rolling_mirror.specs.declared.arrival.Arrival.{Arrival}
 use Rattle.rolling_mirror.specs.declared.arrival.Arrival.TheVariants.{Taken, Repeat, Late, Far, Full}
-use Rattle.rolling_mirror.specs.Rolling.{RollState, IsWindowOf, left_after, last_tick, window_end, in_window, said_to_arrival, arrived, as_arrived}
+use Rattle.rolling_mirror.specs.Rolling.{RollState, IsWindowOf, without_lists, left_after, last_tick, window_end, in_window, said_to_arrival, arrived, as_arrived}
 use Rattle.rolling_mirror.proofs.Windows.{event-window, last-clocks}
 
 -- ---- the events of a mirror
@@ -73,29 +76,63 @@ repeat-earlier s b x = refl
 later-earlier : (b : ℕ) (x : Command) → b ≤ x.time → later b (earlier b x) ≡ x
 later-earlier b x due = (let e : (x.time - b) + b ≡ x.time = omega arith in ap (λ (t : ℕ). record x { time = t }) e)
 
+-- a name is remembered where a command has it
+pub repeat-named :
+    {W : Type 0} (s : MirrorState W) (x : Command) (names : List (ℕ × ℕ)) (v : Bool) → names ≡ map name_of s.accepted
+    → v ≡ has_name names x.from x.number → is_repeat s x ≡ v
+unfolding same_name
+repeat-named s x names v are told =
+    sym (told ∙ ap (λ (l : List (ℕ × ℕ)). has_name l x.from x.number) are ∙ has-named s.accepted x.from x.number)
+
 -- ---- the answer, case by case
 
 module _ {W : Type 0} (r : RollState W) (x : Command) where
-  pub said-repeat : is_repeat r.left x ≡ true → said_to_arrival r x ≡ Repeat
+  pub said-repeat : is_repeat r.left x ≡ true → Repeat ≡ said_to_arrival r x
   said-repeat again = rw again refl
 
-  pub said-late : is_repeat r.left x ≡ false → ltb x.time (last_tick r) ≡ true → said_to_arrival r x ≡ Late (last_tick r)
-  said-late new late = rw (new, late) refl
+  pub said-late : (bound : ℕ) → bound ≡ last_tick r → is_repeat r.left x ≡ false → x.time < bound → Late bound ≡ said_to_arrival r x
+  said-late bound is new late =
+      let old : ltb x.time (last_tick r) ≡ true = lt-ltb x.time (last_tick r) (omega arith) in
+      rw (new, old) (ap Late is)
 
-  pub said-far :
-      is_repeat r.left x ≡ false → ltb x.time (last_tick r) ≡ false → leb (window_end r) x.time ≡ true
-      → said_to_arrival r x ≡ Far (window_end r)
-  said-far new due far = rw (new, due, far) refl
+  module _ (bound window : ℕ) (is : bound ≡ last_tick r) (ticks : window ≡ r.left.length) (new : is_repeat r.left x ≡ false) (due : bound ≤ x.time) where
+    on_time : ltb x.time (last_tick r) ≡ false
+    on_time = le-ltb x.time (last_tick r) (omega arith)
 
-  pub said-full :
-      is_repeat r.left x ≡ false → ltb x.time (last_tick r) ≡ false → leb (window_end r) x.time ≡ false → eqb r.spare 0 ≡ true
-      → said_to_arrival r x ≡ Full
-  said-full new due near full = rw (new, due, near, full) refl
+    pub said-far : window ≤ x.time - r.base → Far (r.base + window) ≡ said_to_arrival r x
+    said-far far =
+        let at : leb (window_end r) x.time ≡ true = grind (arith, nat_tests) in
+        rw (new, on_time, at) (ap (λ (n : ℕ). Far (r.base + n)) ticks)
 
-  pub said-in :
-      is_repeat r.left x ≡ false → ltb x.time (last_tick r) ≡ false → leb (window_end r) x.time ≡ false → eqb r.spare 0 ≡ false
-      → said_to_arrival r x ≡ Taken (repaired (r.left.accepted ++ in_window r x ∷ []) (proposed_by_arrival (in_window r x) r.left.runs))
-  said-in new due near some = rw (new, due, near, some) refl
+    pub said-full : x.time - r.base < window → r.spare ≡ 0 → Full ≡ said_to_arrival r x
+    said-full near full =
+        let at : leb (window_end r) x.time ≡ false = grind (arith, nat_tests) in
+        let none : eqb r.spare 0 ≡ true = grind (arith, nat_tests) in
+        rw (new, on_time, at, none) refl
+
+    pub said-in :
+        x.time - r.base < window → (r.spare ≡ 0 → ⊥)
+        → Taken (repaired (r.left.accepted ++ in_window r x ∷ []) (proposed_by_arrival (in_window r x) r.left.runs)) ≡ said_to_arrival r x
+    said-in near some =
+        let at : leb (window_end r) x.time ≡ false = grind (arith, nat_tests) in
+        let room : eqb r.spare 0 ≡ false = grind (arith, nat_tests) in
+        rw (new, on_time, at, room) refl
+
+  -- a command that is accepted
+  pub after-taken :
+      is_repeat r.left x ≡ false → last_clock r.left.runs ≤ x.time
+      → record (left_after r (Arrive x)) { spare = r.spare - 1 }
+      ≡ record r {
+        left = record (without_lists r.left) {
+          accepted = r.left.accepted ++ x ∷ [];
+          runs = settle (r.left.accepted ++ x ∷ []) (proposed_by_arrival x r.left.runs);
+        };
+        spare = r.spare - 1;
+      }
+  unfolding next
+  after-taken new due =
+      let on : is_late r.left x ≡ false = le-ltb x.time (last_clock r.left.runs) due in
+      rw (new, on) refl
 
   said-cases :
       (Q : Arrival → Type 0)

@@ -69,6 +69,16 @@ beats-left last run begins =
     let same : beats (left_run (beats last) (length last) run) ≡ beats rest = beats-earlier (beats last) (drop (length last) run) ∙ ap beats left in
     omega arith
 
+-- what holds of the parts holds of the value
+pub within-of : {W : Type 0} {i r : RollState W} → i ≡ r → i.left.clock < i.left.length → r.left.clock < r.left.length
+within-of {W} is h = subst (λ (s : RollState W). s.left.clock < s.left.length) is h
+
+pub trailing-of : {W : Type 0} {i r : RollState W} → i ≡ r → IsTrailing i.left.accepted i.left.runs → IsTrailing r.left.accepted r.left.runs
+trailing-of {W} is h = subst (λ (s : RollState W). IsTrailing s.left.accepted s.left.runs) is h
+
+pub behind-of : {W : Type 0} {i r : RollState W} → i ≡ r → last_clock i.left.runs ≤ i.left.clock → last_clock r.left.runs ≤ r.left.clock
+behind-of {W} is h = subst (λ (s : RollState W). last_clock s.left.runs ≤ s.left.clock) is h
+
 module _ {W : Type 0} {r : RollState W} {plans : List Schedule} {names : NamesOfTree} (h : IsRolling r plans names) where
   -- the last copy isn't ahead of the clock
   pub last-behind : last_clock r.left.runs ≤ r.left.clock

@@ -50,17 +50,26 @@ after-tick r within = (let e : is_over r.left ≡ false = grind (arith, nat_test
 
 pub after-idle :
     {W : Type 0} (r : RollState W) (c : ℕ) → is_idle r.left c ≡ true
-    → (left_after r (Step c) ≡ record r { left = without_lists r.left }) × (said r.left (Step c) ≡ ToStep Idle)
-unfolding next said
-after-idle r c idle = (rw idle refl, rw idle refl)
+    → left_after r (Step c) ≡ record r { left = without_lists r.left }
+unfolding next
+after-idle r c idle = rw idle refl
+
+pub said-idle : {W : Type 0} (s : MirrorState W) (c : ℕ) → is_idle s c ≡ true → said s (Step c) ≡ ToStep Idle
+unfolding said
+said-idle s c idle = rw idle refl
 
 pub after-step :
     {W : Type 0} (r : RollState W) (c : ℕ) → is_idle r.left c ≡ false
-    → (left_after r (Step c)
-    ≡ record r { left = record (without_lists r.left) { runs = settle r.left.accepted (proposed_by_step r.left.accepted r.left.runs c) } })
-    × (said r.left (Step c) ≡ ToStep (Ran (repaired r.left.accepted (proposed_by_step r.left.accepted r.left.runs c))))
-unfolding next said
-after-step r c more = (rw more refl, rw more refl)
+    → left_after r (Step c)
+    ≡ record r { left = record (without_lists r.left) { runs = settle r.left.accepted (proposed_by_step r.left.accepted r.left.runs c) } }
+unfolding next
+after-step r c more = rw more refl
+
+pub said-step :
+    {W : Type 0} (s : MirrorState W) (c : ℕ) → is_idle s c ≡ false
+    → said s (Step c) ≡ ToStep (Ran (repaired s.accepted (proposed_by_step s.accepted s.runs c)))
+unfolding said
+said-step s c more = rw more refl
 
 pub after-restagger :
     {W : Type 0} (r : RollState W) (p : ℕ)

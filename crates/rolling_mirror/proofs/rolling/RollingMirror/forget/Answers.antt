@@ -1,5 +1,5 @@
 use Rattle.std.proofs.Common.{◌≡◌, refl}
-use Rattle.rolling_mirror.proofs.Kept.{last-behind, renamed-room, rolling-rolled}
+use Rattle.rolling_mirror.proofs.Kept.{trailing-of, behind-of, last-behind, renamed-room, rolling-rolled}
 use Rattle.rolling_mirror.proofs.Windows.{rolled-window}
 use Rattle.rolling_mirror.proofs.rolling.RollingMirror.forget.Goals as goal
 
@@ -20,5 +20,5 @@ returns-clause-state g c =
 
 pub returns-clause-window : goal.returns-clause-window
 returns-clause-window g c =
-    rolled-window g.G.Game.rules _ _ g.met.G.TimeBlind.laws (rw c.self.view_is at c.always.ensures.trailing)
-    (rw c.self.view_is at (last-behind c.self.invariant)) (returns-clause-state g c)
+    rolled-window g.G.Game.rules _ _ g.met.G.TimeBlind.laws (trailing-of c.self.view_is c.always.ensures.trailing)
+    (behind-of c.self.view_is (last-behind c.self.invariant)) (returns-clause-state g c)
