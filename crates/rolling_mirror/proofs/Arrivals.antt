@@ -78,11 +78,11 @@ later-earlier b x due = (let e : (x.time - b) + b ≡ x.time = omega arith in ap
 
 -- a name is remembered where a command has it
 pub repeat-named :
-    {W : Type 0} (s : MirrorState W) (x : Command) (names : List (ℕ × ℕ)) (v : Bool) → names ≡ map name_of s.accepted
-    → v ≡ has_name names x.from x.number → is_repeat s x ≡ v
+    (xs : List Command) (x : Command) (names : List (ℕ × ℕ)) (v : Bool) → names ≡ map name_of xs
+    → v ≡ has_name names x.from x.number → list_any (same_name x) xs ≡ v
 unfolding same_name
-repeat-named s x names v are told =
-    sym (told ∙ ap (λ (l : List (ℕ × ℕ)). has_name l x.from x.number) are ∙ has-named s.accepted x.from x.number)
+repeat-named xs x names v are told =
+    sym (told ∙ ap (λ (l : List (ℕ × ℕ)). has_name l x.from x.number) are ∙ has-named xs x.from x.number)
 
 -- ---- the answer, case by case
 
@@ -220,3 +220,12 @@ module _ {W : Type 0} (rules : Rules W) (r : RollState W) (x : Command) (within 
   arrival-window t a answer state =
       subst (λ (u : RollState W). IfSome (as_arrived a) (λ answer. IsWindowOf rules (next whole (Arrive x)) u × (said whole (Arrive x) ≡ ToArrive answer))) (sym state)
       (subst Holds (sym answer) (said-cases r x Holds repeat-window late-window tt tt taken-window))
+
+-- the state after a command that was accepted
+pub taken-state :
+    {W : Type 0} (r t : RollState W) (x due : Command) (a : Arrival) (n : ℕ) → a ≡ Taken n → due ≡ in_window r x
+    → t ≡ record (left_after r (Arrive due)) { spare = r.spare - 1 } → t ≡ arrived r x a
+taken-state {W} r t x due a n answer is state =
+    state
+    ∙ ap (λ (y : Command). record (left_after r (Arrive y)) { spare = r.spare - 1 }) is
+    ∙ ap (arrived r x) (sym answer)

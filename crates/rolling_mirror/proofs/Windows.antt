@@ -1,6 +1,7 @@
 -- What is left of a mirror, beside the mirror that remembers all.
 use Rattle.std.proofs.Common.{◌≡◌, refl, ◌∙◌, ap, sym, subst, ℕ, ◌+◌, ◌-◌, ◌≤◌, ◌<◌, Bool, true, false, cond, ◌||◌, not, leb, ltb}
 use Rattle.std.proofs.Common.{List, [], ◌∷◌, ◌++◌, map, filter, length, get_or, drop, replicate, arith}
+use Rattle.std.specs.Prelude.{if◌then◌else◌}
 use Rattle.std.specs.List.{list_any}
 use Rattle.std.proofs.lemmas.Bool.Decides.{nat_tests}
 use Rattle.game_trait.specs.declared.command.Command.{Command}
@@ -26,7 +27,7 @@ use Rattle.sync_model.specs.Forgetting.{whole_run, IsLeft, IsRemembered, forgott
 use Rattle.sync_model.proofs.Lists.{last-map}
 use Rattle.sync_model.proofs.Forgetting.{event-left-over, as-many, last-whole, ordered-left}
 use Rattle.sync_model.proofs.Forgotten.{whole-yet, forgotten-left}
-use Rattle.rolling_mirror.specs.Rolling.{RollState, IsWindowOf, without_lists, left_after, rolled}
+use Rattle.rolling_mirror.specs.Rolling.{RollState, IsWindowOf, without_lists, left_after, rolled, ready, is_held, ticked}
 
 -- what is left has no part of the lists
 left-bare : {W : Type 0} (rules : Rules W) (b : ℕ) (whole s : MirrorState W) → IsLeft rules b whole s → IsLeft rules b whole (without_lists s)
@@ -47,6 +48,12 @@ pub after-tick :
     → left_after r Tick ≡ record r { left = record (without_lists r.left) { clock = r.left.clock + 1 } }
 unfolding next
 after-tick r within = (let e : is_over r.left ≡ false = grind (arith, nat_tests) in rw e refl)
+
+pub ticked-moved :
+    {W : Type 0} (rules : Rules W) (r v : RollState W) → v ≡ ready rules r → is_held v ≡ false → v.left.clock < v.left.length
+    → ticked rules r ≡ record v { left = record (without_lists v.left) { clock = v.left.clock + 1 } }
+ticked-moved {W} rules r v is held within =
+    ap (λ (t : RollState W). if is_held t then t else left_after t Tick) (sym is) ∙ rw held (after-tick v within)
 
 pub after-idle :
     {W : Type 0} (r : RollState W) (c : ℕ) → is_idle r.left c ≡ true
