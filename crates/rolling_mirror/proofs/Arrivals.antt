@@ -69,9 +69,9 @@ named-later b x [] = refl
 named-later b x (y ∷ ys) = ap (λ (v : Bool). same_name x y || v) (named-later b x ys)
 
 -- an earlier command has the same name
-pub repeat-earlier : {W : Type 0} (s : MirrorState W) (b : ℕ) (x : Command) → is_repeat s (earlier b x) ≡ is_repeat s x
+pub named-earlier : (xs : List Command) (b : ℕ) (x : Command) → list_any (same_name (earlier b x)) xs ≡ list_any (same_name x) xs
 unfolding same_name
-repeat-earlier s b x = refl
+named-earlier xs b x = refl
 
 later-earlier : (b : ℕ) (x : Command) → b ≤ x.time → later b (earlier b x) ≡ x
 later-earlier b x due = (let e : (x.time - b) + b ≡ x.time = omega arith in ap (λ (t : ℕ). record x { time = t }) e)
@@ -87,10 +87,10 @@ repeat-named xs x names v are told =
 -- ---- the answer, case by case
 
 module _ {W : Type 0} (r : RollState W) (x : Command) where
-  pub said-repeat : is_repeat r.left x ≡ true → Repeat ≡ said_to_arrival r x
+  said-repeat : is_repeat r.left x ≡ true → Repeat ≡ said_to_arrival r x
   said-repeat again = rw again refl
 
-  pub said-late : (bound : ℕ) → bound ≡ last_tick r → is_repeat r.left x ≡ false → x.time < bound → Late bound ≡ said_to_arrival r x
+  said-late : (bound : ℕ) → bound ≡ last_tick r → is_repeat r.left x ≡ false → x.time < bound → Late bound ≡ said_to_arrival r x
   said-late bound is new late =
       let old : ltb x.time (last_tick r) ≡ true = lt-ltb x.time (last_tick r) (omega arith) in
       rw (new, old) (ap Late is)
@@ -99,18 +99,18 @@ module _ {W : Type 0} (r : RollState W) (x : Command) where
     on_time : ltb x.time (last_tick r) ≡ false
     on_time = le-ltb x.time (last_tick r) (omega arith)
 
-    pub said-far : window ≤ x.time - r.base → Far (r.base + window) ≡ said_to_arrival r x
+    said-far : window ≤ x.time - r.base → Far (r.base + window) ≡ said_to_arrival r x
     said-far far =
         let at : leb (window_end r) x.time ≡ true = grind (arith, nat_tests) in
         rw (new, on_time, at) (ap (λ (n : ℕ). Far (r.base + n)) ticks)
 
-    pub said-full : x.time - r.base < window → r.spare ≡ 0 → Full ≡ said_to_arrival r x
+    said-full : x.time - r.base < window → r.spare ≡ 0 → Full ≡ said_to_arrival r x
     said-full near full =
         let at : leb (window_end r) x.time ≡ false = grind (arith, nat_tests) in
         let none : eqb r.spare 0 ≡ true = grind (arith, nat_tests) in
         rw (new, on_time, at, none) refl
 
-    pub said-in :
+    said-in :
         x.time - r.base < window → (r.spare ≡ 0 → ⊥)
         → Taken (repaired (r.left.accepted ++ in_window r x ∷ []) (proposed_by_arrival (in_window r x) r.left.runs)) ≡ said_to_arrival r x
     said-in near some =
@@ -158,6 +158,31 @@ module _ {W : Type 0} (r : RollState W) (x : Command) where
             refl
       ]
       refl
+
+-- the same where the parts are known
+
+module _ {W : Type 0} {i r : RollState W} (view : i ≡ r) (x : Command) where
+  pub is-repeat : is_repeat i.left x ≡ true → Repeat ≡ said_to_arrival r x
+  is-repeat again = subst (λ (s : RollState W). Repeat ≡ said_to_arrival s x) view (said-repeat i x again)
+
+  pub is-late : (bound : ℕ) → bound ≡ last_tick i → is_repeat i.left x ≡ false → x.time < bound → Late bound ≡ said_to_arrival r x
+  is-late bound is new late = subst (λ (s : RollState W). Late bound ≡ said_to_arrival s x) view (said-late i x bound is new late)
+
+  module _ (bound window : ℕ) (is : bound ≡ last_tick i) (ticks : window ≡ i.left.length) (new : is_repeat i.left x ≡ false) (due : bound ≤ x.time) where
+    pub is-far : window ≤ x.time - i.base → Far (i.base + window) ≡ said_to_arrival r x
+    is-far far =
+        subst (λ (s : RollState W). Far (i.base + window) ≡ said_to_arrival s x) view (said-far i x bound window is ticks new due far)
+
+    pub is-full : x.time - i.base < window → i.spare ≡ 0 → Full ≡ said_to_arrival r x
+    is-full near full = subst (λ (s : RollState W). Full ≡ said_to_arrival s x) view (said-full i x bound window is ticks new due near full)
+
+    pub is-in :
+        (y : Command) → y ≡ in_window i x → x.time - i.base < window → (i.spare ≡ 0 → ⊥)
+        → Taken (repaired (r.left.accepted ++ y ∷ []) (proposed_by_arrival y r.left.runs)) ≡ said_to_arrival r x
+    is-in y told near some =
+        subst (λ (s : RollState W). Taken (repaired (s.left.accepted ++ y ∷ []) (proposed_by_arrival y s.left.runs)) ≡ said_to_arrival s x) view
+        (ap (λ (z : Command). Taken (repaired (i.left.accepted ++ z ∷ []) (proposed_by_arrival z i.left.runs))) told
+        ∙ said-in i x bound window is ticks new due near some)
 
 -- ---- and the mirror that remembers all
 

@@ -5,15 +5,16 @@ use Rattle.game_trait.specs.declared.event.Event.TheVariants.{Tick, Step}
 use Rattle.game_trait.specs.declared.event.Reply.{Reply}
 use Rattle.game_trait.specs.declared.event.Reply.TheVariants.{Tick as ToTick, Step as ToStep}
 use Rattle.game_trait.specs.declared.event.Stepped.{Stepped}
+use Rattle.game_trait.specs.declared.event.Ticked.{Ticked}
 use Rattle.game_trait.specs.declared.event.Ticked.TheVariants.{Moved}
 use Rattle.game_trait.specs.Game.{Rules}
 use Rattle.game_trait.specs.Later.{later_event, later_reply}
 use Rattle.sync_model.specs.State.{MirrorState}
 use Rattle.sync_model.specs.Change.{next, said, after, answers}
 use Rattle.sync_model.specs.Turns.{steps_from, turn, turn_events}
-use Rattle.sync_model.proofs.Cases.{step-cases, next-fixed, copies_of}
+use Rattle.sync_model.proofs.Cases.{tick-cases, step-cases, next-fixed, copies_of}
 use Rattle.sync_model.proofs.Forgetting.{as-many}
-use Rattle.rolling_mirror.specs.Rolling.{RollState, IsWindowOf, left_after, left_after_all, answers_left, steps_of_each}
+use Rattle.rolling_mirror.specs.Rolling.{RollState, IsWindowOf, left_after, left_after_all, answers_left, steps_of_each, ticked, said_to_tick, turned, said_to_turn}
 use Rattle.rolling_mirror.proofs.Windows.{event-window}
 
 -- a step moves no clock of a mirror
@@ -40,24 +41,32 @@ steps-window rules (suc n) c r few within whole h before =
     let more = steps-window rules n (c + 1) (left_after r (Step c)) (omega arith) (omega arith) (next whole (Step c)) one.0 (omega arith) in
     (more.0, ap (λ (l : List Reply). l ++ answers (next whole (Step c)) (steps_from (c + 1) n)) (ap (λ (a : Reply). a ∷ []) one.1) ∙ ap (λ (l : List Reply). said r.left (Step c) ∷ l) more.1)
 
+-- the tick moves the clock by one at most
+tick-clock : {W : Type 0} (s : MirrorState W) → (next s Tick).clock ≤ s.clock + 1
+tick-clock s = tick-cases s (λ t r. t.clock ≤ s.clock + 1) (λ e. omega arith) (λ e. omega arith)
+
 -- a turn whose tick moves the clock
 pub turn-window :
-    {W : Type 0} (rules : Rules W) (t : RollState W) → t.left.clock < t.left.length
-    → (whole : MirrorState W) → whole.clock + 1 < whole.length → IsWindowOf rules (next whole Tick) t
-    → (next whole Tick).clock ≤ whole.clock + 1 → said whole Tick ≡ ToTick Moved
-    → IsWindowOf rules (turn whole) (left_after_all t (steps_of_each t))
-    × (answers whole (turn_events (length whole.runs)) ≡ ToTick Moved ∷ answers_left t (steps_of_each t))
+    {W : Type 0} (rules : Rules W) (r t u : RollState W) → t ≡ ticked rules r → t.left.clock < t.left.length
+    → (whole : MirrorState W) → whole.clock + 1 < whole.length → IsWindowOf rules (next whole Tick) t → said whole Tick ≡ ToTick Moved
+    → (replies : List Reply) → u ≡ turned rules r → replies ≡ said_to_turn rules r → said_to_tick rules r ≡ Moved
+    → IsWindowOf rules (turn whole) u × (replies ≡ answers whole (turn_events (length whole.runs)))
 unfolding after answers
-turn-window rules t within whole before h upto moved =
+turn-window {W} rules r t u is within whole before h moved replies state told mine =
     let fixed = next-fixed whole Tick in
     let copies : copies_of (next whole Tick) ≡ length whole.runs = fixed.copies in
     let ticks = fixed.length in
+    let upto = tick-clock whole in
     let many : length t.left.runs ≡ length whole.runs = sym (as-many rules t.base (next whole Tick) t.left h) ∙ copies in
     let all = steps-window rules (length t.left.runs) 0 t (omega arith) within (next whole Tick) h (omega arith) in (
-      subst (λ (n : ℕ). IsWindowOf rules (after (next whole Tick) (steps_from 0 n)) (left_after_all t (steps_of_each t))) many all.0,
-      ap (λ (a : Reply). a ∷ answers (next whole Tick) (steps_from 0 (length whole.runs))) moved
-      ∙ ap (λ (n : ℕ). ToTick Moved ∷ answers (next whole Tick) (steps_from 0 n)) (sym many)
-      ∙ ap (λ (l : List Reply). ToTick Moved ∷ l) all.1,
+      subst (IsWindowOf rules (turn whole)) (ap (λ (v : RollState W). left_after_all v (steps_of_each v)) is ∙ sym state)
+      (subst (λ (n : ℕ). IsWindowOf rules (after (next whole Tick) (steps_from 0 n)) (left_after_all t (steps_of_each t))) many all.0),
+      told
+      ∙ ap (λ (a : Ticked). ToTick a ∷ answers_left (ticked rules r) (steps_of_each (ticked rules r))) mine
+      ∙ ap (λ (v : RollState W). ToTick Moved ∷ answers_left v (steps_of_each v)) (sym is)
+      ∙ ap (λ (l : List Reply). ToTick Moved ∷ l) (sym all.1)
+      ∙ ap (λ (n : ℕ). ToTick Moved ∷ answers (next whole Tick) (steps_from 0 n)) many
+      ∙ ap (λ (a : Reply). a ∷ answers (next whole Tick) (steps_from 0 (length whole.runs))) (sym moved),
     )
 
 -- ---- on the way
@@ -107,3 +116,15 @@ way-ends start now first replies n c past h =
     let state = rw none at h.state in
     let answers = rw none at h.answers in
     (state, sym (append-nil replies) ∙ answers)
+
+-- and none is left to be made
+pub way-done :
+    {W : Type 0} {start t now : RollState W} {first : Reply} {replies : List Reply} {n c : ℕ} → t ≡ start → n ≡ length t.left.runs → n ≤ c
+    → IsOnItsWay start now first replies n c
+    → (now ≡ left_after_all start (steps_of_each start)) × (replies ≡ first ∷ answers_left start (steps_of_each start))
+way-done {W} {start = start} {t = t} {now = now} {first = first} {replies = replies} {n = n} {c = c} is many past h =
+    let copies : n ≡ length start.left.runs = many ∙ ap (λ (v : RollState W). length v.left.runs) is in
+    let done = way-ends start now first replies n c past h in (
+      done.0 ∙ ap (λ (k : ℕ). left_after_all start (steps_from 0 k)) copies,
+      done.1 ∙ ap (λ (k : ℕ). first ∷ answers_left start (steps_from 0 k)) copies,
+    )

@@ -49,11 +49,10 @@ pub after-tick :
 unfolding next
 after-tick r within = (let e : is_over r.left ≡ false = grind (arith, nat_tests) in rw e refl)
 
-pub ticked-moved :
-    {W : Type 0} (rules : Rules W) (r v : RollState W) → v ≡ ready rules r → is_held v ≡ false → v.left.clock < v.left.length
-    → ticked rules r ≡ record v { left = record (without_lists v.left) { clock = v.left.clock + 1 } }
-ticked-moved {W} rules r v is held within =
-    ap (λ (t : RollState W). if is_held t then t else left_after t Tick) (sym is) ∙ rw held (after-tick v within)
+pub ticked-left :
+    {W : Type 0} (rules : Rules W) (r v : RollState W) → v ≡ ready rules r → is_held v ≡ false → ticked rules r ≡ left_after v Tick
+ticked-left {W} rules r v is held =
+    ap (λ (t : RollState W). if is_held t then t else left_after t Tick) (sym is) ∙ rw held refl
 
 pub after-idle :
     {W : Type 0} (r : RollState W) (c : ℕ) → is_idle r.left c ≡ true
