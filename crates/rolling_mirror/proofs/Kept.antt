@@ -1,11 +1,12 @@
 -- Each event keeps what is always true.
-use Rattle.std.proofs.Common.{◌≡◌, refl, ◌∙◌, ap, sym, subst, ℕ, zero, suc, ◌+◌, ◌-◌, ◌^◌, ◌≤◌, ◌<◌, Bool, true, false, ◌||◌, eqb, leb}
+use Rattle.std.proofs.Common.{◌≡◌, refl, ◌∙◌, ap, sym, subst, ℕ, zero, suc, ◌+◌, ◌-◌, ◌^◌, ◌≤◌, ◌<◌, Bool, true, false, ◌&&◌, ◌||◌, eqb, leb, ltb}
 use Rattle.std.proofs.Common.{List, [], ◌∷◌, ◌++◌, map, length, get_or, set, drop, arith, length-append}
 use Rattle.std.proofs.Math.ListN.{length-set}
 use Rattle.std.proofs.lemmas.Bool.{or_parts}
 use Rattle.std.proofs.lemmas.Bool.Decides.{nat_tests}
 use Rattle.std.proofs.lemmas.List.{length-map, map-append}
 use Rattle.std.proofs.Math.Seq.{drop-append_seam}
+use Rattle.std.specs.Prelude.{if◌then◌else◌}
 use Rattle.std.specs.List.{AllByRecursion}
 use Rattle.game_trait.specs.declared.command.Command.{Command}
 use Rattle.game_trait.specs.declared.command.Item.{Item}
@@ -29,7 +30,7 @@ use Rattle.sync_model.proofs.Settle.{settle-length}
 use Rattle.sync_model.proofs.Staggered.{below_limit}
 use Rattle.sync_model.proofs.Trailing.{beats-step, beats-arrival}
 use Rattle.sync_model.proofs.Forgotten.{last-all, all-begin}
-use Rattle.rolling_mirror.specs.Rolling.{RollState, is_held, rolled}
+use Rattle.rolling_mirror.specs.Rolling.{RollState, is_held, forgets, ready, rolled}
 use Rattle.rolling_mirror.specs.Kept.{ArePlansOf, IsRolling}
 use Rattle.rolling_mirror.proofs.Named.{left-fewer}
 
@@ -79,6 +80,21 @@ trailing-of {W} is h = subst (λ (s : RollState W). IsTrailing s.left.accepted s
 pub behind-of : {W : Type 0} {i r : RollState W} → i ≡ r → last_clock i.left.runs ≤ i.left.clock → last_clock r.left.runs ≤ r.left.clock
 behind-of {W} is h = subst (λ (s : RollState W). last_clock s.left.runs ≤ s.left.clock) is h
 
+-- a clock that isn't held, after and without forgetting
+rolled-room :
+    (b clock window k keep : ℕ) → k ≤ clock → clock < window → b + clock < 2 ^ 32
+    → ltb 0 k && (leb keep k || eqb (clock + 1) window) ≡ true
+    → (eqb k 0 && eqb (clock + 1) window) || eqb (b + clock) (2 ^ 32 - 1) ≡ false
+    → ((clock - k) + 1 < window) × ((b + k) + ((clock - k) + 1) < 2 ^ 32)
+rolled-room b clock window k keep behind within fits e held = (grind (arith, nat_tests), grind (arith, nat_tests))
+
+still-room :
+    (b clock window k keep : ℕ) → k ≤ clock → clock < window → b + clock < 2 ^ 32
+    → ltb 0 k && (leb keep k || eqb (clock + 1) window) ≡ false
+    → (eqb k 0 && eqb (clock + 1) window) || eqb (b + clock) (2 ^ 32 - 1) ≡ false
+    → (clock + 1 < window) × (b + (clock + 1) < 2 ^ 32)
+still-room b clock window k keep behind within fits e held = (grind (arith, nat_tests), grind (arith, nat_tests))
+
 module _ {W : Type 0} {r : RollState W} {plans : List Schedule} {names : NamesOfTree} (h : IsRolling r plans names) where
   -- the last copy isn't ahead of the clock
   pub last-behind : last_clock r.left.runs ≤ r.left.clock
@@ -96,6 +112,23 @@ module _ {W : Type 0} {r : RollState W} {plans : List Schedule} {names : NamesOf
     names_room = h.names_room;
     first_room = h.first_room;
   }
+
+  -- which has room in the window and in the session
+  pub ready-room :
+      (rules : Rules W) → is_held r ≡ false
+      → ((ready rules r).left.clock + 1 < (ready rules r).left.length) × ((ready rules r).base + ((ready rules r).left.clock + 1) < 2 ^ 32)
+  ready-room rules held =
+      let behind = last-behind in
+      let within = h.within_window in
+      let fits = h.within_session in
+      let k = last_clock r.left.runs in
+      elim (forgets r) as (λ v. forgets r ≡ v
+      → ((if v then rolled rules r else r).left.clock + 1 < (if v then rolled rules r else r).left.length)
+      × ((if v then rolled rules r else r).base + ((if v then rolled rules r else r).left.clock + 1) < 2 ^ 32)) [
+        | true ↦ λ e. rolled-room r.base r.left.clock r.left.length k r.keep behind within fits e held
+        | false ↦ λ e. still-room r.base r.left.clock r.left.length k r.keep behind within fits e held
+      ]
+      refl
 
   -- a step that runs
   pub rolling-ran :
@@ -207,3 +240,12 @@ module _ {W : Type 0} {r : RollState W} {plans : List Schedule} {names : NamesOf
         names_room = omega arith;
         first_room = omega arith;
       }
+
+-- the same where the value is known by its parts
+pub room-of :
+    {W : Type 0} {i r v : RollState W} {plans : List Schedule} {names : NamesOfTree} → IsRolling i plans names → (rules : Rules W)
+    → i ≡ r → is_held r ≡ false → v ≡ ready rules r
+    → (v.left.clock + 1 < v.left.length) × (v.base + (v.left.clock + 1) < 2 ^ 32)
+room-of {W} {plans = plans} {names = names} h rules view held is =
+    subst (λ (s : RollState W). (s.left.clock + 1 < s.left.length) × (s.base + (s.left.clock + 1) < 2 ^ 32)) (sym is)
+    (ready-room (subst (λ (s : RollState W). IsRolling s plans names) view h) rules held)

@@ -1,12 +1,13 @@
 -- Steps of each copy of what is left of a mirror, beside the mirror that remembers all.
 use Rattle.std.proofs.Common.{◌≡◌, refl, ◌∙◌, ap, sym, subst, ℕ, zero, suc, ◌+◌, ◌-◌, ◌≤◌, ◌<◌, true, false, cond, List, [], ◌∷◌, ◌++◌, length, append_assoc, append-nil, length-append, arith}
+use Rattle.std.specs.Prelude.{if◌then◌else◌}
 use Rattle.game_trait.specs.declared.event.Event.{Event}
 use Rattle.game_trait.specs.declared.event.Event.TheVariants.{Tick, Step}
 use Rattle.game_trait.specs.declared.event.Reply.{Reply}
 use Rattle.game_trait.specs.declared.event.Reply.TheVariants.{Tick as ToTick, Step as ToStep}
 use Rattle.game_trait.specs.declared.event.Stepped.{Stepped}
 use Rattle.game_trait.specs.declared.event.Ticked.{Ticked}
-use Rattle.game_trait.specs.declared.event.Ticked.TheVariants.{Moved}
+use Rattle.game_trait.specs.declared.event.Ticked.TheVariants.{Moved, Over}
 use Rattle.game_trait.specs.Game.{Rules}
 use Rattle.game_trait.specs.Later.{later_event, later_reply}
 use Rattle.sync_model.specs.State.{MirrorState}
@@ -14,7 +15,7 @@ use Rattle.sync_model.specs.Change.{next, said, after, answers}
 use Rattle.sync_model.specs.Turns.{steps_from, turn, turn_events}
 use Rattle.sync_model.proofs.Cases.{tick-cases, step-cases, next-fixed, copies_of}
 use Rattle.sync_model.proofs.Forgetting.{as-many}
-use Rattle.rolling_mirror.specs.Rolling.{RollState, IsWindowOf, left_after, left_after_all, answers_left, steps_of_each, ticked, said_to_tick, turned, said_to_turn}
+use Rattle.rolling_mirror.specs.Rolling.{RollState, IsWindowOf, left_after, left_after_all, answers_left, steps_of_each, is_held, ticked, said_to_tick, turned, said_to_turn}
 use Rattle.rolling_mirror.proofs.Windows.{event-window}
 
 -- a step moves no clock of a mirror
@@ -45,11 +46,15 @@ steps-window rules (suc n) c r few within whole h before =
 tick-clock : {W : Type 0} (s : MirrorState W) → (next s Tick).clock ≤ s.clock + 1
 tick-clock s = tick-cases s (λ t r. t.clock ≤ s.clock + 1) (λ e. omega arith) (λ e. omega arith)
 
+held-over : {W : Type 0} (r : RollState W) → said_to_tick r ≡ Over → is_held r ≡ true
+held-over r over =
+    elim (is_held r) as (λ v. (if v then Over else Moved) ≡ Over → v ≡ true) [ true ↦ λ e. refl | false ↦ λ e. absurd (let k = e in cc) ] over
+
 -- a turn whose tick moves the clock
 pub turn-window :
     {W : Type 0} (rules : Rules W) (r t u : RollState W) → t ≡ ticked rules r → t.left.clock < t.left.length
     → (whole : MirrorState W) → whole.clock + 1 < whole.length → IsWindowOf rules (next whole Tick) t → said whole Tick ≡ ToTick Moved
-    → (replies : List Reply) → u ≡ turned rules r → replies ≡ said_to_turn rules r → said_to_tick rules r ≡ Moved
+    → (replies : List Reply) → u ≡ turned rules r → replies ≡ said_to_turn rules r → said_to_tick r ≡ Moved
     → IsWindowOf rules (turn whole) u × (replies ≡ answers whole (turn_events (length whole.runs)))
 unfolding after answers
 turn-window {W} rules r t u is within whole before h moved replies state told mine =
@@ -67,6 +72,29 @@ turn-window {W} rules r t u is within whole before h moved replies state told mi
       ∙ ap (λ (l : List Reply). ToTick Moved ∷ l) (sym all.1)
       ∙ ap (λ (n : ℕ). ToTick Moved ∷ answers (next whole Tick) (steps_from 0 n)) many
       ∙ ap (λ (a : Reply). a ∷ answers (next whole Tick) (steps_from 0 (length whole.runs))) (sym moved),
+    )
+
+-- and one whose tick doesn't
+pub over-window :
+    {W : Type 0} (rules : Rules W) (r t u : RollState W) → t ≡ ticked rules r → t.left.clock < t.left.length
+    → (whole : MirrorState W) → IsWindowOf rules whole r → whole.clock < whole.length
+    → (replies : List Reply) → u ≡ turned rules r → replies ≡ said_to_turn rules r → said_to_tick r ≡ Over
+    → IsWindowOf rules (after whole (steps_from 0 (length whole.runs))) u
+    × (replies ≡ ToTick Over ∷ answers whole (steps_from 0 (length whole.runs)))
+over-window {W} rules r t u is within whole h before replies state told mine =
+    let held = held-over r mine in
+    let still : ticked rules r ≡ r = rw held refl in
+    let many : length r.left.runs ≡ length whole.runs = sym (as-many rules r.base whole r.left h) in
+    let upto = subst (λ (v : RollState W). v.left.clock < v.left.length) (is ∙ still) within in
+    let all = steps-window rules (length r.left.runs) 0 r (omega arith) upto whole h before in (
+      subst (IsWindowOf rules (after whole (steps_from 0 (length whole.runs))))
+      (ap (λ (v : RollState W). left_after_all v (steps_of_each v)) (sym still) ∙ sym state)
+      (subst (λ (n : ℕ). IsWindowOf rules (after whole (steps_from 0 n)) (left_after_all r (steps_of_each r))) many all.0),
+      told
+      ∙ ap (λ (a : Ticked). ToTick a ∷ answers_left (ticked rules r) (steps_of_each (ticked rules r))) mine
+      ∙ ap (λ (v : RollState W). ToTick Over ∷ answers_left v (steps_of_each v)) still
+      ∙ ap (λ (l : List Reply). ToTick Over ∷ l) (sym all.1)
+      ∙ ap (λ (n : ℕ). ToTick Over ∷ answers whole (steps_from 0 n)) many,
     )
 
 -- ---- on the way

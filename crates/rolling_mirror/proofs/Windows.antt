@@ -1,7 +1,6 @@
 -- What is left of a mirror, beside the mirror that remembers all.
 use Rattle.std.proofs.Common.{◌≡◌, refl, ◌∙◌, ap, sym, subst, ℕ, ◌+◌, ◌-◌, ◌≤◌, ◌<◌, Bool, true, false, cond, ◌||◌, not, leb, ltb}
 use Rattle.std.proofs.Common.{List, [], ◌∷◌, ◌++◌, map, filter, length, get_or, drop, replicate, arith}
-use Rattle.std.specs.Prelude.{if◌then◌else◌}
 use Rattle.std.specs.List.{list_any}
 use Rattle.std.proofs.lemmas.Bool.Decides.{nat_tests}
 use Rattle.game_trait.specs.declared.command.Command.{Command}
@@ -50,9 +49,8 @@ unfolding next
 after-tick r within = (let e : is_over r.left ≡ false = grind (arith, nat_tests) in rw e refl)
 
 pub ticked-left :
-    {W : Type 0} (rules : Rules W) (r v : RollState W) → v ≡ ready rules r → is_held v ≡ false → ticked rules r ≡ left_after v Tick
-ticked-left {W} rules r v is held =
-    ap (λ (t : RollState W). if is_held t then t else left_after t Tick) (sym is) ∙ rw held refl
+    {W : Type 0} (rules : Rules W) (r v : RollState W) → v ≡ ready rules r → is_held r ≡ false → ticked rules r ≡ left_after v Tick
+ticked-left {W} rules r v is held = rw held (ap (λ (t : RollState W). left_after t Tick) (sym is))
 
 pub after-idle :
     {W : Type 0} (r : RollState W) (c : ℕ) → is_idle r.left c ≡ true

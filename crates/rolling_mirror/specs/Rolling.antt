@@ -28,7 +28,7 @@ pub record RollState (W : Type 0) : Type 0 where
   pub left : MirrorState W
   -- for how many more commands there is room
   pub spare : ℕ
-  -- how many ticks behind the base the last copy's clock stands at least where a tick forgets
+  -- how many ticks the last copy runs in the window before a tick forgets
   pub keep : ℕ
 
 -- the mirror that remembers the whole session, and of which this is what is left
@@ -66,25 +66,31 @@ rolled rules r = record r {
   spare = r.spare + passed_commands r.left;
 }
 
--- a tick forgets where the last copy has run some tick of the window, and so many
+-- the clock stands at the window's last tick
+abbrev pub is_full : {W : Type 0} → RollState W → Bool
+is_full r = r.left.clock + 1 == r.left.length
+
+-- a tick forgets where the last copy has run some tick of the window, and as many as are kept, or where
+-- the window is full
 abbrev pub forgets : {W : Type 0} → RollState W → Bool
-forgets r = nat_lt 0 (last_clock r.left.runs) && nat_le r.keep (last_clock r.left.runs)
+forgets r =
+    nat_lt 0 (last_clock r.left.runs) && (nat_le r.keep (last_clock r.left.runs) || is_full r)
 
 abbrev pub ready : {W : Type 0} → Rules W → RollState W → RollState W
 ready rules r = if forgets r then rolled rules r else r
 
 -- ---- events
 
--- the clock stands at the window's last tick, or at the session's
+-- the last copy is a whole window behind the clock, or this stands at the session's last tick
 abbrev pub is_held : {W : Type 0} → RollState W → Bool
-is_held r = (r.left.clock + 1 == r.left.length) || (r.base + r.left.clock == 2 ^ 32 - 1)
+is_held r =
+    ((last_clock r.left.runs == 0) && is_full r) || (r.base + r.left.clock == 2 ^ 32 - 1)
 
 abbrev pub ticked : {W : Type 0} → Rules W → RollState W → RollState W
-ticked rules r =
-    if is_held (ready rules r) then ready rules r else left_after (ready rules r) Tick
+ticked rules r = if is_held r then r else left_after (ready rules r) Tick
 
-abbrev pub said_to_tick : {W : Type 0} → Rules W → RollState W → Ticked
-said_to_tick rules r = if is_held (ready rules r) then Over else Moved
+abbrev pub said_to_tick : {W : Type 0} → RollState W → Ticked
+said_to_tick r = if is_held r then Over else Moved
 
 -- the same command, its time told from the base
 abbrev pub in_window : {W : Type 0} → RollState W → Command → Command
@@ -139,4 +145,4 @@ turned rules r = left_after_all (ticked rules r) (steps_of_each (ticked rules r)
 
 abbrev pub said_to_turn : {W : Type 0} → Rules W → RollState W → List Reply
 said_to_turn rules r =
-    ToTick (said_to_tick rules r) ∷ answers_left (ticked rules r) (steps_of_each (ticked rules r))
+    ToTick (said_to_tick r) ∷ answers_left (ticked rules r) (steps_of_each (ticked rules r))

@@ -4,8 +4,8 @@ ghost use Rattle.std.specs.Prelude.{◌≡◌, ◌+◌, ◌-◌, ◌<◌, ◌≤
 ghost use Rattle.game_trait.specs.declared.event.Event.{Event};
 ghost use Rattle.sync_model.specs.State.{MirrorState, last_clock};
 ghost use Rattle.sync_model.specs.Settle.{repaired};
-ghost use Rattle.sync_model.specs.Change.{next, said, answers, is_repeat, proposed_by_arrival};
-ghost use Rattle.sync_model.specs.Turns.{turn, turn_events};
+ghost use Rattle.sync_model.specs.Change.{next, said, after, answers, is_repeat, proposed_by_arrival};
+ghost use Rattle.sync_model.specs.Turns.{turn, turn_events, steps_from};
 ghost use Rattle.sync_model.specs.Forgetting.{IsRemembered};
 ghost use Rattle.rolling_mirror.specs.Rolling.{IsWindowOf, left_after, is_held, ticked, said_to_tick};
 ghost use Rattle.rolling_mirror.specs.Rolling.{said_to_arrival, arrived, as_arrived};
@@ -17,38 +17,36 @@ use arrayvec::ArrayVec;
 use game_trait::{Command, Event, Reply, Stepped, Tick, Ticked, TimeBlind};
 
 impl<G: TimeBlind> RollingMirror<G> {
-    /// The clock goes on by one tick, after the mirror forgot what lies behind its last copy where
-    /// that stands far enough behind the window's begin. `Over` comes where the clock stands at the
-    /// window's last tick, since the last copy is a whole window behind it, until steps take that on;
-    /// and where it stands at the last tick that a `u32` tells.
+    /// The clock goes on by one tick, after the mirror forgot what lies behind its last copy, where
+    /// that has run as many ticks of the window as are kept, or the window is full. `Over` comes where
+    /// the last copy is a whole window behind the clock, until steps take it on, and where the clock
+    /// stands at the last tick that a `u32` tells: nothing changed.
     pub fn tick(&mut self) -> Ticked
         ensures state { self.new ≡ ticked G.rules self.old }
-        ensures answer { result ≡ said_to_tick G.rules self.old }
-        ensures moved { (whole : MirrorState G)
+        ensures answer { result ≡ said_to_tick self.old }
+        ensures window { (whole : MirrorState G)
             → IsWindowOf G.rules whole self.old
             → whole.clock < whole.length
             → result ≡ Ticked.Moved
             → IsWindowOf G.rules (next whole Event.Tick) self.new
             × (said whole Event.Tick ≡ Reply.Tick result) }
-        ensures over { (whole : MirrorState G)
-            → IsWindowOf G.rules whole self.old
-            → result ≡ Ticked.Over
-            → IsWindowOf G.rules whole self.new }
     {
-        self.make_ready();
+        let _ = &self.names;
         if self.is_held() {
             return Ticked::Over;
         }
+        self.make_ready();
         self.clock += 1;
         Ticked::Moved
     }
 
-    // Whether the clock stands at the window's last tick or at the session's.
+    // Whether the last copy is a whole window behind the clock, or this stands at the session's last
+    // tick.
     fn is_held(&self) -> bool
         ensures { result ≡ is_held self.now }
     {
-        let window = self.stagger().length();
-        self.clock + 1 == window || self.base + self.clock == Tick::MAX
+        let is_behind = self.last_clock() == 0 && self.is_full();
+        is_behind || self.base + self.clock == Tick::MAX
     }
 
     /// Runs a tick of the copy, which is there, where it may run one: it stands its delay behind the
@@ -146,9 +144,16 @@ impl<G: TimeBlind> RollingMirror<G> {
         ensures moved { (whole : MirrorState G)
             → IsWindowOf G.rules whole self.old
             → whole.clock + 1 < whole.length
-            → said_to_tick G.rules self.old ≡ Ticked.Moved
+            → said_to_tick self.old ≡ Ticked.Moved
             → IsWindowOf G.rules (turn whole) self.new
             × (result.items ≡ answers whole (turn_events (length whole.runs))) }
+        ensures over { (whole : MirrorState G)
+            → IsWindowOf G.rules whole self.old
+            → whole.clock < whole.length
+            → said_to_tick self.old ≡ Ticked.Over
+            → IsWindowOf G.rules (after whole (steps_from 0 (length whole.runs))) self.new
+            × (result.items
+            ≡ Reply.Tick Ticked.Over ∷ answers whole (steps_from 0 (length whole.runs))) }
     {
         let mut replies = ArrayVec::new();
         replies.push(Reply::Tick(self.tick()));

@@ -2,7 +2,7 @@
 
 ghost use Rattle.std.specs.Prelude.{◌≡◌};
 ghost use Rattle.sync_model.specs.State.{MirrorState};
-ghost use Rattle.rolling_mirror.specs.Rolling.{IsWindowOf, rolled, forgets, ready};
+ghost use Rattle.rolling_mirror.specs.Rolling.{IsWindowOf, rolled, forgets, is_full, ready};
 
 use crate::names::rename;
 use crate::rolling::RollingMirror;
@@ -26,7 +26,7 @@ impl<G: TimeBlind> RollingMirror<G> {
         rename(&mut self.names, self.stack.accepted());
     }
 
-    // Forgets where the last copy has run a tick of the window, and as many as are kept.
+    // Forgets where a tick does.
     pub(crate) fn make_ready(&mut self)
         ensures state { self.new ≡ ready G.rules self.old }
         ensures window { (whole : MirrorState G)
@@ -43,6 +43,14 @@ impl<G: TimeBlind> RollingMirror<G> {
         ensures { result ≡ forgets self.now }
     {
         let passed = self.last_clock();
-        0 < passed && self.keep <= passed
+        0 < passed && (self.keep <= passed || self.is_full())
+    }
+
+    // Whether the clock stands at the window's last tick.
+    pub(crate) fn is_full(&self) -> bool
+        ensures { result ≡ is_full self.now }
+    {
+        let window = self.stagger().length();
+        self.clock + 1 == window
     }
 }
