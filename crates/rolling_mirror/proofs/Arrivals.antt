@@ -1,14 +1,13 @@
 -- A command at what is left of a mirror, beside the mirror that remembers all.
 use Rattle.std.proofs.Common.{◌≡◌, refl, ◌∙◌, ap, sym, subst, ℕ, ◌+◌, ◌-◌, ◌≤◌, ◌<◌, Bool, true, false, cond, ◌||◌, not, eqb, leb, ltb}
-use Rattle.std.proofs.Common.{List, [], ◌∷◌, ◌++◌, map, filter, length, arith}
+use Rattle.std.proofs.Common.{List, [], ◌∷◌, ◌++◌, map, filter, arith}
 use Rattle.std.specs.Prelude.{IfSome}
 use Rattle.std.specs.List.{list_any}
 use Rattle.std.proofs.lemmas.Bool.{lt-ltb, le-ltb}
 use Rattle.std.proofs.lemmas.Bool.Decides.{nat_tests}
 use Rattle.game_trait.specs.declared.command.Command.{Command}
 use Rattle.game_trait.specs.declared.event.Event.TheVariants.{Arrive}
-use Rattle.game_trait.specs.declared.event.Arrived.{Arrived}
-use Rattle.game_trait.specs.declared.event.Arrived.TheVariants.{Taken as AsTaken, Repeat as AsRepeat, Late as AsLate}
+use Rattle.game_trait.specs.declared.event.Arrived.TheVariants.{Repeat as AsRepeat, Late as AsLate}
 use Rattle.game_trait.specs.declared.event.Reply.TheVariants.{Arrive as ToArrive}
 use Rattle.game_trait.specs.Game.{Rules}
 use Rattle.game_trait.specs.CommandList.{name_of}
@@ -19,7 +18,6 @@ use Rattle.game_trait.specs.Later.{later, earlier, later_event, later_reply}
 use Rattle.sync_model.specs.State.{MirrorState, last_clock}
 use Rattle.sync_model.specs.Settle.{settle, repaired}
 use Rattle.sync_model.specs.Change.{next, said, is_repeat, is_late, proposed_by_arrival}
-use Rattle.sync_model.specs.Forgetting.{IsLeft, IsRemembered}
 use Rattle.sync_model.proofs.Cases.{away, taken, said_taken}
 use Rattle.rolling_mirror.specs.declared.arrival.Arrival.{Arrival}
 use Rattle.rolling_mirror.specs.declared.arrival.Arrival.TheVariants.{Taken, Repeat, Late, Far, Full}

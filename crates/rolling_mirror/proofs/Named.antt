@@ -1,6 +1,6 @@
 -- Commands of different names in the front of a list, and those that are left of it.
 use Rattle.std.proofs.Common.{◌≡◌, refl, ◌∙◌, ℕ, zero, suc, ◌≤◌, ◌<◌, false, cond, true, leb, List, [], ◌∷◌, map, filter, length, get_or, take, arith}
-use Rattle.std.specs.List.{AllByRecursion, list_any}
+use Rattle.std.specs.List.{list_any}
 use Rattle.std.proofs.lemmas.List.{length-map}
 use Rattle.game_trait.specs.declared.command.Command.{Command}
 use Rattle.game_trait.specs.Keys.{same_name, NamesDiffer}

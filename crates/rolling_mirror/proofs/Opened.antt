@@ -1,12 +1,11 @@
 -- What is always true is true of a mirror that opens.
-use Rattle.std.proofs.Common.{◌≡◌, refl, ◌∙◌, ap, sym, subst, ℕ, zero, suc, ◌+◌, ◌≤◌, ◌<◌, List, [], ◌∷◌, length, map, get_or, replicate, arith}
+use Rattle.std.proofs.Common.{◌≡◌, refl, ◌∙◌, ap, sym, subst, ℕ, zero, suc, ◌≤◌, ◌<◌, List, [], ◌∷◌, length, map, get_or, replicate, arith}
 use Rattle.std.proofs.lemmas.List.{length-replicate}
 use Rattle.std.specs.List.{AllByRecursion}
 use Rattle.game_trait.specs.declared.command.Item.{Item}
-use Rattle.game_trait.specs.NameTree.{NamesOfTree}
 use Rattle.game_trait.specs.Run.{beats}
 use Rattle.sync_model.specs.Schedule.{Schedule, delays_of_each, ticks_of_first, copies_of_first}
-use Rattle.sync_model.specs.State.{MirrorState, opening_state}
+use Rattle.sync_model.specs.State.{opening_state}
 use Rattle.rolling_mirror.specs.Rolling.{RollState}
 use Rattle.rolling_mirror.specs.Kept.{IsRolling}
 

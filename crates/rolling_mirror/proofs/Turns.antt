@@ -1,5 +1,5 @@
 -- Steps of each copy of what is left of a mirror, beside the mirror that remembers all.
-use Rattle.std.proofs.Common.{◌≡◌, refl, ◌∙◌, ap, sym, subst, ℕ, zero, suc, ◌+◌, ◌-◌, ◌≤◌, ◌<◌, true, false, cond, List, [], ◌∷◌, ◌++◌, length, append_assoc, append-nil, length-append, arith}
+use Rattle.std.proofs.Common.{◌≡◌, refl, ◌∙◌, ap, sym, subst, ℕ, zero, suc, ◌+◌, ◌-◌, ◌≤◌, ◌<◌, true, false, List, [], ◌∷◌, ◌++◌, length, append_assoc, append-nil, length-append, arith}
 use Rattle.std.specs.Prelude.{if◌then◌else◌}
 use Rattle.game_trait.specs.declared.event.Event.{Event}
 use Rattle.game_trait.specs.declared.event.Event.TheVariants.{Tick, Step}
@@ -65,13 +65,13 @@ turn-window {W} rules r t u is within whole before h moved replies state told mi
     let many : length t.left.runs ≡ length whole.runs = sym (as-many rules t.base (next whole Tick) t.left h) ∙ copies in
     let all = steps-window rules (length t.left.runs) 0 t (omega arith) within (next whole Tick) h (omega arith) in (
       subst (IsWindowOf rules (turn whole)) (ap (λ (v : RollState W). left_after_all v (steps_of_each v)) is ∙ sym state)
-      (subst (λ (n : ℕ). IsWindowOf rules (after (next whole Tick) (steps_from 0 n)) (left_after_all t (steps_of_each t))) many all.0),
+          (subst (λ (n : ℕ). IsWindowOf rules (after (next whole Tick) (steps_from 0 n)) (left_after_all t (steps_of_each t))) many all.0),
       told
-      ∙ ap (λ (a : Ticked). ToTick a ∷ answers_left (ticked rules r) (steps_of_each (ticked rules r))) mine
-      ∙ ap (λ (v : RollState W). ToTick Moved ∷ answers_left v (steps_of_each v)) (sym is)
-      ∙ ap (λ (l : List Reply). ToTick Moved ∷ l) (sym all.1)
-      ∙ ap (λ (n : ℕ). ToTick Moved ∷ answers (next whole Tick) (steps_from 0 n)) many
-      ∙ ap (λ (a : Reply). a ∷ answers (next whole Tick) (steps_from 0 (length whole.runs))) (sym moved),
+          ∙ ap (λ (a : Ticked). ToTick a ∷ answers_left (ticked rules r) (steps_of_each (ticked rules r))) mine
+          ∙ ap (λ (v : RollState W). ToTick Moved ∷ answers_left v (steps_of_each v)) (sym is)
+          ∙ ap (λ (l : List Reply). ToTick Moved ∷ l) (sym all.1)
+          ∙ ap (λ (n : ℕ). ToTick Moved ∷ answers (next whole Tick) (steps_from 0 n)) many
+          ∙ ap (λ (a : Reply). a ∷ answers (next whole Tick) (steps_from 0 (length whole.runs))) (sym moved),
     )
 
 -- and one whose tick doesn't
@@ -88,13 +88,13 @@ over-window {W} rules r t u is within whole h before replies state told mine =
     let upto = subst (λ (v : RollState W). v.left.clock < v.left.length) (is ∙ still) within in
     let all = steps-window rules (length r.left.runs) 0 r (omega arith) upto whole h before in (
       subst (IsWindowOf rules (after whole (steps_from 0 (length whole.runs))))
-      (ap (λ (v : RollState W). left_after_all v (steps_of_each v)) (sym still) ∙ sym state)
-      (subst (λ (n : ℕ). IsWindowOf rules (after whole (steps_from 0 n)) (left_after_all r (steps_of_each r))) many all.0),
+          (ap (λ (v : RollState W). left_after_all v (steps_of_each v)) (sym still) ∙ sym state)
+          (subst (λ (n : ℕ). IsWindowOf rules (after whole (steps_from 0 n)) (left_after_all r (steps_of_each r))) many all.0),
       told
-      ∙ ap (λ (a : Ticked). ToTick a ∷ answers_left (ticked rules r) (steps_of_each (ticked rules r))) mine
-      ∙ ap (λ (v : RollState W). ToTick Over ∷ answers_left v (steps_of_each v)) still
-      ∙ ap (λ (l : List Reply). ToTick Over ∷ l) (sym all.1)
-      ∙ ap (λ (n : ℕ). ToTick Over ∷ answers whole (steps_from 0 n)) many,
+          ∙ ap (λ (a : Ticked). ToTick a ∷ answers_left (ticked rules r) (steps_of_each (ticked rules r))) mine
+          ∙ ap (λ (v : RollState W). ToTick Over ∷ answers_left v (steps_of_each v)) still
+          ∙ ap (λ (l : List Reply). ToTick Over ∷ l) (sym all.1)
+          ∙ ap (λ (n : ℕ). ToTick Over ∷ answers whole (steps_from 0 n)) many,
     )
 
 -- ---- on the way

@@ -1,28 +1,25 @@
 -- What is left of a mirror, beside the mirror that remembers all.
-use Rattle.std.proofs.Common.{◌≡◌, refl, ◌∙◌, ap, sym, subst, ℕ, ◌+◌, ◌-◌, ◌≤◌, ◌<◌, Bool, true, false, cond, ◌||◌, not, leb, ltb}
-use Rattle.std.proofs.Common.{List, [], ◌∷◌, ◌++◌, map, filter, length, get_or, drop, replicate, arith}
-use Rattle.std.specs.List.{list_any}
+use Rattle.std.proofs.Common.{◌≡◌, refl, ◌∙◌, ap, sym, subst, ℕ, ◌+◌, ◌≤◌, ◌<◌, true, false}
+use Rattle.std.proofs.Common.{List, [], ◌∷◌, ◌++◌, map, length, arith}
 use Rattle.std.proofs.lemmas.Bool.Decides.{nat_tests}
-use Rattle.game_trait.specs.declared.command.Command.{Command}
 use Rattle.game_trait.specs.declared.command.Item.{Item}
 use Rattle.game_trait.specs.declared.event.Event.{Event}
-use Rattle.game_trait.specs.declared.event.Event.TheVariants.{Tick, Arrive, Step, Restagger}
-use Rattle.game_trait.specs.declared.event.Reply.TheVariants.{Tick as ToTick, Step as ToStep, Restaggered}
-use Rattle.game_trait.specs.declared.event.Ticked.{Ticked}
+use Rattle.game_trait.specs.declared.event.Event.TheVariants.{Tick, Step, Restagger}
+use Rattle.game_trait.specs.declared.event.Reply.TheVariants.{Tick as ToTick, Step as ToStep}
 use Rattle.game_trait.specs.declared.event.Ticked.TheVariants.{Moved}
 use Rattle.game_trait.specs.declared.event.Stepped.{Stepped}
 use Rattle.game_trait.specs.declared.event.Stepped.TheVariants.{Ran, Idle}
 use Rattle.game_trait.specs.Game.{Rules}
-use Rattle.game_trait.specs.Later.{AreTimeBlind, later, later_item, later_event, later_reply}
+use Rattle.game_trait.specs.Later.{AreTimeBlind, later_item, later_event, later_reply}
 use Rattle.game_trait.specs.Run.{beats}
 use Rattle.game_trait.specs.Ordered.{ordered}
 use Rattle.game_trait.proofs.OrderedParts.{beats-ordered, ordered-join}
 use Rattle.sync_model.specs.Lists.{last_of}
-use Rattle.sync_model.specs.State.{MirrorState, opening_state, copy_clock, last_clock}
+use Rattle.sync_model.specs.State.{MirrorState, opening_state, last_clock}
 use Rattle.sync_model.specs.Settle.{settle, repaired}
 use Rattle.sync_model.specs.Staggered.{IsTrailing}
 use Rattle.sync_model.specs.Change.{next, said, is_over, is_idle, proposed_by_step}
-use Rattle.sync_model.specs.Forgetting.{whole_run, IsLeft, IsRemembered, forgotten}
+use Rattle.sync_model.specs.Forgetting.{whole_run, IsLeft, IsRemembered}
 use Rattle.sync_model.proofs.Lists.{last-map}
 use Rattle.sync_model.proofs.Forgetting.{event-left-over, as-many, last-whole, ordered-left}
 use Rattle.sync_model.proofs.Forgotten.{whole-yet, forgotten-left}
@@ -110,7 +107,7 @@ pub event-window :
 event-window rules r t e is within whole h before known =
     let both = event-left-over rules r.base whole r.left e h before within known in (
       subst (IsWindowOf rules (next whole (later_event r.base e))) (sym is)
-      (left-bare rules r.base (next whole (later_event r.base e)) (next r.left e) both.0),
+          (left-bare rules r.base (next whole (later_event r.base e)) (next r.left e) both.0),
       both.1,
     )
 

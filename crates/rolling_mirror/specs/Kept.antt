@@ -1,5 +1,5 @@
 -- What is always true of a mirror of a session without an end.
-use Rattle.std.specs.Prelude.{◌≡◌, ℕ, ◌+◌, ◌^◌, ◌≤◌, ◌<◌, List, length, map}
+use Rattle.std.specs.Prelude.{◌≡◌, ◌+◌, ◌^◌, ◌≤◌, ◌<◌, List, length, map}
 use Rattle.std.specs.List.{AllByRecursion}
 use Rattle.game_trait.specs.Run.{beats}
 use Rattle.game_trait.specs.CommandList.{name_of}

@@ -1,5 +1,3 @@
-use Rattle.std.proofs.Common.{ap, sym}
-use Rattle.game_trait.specs.NameTree.{has_name, NamesOfTree}
 use Rattle.rolling_mirror.proofs.Named.{fresh-at}
 use Rattle.rolling_mirror.proofs.names.rename.Goals as goal
 

@@ -1,4 +1,4 @@
-use Rattle.std.proofs.Common.{◌≡◌, refl, ◌∙◌, ap, sym, ◌+◌, arith}
+use Rattle.std.proofs.Common.{refl, ◌∙◌, ap, sym, ◌+◌}
 use Rattle.game_trait.specs.declared.command.Command.{Command}
 use Rattle.rolling_mirror.specs.Rolling.{in_window}
 use Rattle.rolling_mirror.proofs.Arrivals.{repeat-named, named-earlier, is-repeat, is-late, is-far, is-full, is-in, taken-state, arrival-window}

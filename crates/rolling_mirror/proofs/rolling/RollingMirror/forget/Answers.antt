@@ -1,4 +1,4 @@
-use Rattle.std.proofs.Common.{◌≡◌, refl}
+use Rattle.std.proofs.Common.{refl}
 use Rattle.rolling_mirror.proofs.Kept.{trailing-of, behind-of, last-behind, renamed-room, rolling-rolled}
 use Rattle.rolling_mirror.proofs.Windows.{rolled-window}
 use Rattle.rolling_mirror.proofs.rolling.RollingMirror.forget.Goals as goal

@@ -1,4 +1,4 @@
-use Rattle.std.proofs.Common.{◌≡◌, ◌∙◌, ap, sym, subst, ◌<◌, length, arith}
+use Rattle.std.proofs.Common.{◌≡◌, ◌∙◌, ap, sym, subst, length, arith}
 use Rattle.sync_model.specs.Schedule.{Schedule, ticks_of_first, copies_of_first, delays_of_each}
 use Rattle.sync_model.specs.State.{opening_state}
 use Rattle.rolling_mirror.specs.Rolling.{IsWindowOf}
