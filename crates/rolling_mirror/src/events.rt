@@ -132,7 +132,6 @@ impl<G: TimeBlind> RollingMirror<G> {
             → IsWindowOf G.rules whole self.old
             → IsWindowOf G.rules (next whole (Event.Restagger plan)) self.new }
     {
-        let _ = &self.stack;
         self.plan = plan;
     }
 

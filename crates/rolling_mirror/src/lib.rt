@@ -5,6 +5,7 @@
 mod arrival;
 mod events;
 mod forget;
+pub mod laws;
 mod names;
 mod rolling;
 

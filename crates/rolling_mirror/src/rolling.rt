@@ -146,7 +146,6 @@ impl<G: TimeBlind> RollingMirror<G> {
             → IsWindowOf G.rules whole self.now
             → last_of [] whole.runs ≡ ordered whole.accepted 0 (last_clock_of whole.runs) }
     {
-        let _ = &self.names;
         self.stack.always();
     }
 
@@ -162,7 +161,6 @@ impl<G: TimeBlind> RollingMirror<G> {
     pub fn base(&self) -> Tick
         ensures { result ≡ self.now.base }
     {
-        let _ = &self.names;
         self.base
     }
 
@@ -173,7 +171,6 @@ impl<G: TimeBlind> RollingMirror<G> {
             → IsWindowOf G.rules whole self.now
             → result ≡ whole.clock }
     {
-        let _ = &self.names;
         self.base + self.clock
     }
 
@@ -203,7 +200,6 @@ impl<G: TimeBlind> RollingMirror<G> {
     pub fn spare(&self) -> u32
         ensures { result ≡ self.now.spare }
     {
-        let _ = &self.names;
         self.stack.spare()
     }
 
@@ -220,7 +216,6 @@ impl<G: TimeBlind> RollingMirror<G> {
             → result
             ≡ world_of G.rules whole.opening (slice_index_or whole.runs copy []) }
     {
-        let _ = &self.names;
         self.stack.made_world(copy)
     }
 
