@@ -28,10 +28,10 @@ pub record RollState (W : Type 0) : Type 0 where
   pub left : MirrorState W
   -- for how many more commands there is room
   pub spare : ℕ
-  -- how many ticks the last copy runs in the window before a tick forgets
+  -- how many ticks of the window the last copy runs before a tick forgets
   pub keep : ℕ
 
--- the mirror that remembers the whole session, and of which this is what is left
+-- a mirror remembers the whole session, and this is what is left of it
 abbrev pub IsWindowOf : {W : Type 0} → Rules W → MirrorState W → RollState W → Type 0
 IsWindowOf rules whole r = IsLeft rules r.base whole r.left
 

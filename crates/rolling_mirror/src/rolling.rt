@@ -39,7 +39,7 @@ pub struct RollingMirror<G: TimeBlind> {
     pub(crate) names: NameTree,
     // the session's tick at which the window begins
     pub(crate) base: Tick,
-    // how many ticks behind the base the last copy stands where a tick forgets
+    // how many ticks of the window the last copy runs before a tick forgets
     pub(crate) keep: Tick,
 }
 
@@ -94,10 +94,10 @@ impl<G: TimeBlind> Model for RollingMirror<G> {
 }
 
 impl<G: TimeBlind> RollingMirror<G> {
-    /// A mirror before any event. It has one to eight copies and a window as its plans are of copies
-    /// and ticks, the first of which is in force, and remembers at most `room` commands at once, at
-    /// most 1,048,576. A tick forgets where the last copy's clock stands `keep` ticks or more behind
-    /// the base, so that what that costs is spread over so many. On `NoMemory` nothing is created.
+    /// A mirror before any event. Its plans, the first of which is in force, are of as many copies, and
+    /// of as many ticks, which are its window's. It remembers at most `room` commands at once, at most
+    /// 1,048,576. A tick forgets once the last copy has run `keep` ticks of the window, so that what
+    /// that costs is spread over so many. On `NoMemory` nothing is created.
     pub fn new(
         alloc: Global,
         opening: &G,
