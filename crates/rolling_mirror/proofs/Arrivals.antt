@@ -3,7 +3,7 @@ use Rattle.std.proofs.Common.{◌≡◌, refl, ◌∙◌, ap, sym, subst, ℕ, �
 use Rattle.std.proofs.Common.{List, [], ◌∷◌, ◌++◌, map, filter, arith}
 use Rattle.std.specs.Prelude.{IfSome}
 use Rattle.std.specs.List.{list_any}
-use Rattle.std.proofs.lemmas.Bool.{lt-ltb, le-ltb}
+use Rattle.std.proofs.lemmas.Bool.{lt-ltb, le-ltb, ltb-false}
 use Rattle.std.proofs.lemmas.Bool.Decides.{nat_tests}
 use Rattle.game_trait.specs.declared.command.Command.{Command}
 use Rattle.game_trait.specs.declared.event.Event.TheVariants.{Arrive}
@@ -18,7 +18,7 @@ use Rattle.game_trait.specs.Later.{later, earlier, later_event, later_reply}
 use Rattle.sync_model.specs.State.{MirrorState, last_clock}
 use Rattle.sync_model.specs.Settle.{settle, repaired}
 use Rattle.sync_model.specs.Change.{next, said, is_repeat, is_late, proposed_by_arrival}
-use Rattle.sync_model.proofs.Cases.{away, taken, said_taken}
+use Rattle.sync_model.proofs.Cases.{away, taken, said_taken, arrive-cases}
 use Rattle.rolling_mirror.specs.declared.arrival.Arrival.{Arrival}
 use Rattle.rolling_mirror.specs.declared.arrival.Arrival.TheVariants.{Taken, Repeat, Late, Far, Full}
 use Rattle.rolling_mirror.specs.Rolling.{RollState, IsWindowOf, without_lists, left_after, last_tick, window_end, in_window, said_to_arrival, arrived, as_arrived}
@@ -243,6 +243,31 @@ module _ {W : Type 0} (rules : Rules W) (r : RollState W) (x : Command) (within 
   arrival-window t a answer state =
       subst (λ (u : RollState W). IfSome (as_arrived a) (λ answer. IsWindowOf rules (next whole (Arrive x)) u × (said whole (Arrive x) ≡ ToArrive answer))) (sym state)
       (subst Holds (sym answer) (said-cases r x Holds repeat-window late-window tt tt taken-window))
+
+-- a command that the last copy has run past changes no copy of either, also where its name was forgotten
+module _ {W : Type 0} (rules : Rules W) (r : RollState W) (x : Command) (whole : MirrorState W) (h : IsWindowOf rules whole r)
+    (past : x.time < last_tick r) where
+  passed : IsWindowOf rules (next whole (Arrive x)) r
+  passed =
+      arrive-cases whole x (λ t a. IsWindowOf rules t r) (λ e. h)
+      (λ e l. record {
+        some_copy = h.some_copy;
+        opening = h.opening;
+        plans = h.plans;
+        plan = h.plan;
+        clock = h.clock;
+        accepted = h.accepted;
+        runs = h.runs;
+      })
+      (λ e l. absurd (let at = last-clocks rules r.base whole r.left h in let due = ltb-false x.time (last_clock whole.runs) l in omega arith))
+
+  pub passed-window :
+      (t : RollState W) (a : Arrival) → a ≡ said_to_arrival r x → t ≡ arrived r x a → IsWindowOf rules (next whole (Arrive x)) t
+  passed-window t a answer state =
+      subst (IsWindowOf rules (next whole (Arrive x))) (sym state)
+      (subst (λ (b : Arrival). IsWindowOf rules (next whole (Arrive x)) (arrived r x b)) (sym answer)
+      (said-cases r x (λ b. IsWindowOf rules (next whole (Arrive x)) (arrived r x b)) (λ e. passed) (λ e l. passed) passed passed
+      (λ e l. absurd (let due = ltb-false x.time (last_tick r) l in omega arith))))
 
 -- the state after a command that was accepted
 pub taken-state :

@@ -7,7 +7,7 @@ ghost use Rattle.sync_model.specs.Settle.{repaired};
 ghost use Rattle.sync_model.specs.Change.{next, said, after, answers, is_repeat, proposed_by_arrival};
 ghost use Rattle.sync_model.specs.Turns.{turn, turn_events, steps_from};
 ghost use Rattle.sync_model.specs.Forgetting.{IsRemembered};
-ghost use Rattle.rolling_mirror.specs.Rolling.{IsWindowOf, left_after, is_held, ticked, said_to_tick};
+ghost use Rattle.rolling_mirror.specs.Rolling.{IsWindowOf, left_after, last_tick, is_held, ticked, said_to_tick};
 ghost use Rattle.rolling_mirror.specs.Rolling.{said_to_arrival, arrived, as_arrived};
 ghost use Rattle.rolling_mirror.specs.Rolling.{turned, said_to_turn};
 
@@ -72,8 +72,9 @@ impl<G: TimeBlind> RollingMirror<G> {
 
     /// A command arrives, its time a tick of the session. It is accepted where its name isn't
     /// remembered, the last copy hasn't run its tick, the window reaches it and there is room: then the
-    /// copies that had run past its time are repaired. Else nothing changes. A command whose name was
-    /// forgotten is older than the last copy, unless its mirror gave that name to a second command.
+    /// copies that had run past its time are repaired. Else nothing changes. A command that comes again
+    /// after its name was forgotten is late, so it changes no copy either; only a mirror that gives a
+    /// name to two commands has the second one taken.
     pub fn arrive(&mut self, x: &Command) -> Arrival
         ensures answer { result ≡ said_to_arrival self.old x.now }
         ensures state { self.new ≡ arrived self.old x.now result }
@@ -84,6 +85,10 @@ impl<G: TimeBlind> RollingMirror<G> {
             → IfSome (as_arrived result)
             (λ answer. IsWindowOf G.rules (next whole (Event.Arrive x.now)) self.new
             × (said whole (Event.Arrive x.now) ≡ Reply.Arrive answer)) }
+        ensures passed { (whole : MirrorState G)
+            → IsWindowOf G.rules whole self.old
+            → x.now.time < last_tick self.old
+            → IsWindowOf G.rules (next whole (Event.Arrive x.now)) self.new }
     {
         if self.names.has(x.from, x.number) {
             return Arrival::Repeat;
