@@ -8,6 +8,8 @@ mod forget;
 pub mod laws;
 mod names;
 mod rolling;
+#[cfg(test)]
+mod tests;
 
 pub use arrival::Arrival;
 pub use rolling::RollingMirror;
