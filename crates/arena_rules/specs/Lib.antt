@@ -7,3 +7,4 @@ pub mod Beat
 pub mod World
 pub mod Block
 pub mod Worked
+pub mod Blind

@@ -6,3 +6,4 @@ pub mod World
 pub mod Block
 pub mod Kept
 pub mod Worked
+pub mod Blind

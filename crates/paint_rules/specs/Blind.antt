@@ -1,0 +1,10 @@
+-- No rule looks at a command's time.
+use Rattle.std.proofs.Common.{refl}
+use Rattle.game_trait.specs.Later.{AreTimeBlind}
+use Rattle.paint_rules.specs.Command.{applied}
+use Rattle.paint_rules.specs.World.{paint_rules}
+
+-- the acts are those of a player, and the rest has no command
+pub time-blind : AreTimeBlind paint_rules
+unfolding applied
+time-blind w x t = refl
