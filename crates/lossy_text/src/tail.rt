@@ -1,7 +1,6 @@
 //! The lines behind the match of a lossy text.
 
-ghost use Rattle.std.specs.Prelude.{◌≡◌, ◌-◌, OnOk};
-ghost use Rattle.tss_io.specs.Forms.{number_in};
+ghost use Rattle.std.specs.Prelude.{◌≡◌, OnOk};
 ghost use Rattle.tss_io.specs.Kinds.{step};
 ghost use Rattle.tss_io.specs.Lines.{words_of};
 ghost use Rattle.tss_io.specs.Machines.{take_words, take_by};
@@ -13,7 +12,7 @@ use crate::net_line::NetLine;
 use game_trait::MirrorId;
 use game_trait::limits::{GREATEST_NET_NUMBER, MOST_NET_LINES};
 use match_data::Match;
-use match_file::BehindMatch;
+use match_file::{BehindMatch, mirror_named};
 use std::alloc::Global;
 use tss_base::{NoMemory, Seq};
 use tss_io::words::{front, last, number};
@@ -59,13 +58,6 @@ fn is_done(stage: Stage) -> bool
     matches!(stage, Stage::Done)
 }
 
-// The mirror that the word names.
-fn mirror_of(game: &Match, word: &[u8]) -> Result<MirrorId, Cause>
-    ensures { Answers (λ x. x) result (number_in 0 (game.now.mirrors - 1) word.now) }
-{
-    Ok(number(0, u32::from(game.mirrors.saturating_sub(1)), word)? as u8)
-}
-
 impl Tail {
     // Whether a line of the net is due.
     fn is_event_due(&self) -> bool
@@ -109,7 +101,7 @@ impl Tail {
         check(self.is_event_due(), Cause::Shape)?;
         let (from, words) = front(words)?;
         let name = last(words)?;
-        let from = mirror_of(game, from)?;
+        let from = mirror_named(game, from)?;
         let number = number(0, GREATEST_NET_NUMBER, name)?;
         check(game.commands.has(from, number), Cause::Name)?;
         self.push(NetLine::Issue { from, number })?;
@@ -129,8 +121,8 @@ impl Tail {
         let (from, words) = front(words)?;
         let (to, words) = front(words)?;
         let count = last(words)?;
-        let from = mirror_of(game, from)?;
-        let to = mirror_of(game, to)?;
+        let from = mirror_named(game, from)?;
+        let to = mirror_named(game, to)?;
         let count = number(0, GREATEST_NET_NUMBER, count)?;
         check(from != to, Cause::Number)?;
         Ok((from, to, count))
@@ -161,8 +153,8 @@ impl Tail {
         check(self.is_event_due(), Cause::Shape)?;
         let (from, words) = front(words)?;
         let to = last(words)?;
-        let from = mirror_of(game, from)?;
-        let to = mirror_of(game, to)?;
+        let from = mirror_named(game, from)?;
+        let to = mirror_named(game, to)?;
         check(from != to, Cause::Number)?;
         self.push(NetLine::Ack { from, to })?;
         Ok(())
@@ -182,7 +174,7 @@ impl Tail {
             (step (turn_kind game.now) self.old (words_of words.now)) }
     {
         check(self.is_event_due(), Cause::Shape)?;
-        let mirror = mirror_of(game, last(words)?)?;
+        let mirror = mirror_named(game, last(words)?)?;
         self.push(NetLine::Turn { mirror })?;
         Ok(())
     }

@@ -1,29 +1,18 @@
 //! What is printed of the mirrors. They are only looked at here.
 
 ghost use Rattle.std.specs.Prelude.{◌≡◌, ◌++◌, ◌<◌, length, take, OnOk, OnErr};
-ghost use Rattle.sync_model.specs.History.{repaired_in};
 ghost use Rattle.sync_model.specs.Turns.{IsDrained};
 ghost use Rattle.report_text.specs.Mirrors.{run_line};
 ghost use Rattle.match_data.specs.declared.script_line.ScriptLine.TheVariants.{Turn};
 ghost use Rattle.match_hall.specs.Stops.{IsFrontPut};
 ghost use Rattle.match_hall.specs.Report.{showing, run_of, copy_block, copy_blocks, replies_text, line_of_mirror};
 
-use game_trait::{Arrived, Game, MirrorId, Reply, Stepped};
+use game_trait::{Game, MirrorId, Reply};
 use match_setup::{Roster, Shown};
 use mirror_core::{DeferredMirror, MirrorWith, Mirrored, RefreshPolicy};
 use report_text::{copy_block, line_end, mirror_line, repair_line, run_head, run_mark};
+use sync_model::repaired_in;
 use tss_base::NoMemory;
-
-// How many copies an answer says were repaired.
-fn repaired_in(reply: Reply) -> u8
-    ensures { result ≡ repaired_in reply }
-{
-    match reply {
-        Reply::Arrive(Arrived::Taken { repaired }) => repaired,
-        Reply::Step(Stepped::Ran { repaired }) => repaired,
-        _ => 0,
-    }
-}
 
 // Appends the line of each repair that answers tell of. On `NoMemory` some of it may have been
 // appended.
@@ -32,7 +21,7 @@ fn push_each_repair(out: &mut Vec<u8>, at: MirrorId, replies: &[Reply]) -> Resul
     ensures ok { OnOk result (out.new.items ≡ out.old.items ++ replies_text (Turn at) replies.now) }
     ensures front { take (length out.old.items) out.new.items ≡ out.old.items }
 {
-    for &reply in replies {
+    for reply in replies {
         repair_line(out, at, repaired_in(reply))?;
     }
     Ok(())

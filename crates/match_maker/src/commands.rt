@@ -10,8 +10,8 @@ use game_trait::{Act, Command, CommandList, MirrorId};
 use std::alloc::Global;
 use tss_base::NoMemory;
 
-// How many commands there are.
-const COMMANDS: u32 = 4096;
+/// How many commands a match that is made has.
+pub const COMMANDS: u32 = 4096;
 
 #[tactic(auto, unfolding(crate::specs::Generator::act_of))]
 fn act_of(drawn: u32) -> Act

@@ -8,4 +8,5 @@ mod lags;
 mod make;
 mod script;
 
+pub use commands::COMMANDS;
 pub use make::make_match;

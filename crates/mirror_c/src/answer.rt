@@ -2,7 +2,6 @@
 
 ghost use Rattle.std.specs.Prelude.{◌≡◌};
 ghost use Rattle.game_trait.specs.declared.event.Reply.TheVariants.{Tick as ToTick, Arrive as ToArrive, Step as ToStep};
-ghost use Rattle.sync_model.specs.History.{repaired_in};
 ghost use Rattle.mirror_c.specs.Answers.{told, told_item, told_command, told_turned, told_event, refused};
 
 use crate::codes::{
@@ -143,17 +142,6 @@ pub fn told(reply: Reply) -> Answer
         Reply::Arrive(arrived) => told_arrival(arrived),
         Reply::Step(stepped) => told_step(stepped),
         Reply::Restaggered => bare(RESTAGGERED),
-    }
-}
-
-/// How many copies a reply says were repaired.
-pub fn repaired_in(reply: Reply) -> u32
-    ensures { result ≡ repaired_in reply }
-{
-    match reply {
-        Reply::Arrive(Arrived::Taken { repaired }) => u32::from(repaired),
-        Reply::Step(Stepped::Ran { repaired }) => u32::from(repaired),
-        _ => 0,
     }
 }
 

@@ -4,9 +4,10 @@ ghost use Rattle.std.specs.Prelude.{◌≡◌};
 ghost use Rattle.mirror_c.specs.Answers.{told_turn};
 ghost use Rattle.sync_model.specs.Host.{most_repaired};
 
-use crate::answer::{Answer, bare, repaired_in, told};
+use crate::answer::{Answer, bare, told};
 use crate::codes::OVER;
 use game_trait::Reply;
+use sync_model::repaired_in;
 
 /// The answer to a turn, to which the mirror replied so: its tick's kind, and the most copies that
 /// one of its steps repaired.
@@ -29,7 +30,7 @@ fn most_repaired(replies: &[Reply]) -> u32
 {
     let mut most = 0;
     for reply in replies {
-        most = most.max(repaired_in(*reply));
+        most = most.max(u32::from(repaired_in(reply)));
     }
     most
 }

@@ -14,14 +14,11 @@ use arena_rules::Arena;
 use game_trait::{Game, MirrorId, execute_in_order};
 use match_data::Match;
 use match_hall::{Hall, Played};
-use match_maker::make_match;
+use match_maker::{COMMANDS, make_match};
 use report_text::{done_line, same_line, soak_line};
 use std::alloc::Global;
 use tss_base::{NoMemory, Seq};
 use watch_board::Board;
-
-// How many commands the match of a number has.
-const COMMANDS: u32 = 4096;
 
 // Plays and drains the match's mirrors, without watchers.
 fn play(alloc: Global, opening: &Arena, m: &Match) -> Result<Hall<Arena>, NoMemory>

@@ -3,7 +3,9 @@
 
 pub mod laws;
 pub mod pinned;
+mod repaired;
 mod turned;
 pub mod worked;
 
+pub use repaired::repaired_in;
 pub use turned::Turned;

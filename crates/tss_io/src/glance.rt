@@ -1,15 +1,14 @@
 //! Fast paths for words that are short, and for lines that are read in one walk.
 
 ghost use Rattle.std.specs.Prelude.{◌≡◌, ◌<◌, ◌≤◌, ◌++◌, ◌∷◌, length, bytes_eq, position, decimal, IfOk, IfSome, Ok};
-ghost use Rattle.std.specs.List.{list_all};
 ghost use Rattle.tss_io.specs.Lines.{lines_of, words_of};
 ghost use Rattle.tss_io.specs.Reading.{Answers};
-ghost use Rattle.tss_io.specs.Forms.{front_at, last_at, number_in, is_word_byte};
+ghost use Rattle.tss_io.specs.Forms.{front_at, last_at, number_in};
 ghost use Rattle.tss_io.specs.Kinds.{line_at};
 ghost use Rattle.tss_io.specs.Glance.{is_gap, IsFront};
 
 use crate::cause::Cause;
-use crate::words::{front, last, next_line};
+use crate::words::{fits_words, front, last, next_line};
 
 /// The first line of the text, and the text behind its newline. Kept out of line, as the first word
 /// is: inlined, their byte loops make the optimizer give up on the caller's loops.
@@ -108,14 +107,6 @@ pub fn front_of(words: &[u8]) -> Result<(&[u8], &[u8]), Cause>
         return Ok(parts);
     }
     keyword_of(words)
-}
-
-// Whether each byte may stand in a word.
-#[inline(always)]
-fn fits_words(bytes: &[u8]) -> bool
-    ensures { result ≡ list_all is_word_byte bytes.now }
-{
-    bytes.iter().all(|b| *b >= 33 && *b <= 126)
 }
 
 /// The word, where it is the only one. No space stands in a word, so one look at each byte tells.

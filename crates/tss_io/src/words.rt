@@ -58,7 +58,8 @@ pub fn next_line(text: &[u8]) -> Result<(&[u8], &[u8]), Cause>
 }
 
 // Whether each byte may stand in a word.
-fn fits_words(bytes: &[u8]) -> bool
+#[inline(always)]
+pub(crate) fn fits_words(bytes: &[u8]) -> bool
     ensures { result ≡ list_all is_word_byte bytes.now }
 {
     bytes.iter().all(|b| *b >= 33 && *b <= 126)

@@ -1,25 +1,14 @@
 //! Watchers that count.
 
 ghost use Rattle.std.specs.Prelude.{◌≡◌, cond};
-ghost use Rattle.sync_model.specs.History.{repaired_in};
 ghost use Rattle.watch_board.specs.Watchers.{says_late, repair_count, late_count};
 
 use crate::lines::push_watch;
 use crate::watcher::{Stay, Watcher};
-use game_trait::{Arrived, Note, Reply, Stepped};
+use game_trait::{Arrived, Note, Reply};
 use itoa::Buffer;
+use sync_model::repaired_in;
 use tss_base::NoMemory;
-
-/// How many copies an answer says were repaired.
-pub fn repaired(reply: &Reply) -> u8
-    ensures { result ≡ repaired_in reply.now }
-{
-    match *reply {
-        Reply::Arrive(Arrived::Taken { repaired }) => repaired,
-        Reply::Step(Stepped::Ran { repaired }) => repaired,
-        _ => 0,
-    }
-}
 
 // How many commands an answer says were late: one or none.
 fn late(reply: &Reply) -> u8
@@ -51,7 +40,9 @@ impl Watcher for RepairCount {
     ghost behaviour = { λ watcher. repair_count watcher.count };
 
     fn take(&mut self, note: &Note) -> Stay {
-        self.count = self.count.saturating_add(u64::from(repaired(&note.reply)));
+        self.count = self
+            .count
+            .saturating_add(u64::from(repaired_in(&note.reply)));
         Stay::Stay
     }
 

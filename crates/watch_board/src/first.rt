@@ -3,7 +3,6 @@
 ghost use Rattle.std.specs.Prelude.{◌≡◌, None};
 ghost use Rattle.watch_board.specs.Watchers.{is_repair, first_repair};
 
-use crate::counts::repaired;
 use crate::lines::push_watch;
 use crate::watcher::{Stay, Watcher};
 use game_trait::{MirrorId, Note};
@@ -30,7 +29,7 @@ impl Watcher for FirstRepair {
     ghost behaviour = { λ watcher. first_repair watcher.mirror };
 
     fn take(&mut self, note: &Note) -> Stay {
-        if repaired(&note.reply) == 0 {
+        if repaired_in(&note.reply) == 0 {
             return Stay::Stay;
         }
         if self.mirror.is_none() {
