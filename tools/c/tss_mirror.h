@@ -62,6 +62,7 @@ typedef struct { uint32_t what, which, time, from, number; } tss_history_item;
  * of 1 to 8,192 ticks; room for so many arrivals that are taken or turned away, and so many changes
  * of the plan, each at most 1,048,576. An engine that was there is freed. */
 tss_answer tss_new(tss_handle *, const uint32_t *delays, size_t count, size_t copies, uint32_t length, uint32_t room, uint32_t restaggers);
+/* Frees the engine, where there is one. */
 void tss_free(tss_handle *);
 
 /* The clock goes on by a tick; a command arrives; a copy runs a tick, where it may; another plan. */
@@ -73,6 +74,7 @@ tss_answer tss_restagger(tss_handle *, uint8_t plan);
  * one of the steps repaired. */
 tss_answer tss_turn(tss_handle *);
 
+/* The clock, the clock of a copy, and how many items a copy has run: its commands and its ticks' ends. */
 tss_answer tss_clock(tss_handle *);
 tss_answer tss_copy_clock(tss_handle *, uint8_t copy);
 tss_answer tss_run_len(tss_handle *, uint8_t copy);

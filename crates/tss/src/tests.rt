@@ -1,5 +1,5 @@
-//! The tests of every crate's public calls. They stand in the top crate, since a crate's tests are
-//! proved together with the whole crate once more.
+//! Tests of the crates' public calls. They stand in the top crate, since a crate's tests are proved
+//! together with the whole crate once more.
 
 mod arenas;
 mod calls;
