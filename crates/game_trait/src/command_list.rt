@@ -77,21 +77,6 @@ impl CommandList {
         Ok(false)
     }
 
-    /// Appends a command, whose mirror and number none has yet. On want of memory the list is
-    /// unchanged.
-    pub fn push(&mut self, x: &Command) -> Result<(), AllocError>
-        requires new_name { has_command self.old.items x.now.from x.now.number ≡ false }
-        ensures ok { OnOk result
-            (self.new ≡ record self.old { items = self.old.items ++ x.now ∷ [] }) }
-        ensures err { OnErr result (self.new ≡ self.old) }
-    {
-        self.commands.reserve(1)?;
-        self.names.reserve()?;
-        self.names.push_reserved(x.from, x.number);
-        self.commands.push_reserved(*x);
-        Ok(())
-    }
-
     /// Appends a command, whose mirror and number none has yet, where there is room. It takes no
     /// memory.
     pub fn push_reserved(&mut self, x: &Command)
