@@ -5,18 +5,11 @@ use Rattle.std.proofs.lemmas.List.{length-map, length-drop, get_or-drop, get_or-
 use Rattle.std.proofs.lemmas.List.Edits.{drop-paste, paste_more}
 use Rattle.std.specs.List.{AllByRecursion}
 use Rattle.game_trait.specs.declared.command.Item.{Item}
-use Rattle.game_trait.specs.declared.command.Item.TheVariants.{Cmd, Beat}
 use Rattle.game_trait.specs.Later.{earlier_item}
+use Rattle.game_trait.proofs.Later.{beats-earlier}
 use Rattle.game_trait.specs.Run.{beats}
 use Rattle.executed_list.specs.Segments.{OneList, StartsAtMost, Falls, end_of, last_end, clocks_at, run_forgotten, IsOneList}
 use Rattle.executed_list.proofs.Lists.{clock-passed, get-any, end-within, clock-at}
-
--- items that are told from later on have as many beats
-beats-earlier : (t : ℕ) (run : List Item) → beats (map (earlier_item t) run) ≡ beats run
-unfolding beats earlier_item
-beats-earlier t [] = refl
-beats-earlier t (Cmd x ∷ run) = beats-earlier t run
-beats-earlier t (Beat ∷ run) = ap (λ (k : ℕ). k + 1) (beats-earlier t run)
 
 -- the last end is the least
 least :

@@ -1,5 +1,5 @@
 -- Commands with different names, and one more that is found by its name.
-use Rattle.std.proofs.Common.{◌≡◌, refl, ap, sym, subst, ℕ, zero, suc, Bool, true, false, cond, not, ◌||◌, List, [], ◌∷◌, ◌++◌, map, get_or, Some, None, arith}
+use Rattle.std.proofs.Common.{◌≡◌, refl, ap, sym, subst, ℕ, zero, suc, ◌<◌, Bool, true, false, cond, not, ◌||◌, List, [], ◌∷◌, ◌++◌, map, length, get_or, take, Some, None, arith}
 use Rattle.std.specs.Prelude.{find}
 use Rattle.std.specs.List.{list_any, slice_get, Contains, AllByRecursion}
 use Rattle.std.proofs.lemmas.List.Elements.{Contains-get_or, Contains-append_right}
@@ -11,7 +11,7 @@ use Rattle.game_trait.specs.Keys.{is_named, same_name, NamesDiffer}
 use Rattle.game_trait.specs.CommandList.{command_named, has_command, name_of}
 use Rattle.game_trait.specs.NameTree.{has_name}
 use Rattle.game_trait.proofs.KeyOrder.{same_name-sym}
-use Rattle.game_trait.proofs.Lists.{all-push, all-first}
+use Rattle.game_trait.proofs.Lists.{all-push, all-first, all-at}
 
 -- a command is found exactly where there is one
 pub found-has : (commands : List Command) (from number : ℕ) → is_some (command_named commands from number) ≡ has_command commands from number
@@ -90,6 +90,17 @@ NamesDiffer-push (y ∷ ys) x differ new =
 pub names-push : (xs : List Command) (x : Command) → NamesDiffer xs → has_command xs x.from x.number ≡ false → NamesDiffer (xs ++ x ∷ [])
 unfolding same_name
 names-push xs x differ new = NamesDiffer-push xs x differ new
+
+-- in a list of commands of different names none of the first ones has the name of a later one
+pub names-at :
+    (xs : List Command) (i : ℕ) (d : Command) → i < length xs → NamesDiffer xs
+    → list_any (same_name (get_or xs i d)) (take i xs) ≡ false
+unfolding NamesDiffer
+names-at [] i d within differ = absurd (omega arith)
+names-at (x ∷ xs) zero d within differ = refl
+names-at (x ∷ xs) (suc i) d within differ =
+    let here : same_name x (get_or xs i d) ≡ false = all-at (λ y. same_name x y ≡ false) xs i d differ.0 (omega arith) in
+    rw (same_name-sym x (get_or xs i d) here) (names-at xs i d (omega arith) differ.1)
 
 -- names that differ in two lists together differ in the first
 pub NamesDiffer-front : (xs ys : List Command) → NamesDiffer (xs ++ ys) → NamesDiffer xs

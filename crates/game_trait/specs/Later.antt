@@ -1,5 +1,5 @@
 -- Commands, items, events and answers whose times are told from an earlier start.
-use Rattle.std.specs.Prelude.{◌≡◌, ℕ, ◌+◌, ◌-◌}
+use Rattle.std.specs.Prelude.{◌≡◌, ℕ, ◌+◌, ◌-◌, nat_le, List, map, filter}
 use Rattle.game_trait.specs.declared.command.Command.{Command}
 use Rattle.game_trait.specs.declared.command.Item.{Item}
 use Rattle.game_trait.specs.declared.command.Item.TheVariants.{Cmd, Beat}
@@ -16,6 +16,10 @@ later n x = record x { time = x.time + n }
 
 abbrev pub earlier : ℕ → Command → Command
 earlier n x = record x { time = x.time - n }
+
+-- the commands that are due from a tick on, their times told from there
+abbrev pub left_commands : ℕ → List Command → List Command
+left_commands t commands = map (earlier t) (filter (λ x. nat_le t x.time) commands)
 
 -- an item n ticks later, and one n ticks earlier
 unfoldable pub later_item : ℕ → Item → Item

@@ -1,5 +1,5 @@
 -- The tests that a mirror makes, as the model's.
-use Rattle.std.proofs.Common.{◌≡◌, refl, ◌∙◌, ap, sym, ℕ, zero, suc, ◌+◌, ◌-◌, ◌^◌, ◌≤◌, ◌<◌, Bool}
+use Rattle.std.proofs.Common.{◌≡◌, refl, ◌∙◌, ap, sym, ℕ, ◌+◌, ◌^◌, ◌≤◌, ◌<◌, Bool}
 use Rattle.std.proofs.Common.{true, false, cond, eqb, leb, eq-eqb, get_or, subst, List, [], ◌∷◌}
 use Rattle.std.proofs.Common.{◌++◌, length, arith}
 use Rattle.std.proofs.lemmas.Bool.{lt-ltb, le-ltb}
@@ -15,12 +15,11 @@ use Rattle.game_trait.specs.Run.{beats, world_of}
 use Rattle.game_trait.specs.Keys.{is_named}
 use Rattle.game_trait.specs.CommandList.{has_command, same_pair}
 use Rattle.game_trait.specs.NameTree.{has_name}
-use Rattle.sync_model.specs.Schedule.{Schedule, limit_at}
-use Rattle.sync_model.specs.State.{MirrorState, schedule_of, copy_clock, last_clock, step_limit}
+use Rattle.sync_model.specs.Schedule.{Schedule}
+use Rattle.sync_model.specs.State.{MirrorState, copy_clock, last_clock, step_limit}
 use Rattle.sync_model.specs.Change.{is_over, is_late, is_idle}
 use Rattle.sync_model.specs.Turns.{is_drained}
-use Rattle.sync_model.proofs.Staggered.{greatest-most, below_limit}
-use Rattle.sync_model.proofs.Trailing.{IsBehindAhead}
+use Rattle.sync_model.proofs.Staggered.{greatest-most}
 use Rattle.game_trait.specs.Game.{Rules}
 use Rattle.game_trait.specs.declared.event.Event.TheVariants.{Step}
 use Rattle.sync_model.specs.Change.{next}
@@ -32,10 +31,10 @@ use Rattle.sync_model.proofs.Cases.{ran}
 use Rattle.mirror_core.specs.declared.drafts.Drafted.{Drafted}
 use Rattle.mirror_core.specs.declared.drafts.Drafted.TheVariants.{Draft}
 use Rattle.mirror_core.specs.Drafts.{is_current, committed_to, IfDraft}
-use Rattle.mirror_core.proofs.Answered.{step_ran}
+use Rattle.sync_model.proofs.Answered.{step_ran}
 use Rattle.mirror_core.specs.Kept.{Room, IsKept}
 use Rattle.mirror_core.proofs.PlanLaws.{greatest-short, ticks-few}
-use Rattle.mirror_core.proofs.Clocks.{last_clock-at, drained-last}
+use Rattle.mirror_core.proofs.Clocks.{drained-last}
 use Rattle.mirror_core.proofs.Kept.{some-copies, before-end}
 
 -- one command more has its name there, and the others as before
@@ -87,28 +86,6 @@ module _ {W : Type 0} {s : MirrorState W} {plans : List Schedule} {is_taken : �
       let left = h.room_left.to_note in
       let short = h.room_left.short_history in
       omega arith
-
-  -- a step
-  pub idle-at :
-      (copy clock limit : ℕ) → clock ≡ copy_clock s.runs copy → limit ≡ step_limit s copy
-      → limit ≤ clock → is_idle s copy ≡ true
-  idle-at copy clock limit at upto idle = grind (arith, nat_tests)
-
-  pub runs-on :
-      (copy clock limit : ℕ) → clock ≡ copy_clock s.runs copy → limit ≡ step_limit s copy
-      → clock < limit → is_idle s copy ≡ false
-  runs-on copy clock limit at upto more = grind (arith, nat_tests)
-
-  pub below-end : (copy : ℕ) → is_idle s copy ≡ false → copy_clock s.runs copy < s.length
-  below-end copy more = (let room = (below_limit s copy more).1 in omega arith)
-
-  pub behind-ahead :
-      (copy : ℕ) → is_idle s copy ≡ false → 0 < copy
-      → copy_clock s.runs copy < copy_clock s.runs (copy - 1)
-  unfolding IsBehindAhead
-  behind-ahead zero more some = absurd (omega arith)
-  behind-ahead (suc copy) more some =
-      (let back : suc copy - 1 ≡ copy = omega arith in rw back (below_limit s (suc copy) more).0)
 
   -- a ready tick of its copy's present epoch is the copy's due tick, which the copy may run
   pub due-now :
@@ -194,12 +171,6 @@ module _ {W : Type 0} {s : MirrorState W} {plans : List Schedule} {is_taken : �
       subst (λ (x : Drafted W). IfDraft x (λ t. FitsReady rules s (ready_of rules t))) (sym made)
       (drafted-is rules d copy clock number world commands there more refl at kept refl refl)
 
-  -- the last copy
-  pub last-is :
-      (copies : ℕ) → copies ≡ length s.runs → copy_clock s.runs (copies - 1) ≡ last_clock s.runs
-  last-is copies many =
-      ap (λ (n : ℕ). copy_clock s.runs (n - 1)) many ∙ sym (last_clock-at s.runs (some-copies h).0)
-
   pub drained-is : eqb (last_clock s.runs) s.length ≡ is_drained s
   unfolding last_of
   drained-is =
@@ -212,21 +183,3 @@ module _ {W : Type 0} {s : MirrorState W} {plans : List Schedule} {is_taken : �
           → eqb (last_clock runs) s.length ≡ list_all (λ run. eqb (beats run) s.length) runs
       by-runs [] some chained within = absurd (omega arith)
       by-runs (run ∷ runs) some chained within = drained-last s.length run runs chained within
-
--- the limits of a copy
-pub limit-first :
-    {W : Type 0} (s : MirrorState W) (copy : ℕ) → copy ≡ 0
-    → limit_at (schedule_of s) copy s.clock 0 ≡ step_limit s copy
-unfolding step_limit
-limit-first s zero first = refl
-limit-first s (suc copy) first = absurd (omega arith)
-
-pub limit-behind :
-    {W : Type 0} (s : MirrorState W) (copy ahead : ℕ) → (copy ≡ 0 → ⊥)
-    → ahead ≡ copy_clock s.runs (copy - 1)
-    → limit_at (schedule_of s) copy s.clock ahead ≡ step_limit s copy
-unfolding step_limit
-limit-behind s zero ahead behind is = absurd (behind refl)
-limit-behind s (suc copy) ahead behind is =
-    let back : suc copy - 1 ≡ copy = omega arith in
-    ap (limit_at (schedule_of s) (suc copy) s.clock) (is ∙ ap (copy_clock s.runs) back)

@@ -1,25 +1,13 @@
--- The clocks of the copies: the last one, the ticks that are left to run, and a mirror that is drained.
-use Rattle.std.proofs.Common.{◌≡◌, ap, ℕ, zero, suc, ◌+◌, ◌-◌, ◌*◌, ◌≤◌, ◌<◌, Bool, ◌&&◌, eqb, List, [], ◌∷◌, map, length, get_or, set, arith}
+-- The clocks of the copies: the ticks that are left to run, and a mirror that is drained.
+use Rattle.std.proofs.Common.{◌≡◌, ℕ, zero, suc, ◌+◌, ◌*◌, ◌≤◌, ◌<◌, Bool, ◌&&◌, eqb, List, [], ◌∷◌, map, length, get_or, set, arith}
 use Rattle.std.proofs.lemmas.Bool.Decides.{nat_tests}
 use Rattle.std.specs.List.{AllByRecursion, list_all}
 use Rattle.game_trait.specs.declared.command.Item.{Item}
 use Rattle.game_trait.specs.Run.{beats}
 use Rattle.sync_model.specs.Lists.{last_of}
-use Rattle.sync_model.specs.State.{copy_clock, last_clock}
 use Rattle.sync_model.specs.Staggered.{IsAhead, IsChained}
 use Rattle.sync_model.proofs.Trailing.{beats-front}
 use Rattle.mirror_core.specs.Kept.{steps_left}
-use Rattle.sync_model.proofs.Lists.{last_of-at}
-
--- the last clock is that of the last copy
-pub last_clock-at :
-    (runs : List (List Item)) → 0 < length runs
-    → last_clock runs ≡ copy_clock runs (length runs - 1)
-unfolding last_of
-last_clock-at [] some = absurd (omega arith)
-last_clock-at (run ∷ runs) some =
-    (let back : suc (length runs) - 1 ≡ length runs = omega arith in
-    rw back (ap beats (last_of-at run [] runs)))
 
 -- one tick run is one less to run
 pub steps_left-ran :

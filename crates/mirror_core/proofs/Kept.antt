@@ -30,8 +30,8 @@ use Rattle.sync_model.proofs.Renewals.{tick_renews, arrival_renews, step_renews}
 use Rattle.mirror_core.specs.Epochs.{AreSmall, AreRenewed, AreEpochs}
 use Rattle.mirror_core.specs.Kept.{Room, IsKept, HasRoomLeft, steps_left}
 use Rattle.mirror_core.proofs.Consistent.{consistent-next}
-use Rattle.mirror_core.proofs.Answered.{tick_moved, arrive_late, arrive_taken, step_ran}
-use Rattle.mirror_core.proofs.Answered.{restagger_one, repaired-most}
+use Rattle.sync_model.proofs.Answered.{tick_moved, arrive_late, arrive_taken, step_ran}
+use Rattle.sync_model.proofs.Answered.{restagger_one, repaired-most}
 use Rattle.mirror_core.proofs.Clocks.{steps_left-ran}
 use Rattle.mirror_core.proofs.Renewed.{epochs-next, epochs-stay}
 

@@ -1,6 +1,5 @@
 mod PlanLaws
 mod Consistent
-mod Answered
 mod Clocks
 mod Renewed
 mod Kept

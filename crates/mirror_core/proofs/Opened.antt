@@ -17,7 +17,8 @@ use Rattle.sync_model.proofs.Epochs.{epoch_opens}
 use Rattle.mirror_core.specs.Epochs.{AreEpochs}
 use Rattle.mirror_core.specs.Kept.{delays_of_each, ticks_of_first, copies_of_first, IsKept}
 use Rattle.mirror_core.specs.Kept.{steps_left}
-use Rattle.mirror_core.proofs.PlanLaws.{are_plans, first-runs, first-few, greatest-short, as_many}
+use Rattle.sync_model.proofs.Plans.{first-runs}
+use Rattle.mirror_core.proofs.PlanLaws.{are_plans, first-few, greatest-short, as_many}
 use Rattle.mirror_core.proofs.Consistent.{consistent-opening, no_repair-opening}
 use Rattle.mirror_core.proofs.Clocks.{steps_left-opening}
 

@@ -1,11 +1,10 @@
 -- The plans of a match: their delays, their greatest delay, and the one in force.
-use Rattle.std.proofs.Common.{◌≡◌, refl, ap, ℕ, ◌+◌, ◌≤◌, ◌<◌, max, List, [], ◌∷◌, length, map}
-use Rattle.std.proofs.Common.{replicate, get_or, drop, drop-cons, add-one, arith}
+use Rattle.std.proofs.Common.{◌≡◌, ℕ, ◌+◌, ◌≤◌, ◌<◌, max, List, [], ◌∷◌, length}
+use Rattle.std.proofs.Common.{get_or, drop, drop-cons, add-one, arith}
 use Rattle.std.proofs.lemmas.List.{length-map, drop_all}
 use Rattle.std.specs.List.{AllByRecursion}
 use Rattle.game_trait.specs.declared.limits.TheConstants.{LONGEST_MATCH, MOST_PLANS, MOST_COPIES}
 use Rattle.game_trait.specs.declared.limits.TheConstants.{LONGEST_DELAY}
-use Rattle.game_trait.specs.declared.command.Item.{Item}
 use Rattle.game_trait.proofs.Lists.{all-at}
 use Rattle.sync_model.specs.Schedule.{Schedule, IsSchedule, longest_delay}
 use Rattle.sync_model.specs.Staggered.{greatest_delay}
@@ -43,20 +42,6 @@ copies-each :
 copies-each [] copies each = tt
 copies-each (plan ∷ plans) copies each = (each.0, copies-each plans copies each.1)
 
--- a run for each delay of a plan
-runs-each :
-    (delays : List ℕ) → map {B = List Item} (λ delay. []) delays ≡ replicate (length delays) []
-runs-each [] = refl
-runs-each (delay ∷ delays) = ap (λ (runs : List (List Item)). [] ∷ runs) (runs-each delays)
-
--- and so for each copy of the first plan
-pub first-runs :
-    (plans : List Schedule)
-    → map {B = List Item} (λ delay. []) (get_or (delays_of_each plans) 0 [])
-    ≡ replicate (copies_of_first plans) []
-first-runs [] = refl
-first-runs (plan ∷ plans) = runs-each plan.delays
-
 -- plans of one match
 pub are_plans :
     (plans : List Schedule) (ticks copies : ℕ) → 0 < length plans → length plans ≤ MOST_PLANS
@@ -92,20 +77,7 @@ ticks-few plans ticks copies are =
     (all-at (λ delays. IsSchedule (record { delays = delays; length = ticks })) plans 0 []
     are.schedules are.some_plan).few_ticks
 
--- the first plan's ticks and copies
-pub first-ticks :
-    (plans : List Schedule) (d : Schedule) → 0 < length plans
-    → (get_or plans 0 d).length ≡ ticks_of_first plans
-first-ticks [] d some = absurd (omega arith)
-first-ticks (plan ∷ plans) d some = refl
-
-pub first-copies :
-    (plans : List Schedule) (d : Schedule) → 0 < length plans
-    → length (get_or plans 0 d).delays ≡ copies_of_first plans
-first-copies [] d some = absurd (omega arith)
-first-copies (plan ∷ plans) d some = refl
-
--- both are those of a schedule
+-- the first plan's ticks and copies are those of a schedule
 pub first-few :
     (plans : List Schedule) → 0 < length plans → AllByRecursion IsSchedule plans
     → (copies_of_first plans ≤ MOST_COPIES) × (ticks_of_first plans ≤ LONGEST_MATCH)

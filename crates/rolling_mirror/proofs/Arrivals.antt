@@ -1,5 +1,5 @@
 -- A command at what is left of a mirror, beside the mirror that remembers all.
-use Rattle.std.proofs.Common.{◌≡◌, refl, ◌∙◌, ap, sym, subst, ℕ, ◌+◌, ◌-◌, ◌≤◌, ◌<◌, Bool, true, false, cond, ◌||◌, not, eqb, leb, ltb}
+use Rattle.std.proofs.Common.{◌≡◌, refl, ◌∙◌, ap, sym, subst, ℕ, ◌+◌, ◌-◌, ◌≤◌, ◌<◌, Bool, true, false, cond, ◌||◌, eqb, leb, ltb}
 use Rattle.std.proofs.Common.{List, [], ◌∷◌, ◌++◌, map, filter, arith}
 use Rattle.std.specs.Prelude.{IfSome}
 use Rattle.std.specs.List.{list_any}
@@ -7,72 +7,32 @@ use Rattle.std.proofs.lemmas.Bool.{lt-ltb, le-ltb, ltb-false}
 use Rattle.std.proofs.lemmas.Bool.Decides.{nat_tests}
 use Rattle.game_trait.specs.declared.command.Command.{Command}
 use Rattle.game_trait.specs.declared.event.Event.TheVariants.{Arrive}
-use Rattle.game_trait.specs.declared.event.Arrived.TheVariants.{Repeat as AsRepeat, Late as AsLate}
+use Rattle.game_trait.specs.declared.event.Arrived.TheVariants.{Late as AsLate}
 use Rattle.game_trait.specs.declared.event.Reply.TheVariants.{Arrive as ToArrive}
 use Rattle.game_trait.specs.Game.{Rules}
 use Rattle.game_trait.specs.CommandList.{name_of}
 use Rattle.game_trait.specs.NameTree.{has_name}
 use Rattle.game_trait.proofs.CommandLists.{has-named}
 use Rattle.game_trait.specs.Keys.{same_name}
-use Rattle.game_trait.specs.Later.{later, earlier, later_event, later_reply}
+use Rattle.game_trait.specs.Later.{earlier, later_event, later_reply}
+use Rattle.game_trait.proofs.Later.{command-later-earlier}
 use Rattle.sync_model.specs.State.{MirrorState, last_clock}
 use Rattle.sync_model.specs.Settle.{settle, repaired}
 use Rattle.sync_model.specs.Change.{next, said, is_repeat, is_late, proposed_by_arrival}
-use Rattle.sync_model.proofs.Cases.{away, taken, said_taken, arrive-cases}
+use Rattle.sync_model.proofs.Cases.{away, arrive-cases}
+use Rattle.sync_model.proofs.Answered.{arrive_repeat, arrive_late, arrive_taken}
+use Rattle.sync_model.proofs.Forgetting.{any-split, named-later, last-clocks}
 use Rattle.rolling_mirror.specs.declared.arrival.Arrival.{Arrival}
 use Rattle.rolling_mirror.specs.declared.arrival.Arrival.TheVariants.{Taken, Repeat, Late, Far, Full}
 use Rattle.rolling_mirror.specs.Rolling.{RollState, IsWindowOf, without_lists, left_after, last_tick, window_end, in_window, said_to_arrival, arrived, as_arrived}
-use Rattle.rolling_mirror.proofs.Windows.{event-window, last-clocks}
-
--- ---- the events of a mirror
-
-again : {W : Type 0} (s : MirrorState W) (x : Command) → is_repeat s x ≡ true → (next s (Arrive x) ≡ s) × (said s (Arrive x) ≡ ToArrive AsRepeat)
-unfolding next said
-again s x e = (rw e refl, rw e refl)
-
-turned_away_late :
-    {W : Type 0} (s : MirrorState W) (x : Command) → is_repeat s x ≡ false → is_late s x ≡ true
-    → (next s (Arrive x) ≡ away s x) × (said s (Arrive x) ≡ ToArrive (AsLate (last_clock s.runs)))
-unfolding next said
-turned_away_late s x e l = (rw (e, l) refl, rw (e, l) refl)
-
-pub let_in :
-    {W : Type 0} (s : MirrorState W) (x : Command) → is_repeat s x ≡ false → is_late s x ≡ false
-    → (next s (Arrive x) ≡ taken s x) × (said s (Arrive x) ≡ said_taken s x)
-unfolding next said
-let_in s x e l = (rw (e, l) refl, rw (e, l) refl)
+use Rattle.rolling_mirror.proofs.Windows.{event-window}
 
 -- ---- names
-
-any-split :
-    (b : ℕ) (p : Command → Bool) (xs : List Command)
-    → list_any p xs ≡ list_any p (filter (λ y. ltb y.time b) xs) || list_any p (filter (λ y. leb b y.time) xs)
-any-split b p [] = refl
-any-split b p (x ∷ xs) =
-    let rest = any-split b p xs in
-    let other : leb b x.time ≡ not (ltb x.time b) = grind (arith, nat_tests) in
-    rw other
-    (elim (ltb x.time b) as (λ v. p x || list_any p xs
-    ≡ list_any p (cond v (x ∷ filter (λ y. ltb y.time b) xs) (filter (λ y. ltb y.time b) xs))
-    || list_any p (cond (not v) (x ∷ filter (λ y. leb b y.time) xs) (filter (λ y. leb b y.time) xs))) [
-      | true ↦ rw rest (elim (p x) as (λ v. v || (list_any p (filter (λ y. ltb y.time b) xs) || list_any p (filter (λ y. leb b y.time) xs))
-          ≡ (v || list_any p (filter (λ y. ltb y.time b) xs)) || list_any p (filter (λ y. leb b y.time) xs)) [ true ↦ refl | false ↦ refl ])
-      | false ↦ rw rest (elim (list_any p (filter (λ y. ltb y.time b) xs)) as (λ v. p x || (v || list_any p (filter (λ y. leb b y.time) xs))
-          ≡ v || (p x || list_any p (filter (λ y. leb b y.time) xs))) [ true ↦ elim (p x) as (λ u. u || true ≡ true) [ true ↦ refl | false ↦ refl ] | false ↦ refl ])
-    ])
-
-named-later : (b : ℕ) (x : Command) (ys : List Command) → list_any (same_name x) (map (later b) ys) ≡ list_any (same_name x) ys
-unfolding same_name
-named-later b x [] = refl
-named-later b x (y ∷ ys) = ap (λ (v : Bool). same_name x y || v) (named-later b x ys)
 
 -- an earlier command has the same name
 pub named-earlier : (xs : List Command) (b : ℕ) (x : Command) → list_any (same_name (earlier b x)) xs ≡ list_any (same_name x) xs
 unfolding same_name
 named-earlier xs b x = refl
-
-later-earlier : (b : ℕ) (x : Command) → b ≤ x.time → later b (earlier b x) ≡ x
-later-earlier b x due = (let e : (x.time - b) + b ≡ x.time = omega arith in ap (λ (t : ℕ). record x { time = t }) e)
 
 -- a name is remembered where a command has it
 pub repeat-named :
@@ -184,10 +144,25 @@ module _ {W : Type 0} {i r : RollState W} (view : i ≡ r) (x : Command) where
 
 -- ---- and the mirror that remembers all
 
+-- a command that it turns away leaves the window as it is
+away-window :
+    {W : Type 0} (rules : Rules W) (r : RollState W) (x : Command) (whole : MirrorState W)
+    → IsWindowOf rules whole r → IsWindowOf rules (away whole x) r
+away-window rules r x whole h = record {
+  some_copy = h.some_copy;
+  opening = h.opening;
+  plans = h.plans;
+  plan = h.plan;
+  clock = h.clock;
+  accepted = h.accepted;
+  runs = h.runs;
+}
+
 module _ {W : Type 0} (rules : Rules W) (r : RollState W) (x : Command) (within : r.left.clock < r.left.length)
     (whole : MirrorState W) (h : IsWindowOf rules whole r) (before : whole.clock < whole.length)
     (known : list_any (same_name x) (filter (λ y. ltb y.time r.base) whole.accepted) ≡ false) where
   same-repeat : is_repeat whole x ≡ is_repeat r.left x
+  unfolding same_name
   same-repeat =
       any-split r.base (same_name x) whole.accepted
       ∙ ap (λ (v : Bool). v || list_any (same_name x) (filter (λ y. leb r.base y.time) whole.accepted)) known
@@ -197,17 +172,6 @@ module _ {W : Type 0} (rules : Rules W) (r : RollState W) (x : Command) (within 
   same-late : is_late whole x ≡ ltb x.time (last_tick r)
   same-late = ap (ltb x.time) (last-clocks rules r.base whole r.left h)
 
-  away-window : IsWindowOf rules (away whole x) r
-  away-window = record {
-    some_copy = h.some_copy;
-    opening = h.opening;
-    plans = h.plans;
-    plan = h.plan;
-    clock = h.clock;
-    accepted = h.accepted;
-    runs = h.runs;
-  }
-
   -- the promise for an answer
   abbrev Holds : Arrival → Type 0
   Holds a =
@@ -215,12 +179,12 @@ module _ {W : Type 0} (rules : Rules W) (r : RollState W) (x : Command) (within 
       (λ answer. IsWindowOf rules (next whole (Arrive x)) (arrived r x a) × (said whole (Arrive x) ≡ ToArrive answer))
 
   repeat-window : is_repeat r.left x ≡ true → Holds Repeat
-  repeat-window e = (let w = again whole x (same-repeat ∙ e) in (rw w.0 h, w.1))
+  repeat-window e = (let w = arrive_repeat whole x (same-repeat ∙ e) in (rw w.0 h, w.1))
 
   late-window : is_repeat r.left x ≡ false → ltb x.time (last_tick r) ≡ true → Holds (Late (last_tick r))
   late-window e l =
-      let w = turned_away_late whole x (same-repeat ∙ e) (same-late ∙ l) in
-      (rw w.0 away-window, w.1 ∙ ap (λ (n : ℕ). ToArrive (AsLate n)) (last-clocks rules r.base whole r.left h))
+      let w = arrive_late whole x (same-repeat ∙ e) (same-late ∙ l) in
+      (rw w.0 (away-window rules r x whole h), w.1 ∙ ap (λ (n : ℕ). ToArrive (AsLate n)) (last-clocks rules r.base whole r.left h))
 
   taken-window :
       is_repeat r.left x ≡ false → ltb x.time (last_tick r) ≡ false
@@ -229,9 +193,9 @@ module _ {W : Type 0} (rules : Rules W) (r : RollState W) (x : Command) (within 
   taken-window e l =
       let due : r.base + last_clock r.left.runs ≤ x.time = grind (arith, nat_tests) in
       let y = in_window r x in
-      let back = later-earlier r.base x (omega arith) in
+      let back = command-later-earlier r.base x (omega arith) in
       let on_time : is_late r.left y ≡ false = grind (arith, nat_tests) in
-      let here = let_in r.left y e on_time in
+      let here = arrive_taken r.left y e on_time in
       let both = event-window rules r (left_after r (Arrive y)) (Arrive y) refl within whole h before known in (
         subst (λ (z : Command). IsWindowOf rules (next whole (Arrive z)) (left_after r (Arrive y))) back both.0,
         ap (λ (z : Command). said whole (Arrive z)) (sym back) ∙ both.1 ∙ ap (later_reply r.base) here.1,
@@ -250,15 +214,7 @@ module _ {W : Type 0} (rules : Rules W) (r : RollState W) (x : Command) (whole :
   passed : IsWindowOf rules (next whole (Arrive x)) r
   passed =
       arrive-cases whole x (λ t a. IsWindowOf rules t r) (λ e. h)
-      (λ e l. record {
-        some_copy = h.some_copy;
-        opening = h.opening;
-        plans = h.plans;
-        plan = h.plan;
-        clock = h.clock;
-        accepted = h.accepted;
-        runs = h.runs;
-      })
+      (λ e l. away-window rules r x whole h)
       (λ e l. absurd (let at = last-clocks rules r.base whole r.left h in let due = ltb-false x.time (last_clock whole.runs) l in omega arith))
 
   pub passed-window :

@@ -1,37 +1,32 @@
 -- Each event keeps what is always true.
 use Rattle.std.proofs.Common.{◌≡◌, refl, ◌∙◌, ap, sym, subst, ℕ, ◌+◌, ◌-◌, ◌^◌, ◌≤◌, ◌<◌, true, false, ◌&&◌, ◌||◌, eqb, leb, ltb}
-use Rattle.std.proofs.Common.{List, [], ◌∷◌, ◌++◌, map, length, get_or, set, drop, arith, length-append}
+use Rattle.std.proofs.Common.{List, [], ◌∷◌, ◌++◌, map, length, get_or, arith, length-append}
 use Rattle.std.proofs.Math.ListN.{length-set}
 use Rattle.std.proofs.lemmas.Bool.Decides.{nat_tests}
 use Rattle.std.proofs.lemmas.List.{length-map, map-append}
-use Rattle.std.proofs.Math.Seq.{drop-append_seam}
 use Rattle.std.specs.Prelude.{if◌then◌else◌}
 use Rattle.std.specs.List.{AllByRecursion}
 use Rattle.game_trait.specs.declared.command.Command.{Command}
-use Rattle.game_trait.specs.declared.command.Item.{Item}
-use Rattle.game_trait.specs.declared.command.Item.TheVariants.{Cmd, Beat}
 use Rattle.game_trait.specs.CommandList.{name_of}
 use Rattle.game_trait.specs.NameTree.{NamesOfTree}
 use Rattle.game_trait.specs.Game.{Rules}
-use Rattle.game_trait.specs.Later.{earlier_item}
+use Rattle.game_trait.specs.Later.{left_commands}
 use Rattle.game_trait.specs.Run.{beats, IsPrefix}
-use Rattle.game_trait.proofs.Lists.{all-to_map, all-from_map, all-both, all-weaker}
-use Rattle.game_trait.proofs.Runs.{beats-append}
+use Rattle.game_trait.proofs.Lists.{all-to_map, all-both, all-weaker}
+use Rattle.game_trait.proofs.Later.{left-fewer}
 use Rattle.sync_model.specs.Lists.{last_of}
 use Rattle.sync_model.specs.Schedule.{Schedule}
 use Rattle.sync_model.specs.State.{MirrorState, copy_clock, last_clock}
 use Rattle.sync_model.specs.Settle.{settle}
 use Rattle.sync_model.specs.Staggered.{IsTrailing}
 use Rattle.sync_model.specs.Change.{is_idle, with_late, with_tick, proposed_by_step, proposed_by_arrival}
-use Rattle.sync_model.specs.Forgetting.{left_run, left_commands, forgotten}
-use Rattle.sync_model.proofs.Lists.{all-put}
+use Rattle.sync_model.specs.Forgetting.{left_run, forgotten}
 use Rattle.sync_model.proofs.Settle.{settle-length}
-use Rattle.sync_model.proofs.Staggered.{below_limit}
+use Rattle.sync_model.proofs.Staggered.{below_limit, same-clocks, one-clock}
 use Rattle.sync_model.proofs.Trailing.{beats-step, beats-arrival}
-use Rattle.sync_model.proofs.Forgotten.{last-all, all-begin}
+use Rattle.sync_model.proofs.Forgotten.{last-all, all-begin, beats-left}
 use Rattle.rolling_mirror.specs.Rolling.{RollState, is_held, forgets, ready, rolled}
 use Rattle.rolling_mirror.specs.Kept.{ArePlansOf, IsRolling}
-use Rattle.rolling_mirror.proofs.Named.{left-fewer}
 
 -- the plans fit another state of as many copies, and of the same length and plan
 same-plans :
@@ -42,32 +37,6 @@ same-plans s t plans h ticks copies there = record {
   copies_each = subst (λ (n : ℕ). AllByRecursion (λ plan. length plan.delays ≡ n) plans) (sym copies) h.copies_each;
   in_force = there;
 }
-
--- what bounds clocks bounds equal ones, and where one is put that it bounds too
-same-clocks : (n : ℕ) (old new : List (List Item)) → map beats new ≡ map beats old → AllByRecursion (λ run. beats run ≤ n) old → AllByRecursion (λ run. beats run ≤ n) new
-same-clocks n old new same h =
-    all-from_map (λ k. k ≤ n) beats new (subst (AllByRecursion (λ k. k ≤ n)) (sym same) (all-to_map (λ k. k ≤ n) beats old h))
-
-one-clock :
-    (n : ℕ) (old new : List (List Item)) (c k : ℕ) → map beats new ≡ set (map beats old) c k → k ≤ n
-    → AllByRecursion (λ run. beats run ≤ n) old → AllByRecursion (λ run. beats run ≤ n) new
-one-clock n old new c k same most h =
-    all-from_map (λ m. m ≤ n) beats new (subst (AllByRecursion (λ m. m ≤ n)) (sym same) (all-put (λ m. m ≤ n) (map beats old) c k (all-to_map (λ m. m ≤ n) beats old h) most))
-
--- the clock of what is left of a run
-beats-earlier : (n : ℕ) (run : List Item) → beats (map (earlier_item n) run) ≡ beats run
-unfolding beats earlier_item
-beats-earlier n [] = refl
-beats-earlier n (Cmd x ∷ run) = beats-earlier n run
-beats-earlier n (Beat ∷ run) = ap (λ (k : ℕ). k + 1) (beats-earlier n run)
-
-beats-left : (last run : List Item) → IsPrefix last run → beats (left_run (beats last) (length last) run) + beats last ≡ beats run
-beats-left last run begins =
-    let rest = begins.0 in
-    let left : drop (length last) run ≡ rest = ap (drop (length last)) begins.1 ∙ drop-append_seam last rest in
-    let long : beats run ≡ beats last + beats rest = ap beats begins.1 ∙ beats-append last rest in
-    let same : beats (left_run (beats last) (length last) run) ≡ beats rest = beats-earlier (beats last) (drop (length last) run) ∙ ap beats left in
-    omega arith
 
 -- what holds of the parts holds of the value
 pub within-of : {W : Type 0} {i r : RollState W} → i ≡ r → i.left.clock < i.left.length → r.left.clock < r.left.length
@@ -189,7 +158,7 @@ module _ {W : Type 0} {r : RollState W} {plans : List Schedule} {names : NamesOf
         behind_clock =
             all-to_map (λ run. beats run ≤ r.left.clock - k) (left_run k (length last)) r.left.runs
             (all-both (λ run. beats run ≤ r.left.clock) (λ run. IsPrefix last run) (λ run. beats (left_run k (length last) run) ≤ r.left.clock - k) r.left.runs
-            (λ run upto begins. (let long = beats-left last run begins in omega arith)) h.behind_clock
+            (λ run upto begins. (let long = beats-left (beats last) last run begins in omega arith)) h.behind_clock
             (all-begin r.left.runs h.some_copy trailing.chained));
         within_session = omega arith;
         names_are = refl;

@@ -3,5 +3,4 @@ mod Windows
 mod Kept
 mod Arrivals
 mod Turns
-mod Limits
 mod Opened

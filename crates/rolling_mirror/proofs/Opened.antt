@@ -1,38 +1,14 @@
 -- What is always true is true of a mirror that opens.
-use Rattle.std.proofs.Common.{◌≡◌, refl, ◌∙◌, ap, sym, subst, ℕ, zero, suc, ◌≤◌, ◌<◌, List, [], ◌∷◌, length, map, get_or, replicate, arith}
+use Rattle.std.proofs.Common.{◌≡◌, refl, ◌∙◌, ap, sym, subst, ℕ, zero, suc, ◌≤◌, ◌<◌, List, [], length, replicate, arith}
 use Rattle.std.proofs.lemmas.List.{length-replicate}
 use Rattle.std.specs.List.{AllByRecursion}
 use Rattle.game_trait.specs.declared.command.Item.{Item}
 use Rattle.game_trait.specs.Run.{beats}
 use Rattle.sync_model.specs.Schedule.{Schedule, delays_of_each, ticks_of_first, copies_of_first}
 use Rattle.sync_model.specs.State.{opening_state}
+use Rattle.sync_model.proofs.Plans.{first-runs}
 use Rattle.rolling_mirror.specs.Rolling.{RollState}
 use Rattle.rolling_mirror.specs.Kept.{IsRolling}
-
--- a run for each copy of the first plan
-runs-each :
-    (delays : List ℕ) → map {B = List Item} (λ delay. []) delays ≡ replicate (length delays) []
-runs-each [] = refl
-runs-each (delay ∷ delays) = ap (λ (runs : List (List Item)). [] ∷ runs) (runs-each delays)
-
-first-runs :
-    (plans : List Schedule)
-    → map {B = List Item} (λ delay. []) (get_or (delays_of_each plans) 0 [])
-    ≡ replicate (copies_of_first plans) []
-first-runs [] = refl
-first-runs (plan ∷ plans) = runs-each plan.delays
-
-pub first-ticks :
-    (plans : List Schedule) (d : Schedule) → 0 < length plans
-    → (get_or plans 0 d).length ≡ ticks_of_first plans
-first-ticks [] d some = absurd (omega arith)
-first-ticks (plan ∷ plans) d some = refl
-
-pub first-copies :
-    (plans : List Schedule) (d : Schedule) → 0 < length plans
-    → length (get_or plans 0 d).delays ≡ copies_of_first plans
-first-copies [] d some = absurd (omega arith)
-first-copies (plan ∷ plans) d some = refl
 
 none-ahead : (n : ℕ) → AllByRecursion (λ run. beats run ≤ 0) (replicate {A = List Item} n [])
 unfolding beats

@@ -11,9 +11,8 @@ use Rattle.game_trait.specs.declared.event.Stepped.{Stepped}
 use Rattle.game_trait.specs.declared.event.Stepped.TheVariants.{Ran, Idle}
 use Rattle.game_trait.specs.Game.{Rules}
 use Rattle.game_trait.specs.Later.{AreTimeBlind, later_item, later_event, later_reply}
-use Rattle.game_trait.specs.Run.{beats}
 use Rattle.game_trait.specs.Ordered.{ordered}
-use Rattle.game_trait.proofs.OrderedParts.{beats-ordered, ordered-join}
+use Rattle.game_trait.proofs.OrderedParts.{ordered-join}
 use Rattle.sync_model.specs.Lists.{last_of}
 use Rattle.sync_model.specs.State.{MirrorState, opening_state, last_clock}
 use Rattle.sync_model.specs.Settle.{settle, repaired}
@@ -21,13 +20,15 @@ use Rattle.sync_model.specs.Staggered.{IsTrailing}
 use Rattle.sync_model.specs.Change.{next, said, is_over, is_idle, proposed_by_step}
 use Rattle.sync_model.specs.Forgetting.{whole_run, IsLeft, IsRemembered}
 use Rattle.sync_model.proofs.Lists.{last-map}
-use Rattle.sync_model.proofs.Forgetting.{event-left-over, as-many, last-whole, ordered-left}
+use Rattle.sync_model.proofs.Forgetting.{event-left-over, as-many, last-clocks, ordered-left}
 use Rattle.sync_model.proofs.Forgotten.{whole-yet, forgotten-left}
 use Rattle.rolling_mirror.specs.Rolling.{RollState, IsWindowOf, without_lists, left_after, rolled, ready, is_held, ticked}
 
--- what is left has no part of the lists
-left-bare : {W : Type 0} (rules : Rules W) (b : ℕ) (whole s : MirrorState W) → IsLeft rules b whole s → IsLeft rules b whole (without_lists s)
-left-bare rules b whole s h = record {
+-- what is left has no part of the lists, and may be of any length
+left-bare :
+    {W : Type 0} (rules : Rules W) (b : ℕ) (whole s : MirrorState W) (window : ℕ) → IsLeft rules b whole s
+    → IsLeft rules b whole (record (without_lists s) { length = window })
+left-bare rules b whole s window h = record {
   some_copy = h.some_copy;
   opening = h.opening;
   plans = h.plans;
@@ -86,16 +87,8 @@ pub opening-window :
     → 0 < length (opening_state opening n plans spare plan_spare).runs
     → IsLeft rules 0 (opening_state opening n plans spare plan_spare) (opening_state opening window plans 0 0)
 opening-window rules opening window n plans spare plan_spare some =
-    let h = whole-yet rules (opening_state opening n plans spare plan_spare) some in
-    record {
-      some_copy = h.some_copy;
-      opening = h.opening;
-      plans = h.plans;
-      plan = h.plan;
-      clock = h.clock;
-      accepted = h.accepted;
-      runs = h.runs;
-    }
+    let whole = opening_state opening n plans spare plan_spare in
+    left-bare rules 0 whole whole window (whole-yet rules whole some)
 
 -- an event that both make
 pub event-window :
@@ -107,7 +100,7 @@ pub event-window :
 event-window rules r t e is within whole h before known =
     let both = event-left-over rules r.base whole r.left e h before within known in (
       subst (IsWindowOf rules (next whole (later_event r.base e))) (sym is)
-          (left-bare rules r.base (next whole (later_event r.base e)) (next r.left e) both.0),
+          (left-bare rules r.base (next whole (later_event r.base e)) (next r.left e) (next r.left e).length both.0),
       both.1,
     )
 
@@ -167,12 +160,6 @@ last-of-whole front b [] some = absurd (omega arith)
 last-of-whole front b (r ∷ rs) some = last-map (whole_run front b) r rs
 
 module _ {W : Type 0} (rules : Rules W) (b : ℕ) (whole left : MirrorState W) (h : IsLeft rules b whole left) where
-  long : beats (ordered whole.accepted 0 b) ≡ b
-  long = beats-ordered whole.accepted 0 b ∙ omega arith
-
-  pub last-clocks : last_clock whole.runs ≡ b + last_clock left.runs
-  last-clocks = ap last_clock h.runs ∙ last-whole b whole.accepted left.accepted h.accepted (ordered whole.accepted 0 b) long left.runs h.some_copy
-
   -- the last copy's run is in time order
   pub last-ordered : IsTrailing left.accepted left.runs → last_of [] whole.runs ≡ ordered whole.accepted 0 (last_clock whole.runs)
   last-ordered trailing =
@@ -186,4 +173,4 @@ module _ {W : Type 0} (rules : Rules W) (b : ℕ) (whole left : MirrorState W) (
       ∙ last-of-whole (ordered whole.accepted 0 b) b left.runs h.some_copy
       ∙ ap (λ (l : List Item). ordered whole.accepted 0 b ++ l) passed
       ∙ sym (ordered-join whole.accepted 0 b (b + k) (omega arith) (omega arith))
-      ∙ ap (ordered whole.accepted 0) (sym last-clocks)
+      ∙ ap (ordered whole.accepted 0) (sym (last-clocks rules b whole left h))

@@ -10,12 +10,12 @@ use Rattle.game_trait.specs.declared.event.Reply.TheVariants.{Tick as ToTick}
 use Rattle.game_trait.specs.declared.event.Ticked.{Ticked}
 use Rattle.game_trait.specs.declared.event.Ticked.TheVariants.{Moved, Over}
 use Rattle.game_trait.specs.Game.{Rules}
-use Rattle.game_trait.specs.Later.{earlier}
+use Rattle.game_trait.specs.Later.{earlier, left_commands}
 use Rattle.sync_model.specs.State.{MirrorState, last_clock}
 use Rattle.sync_model.specs.Settle.{repaired}
 use Rattle.sync_model.specs.Change.{next, said, is_repeat, proposed_by_arrival}
 use Rattle.sync_model.specs.Turns.{steps_from}
-use Rattle.sync_model.specs.Forgetting.{IsLeft, forgotten, left_commands}
+use Rattle.sync_model.specs.Forgetting.{IsLeft, forgotten}
 use Rattle.rolling_mirror.specs.declared.arrival.Arrival.{Arrival}
 use Rattle.rolling_mirror.specs.declared.arrival.Arrival.TheVariants.{Taken, Repeat, Late, Far, Full}
 

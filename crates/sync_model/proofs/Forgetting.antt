@@ -12,10 +12,9 @@ use Rattle.game_trait.specs.declared.command.Item.{Item}
 use Rattle.game_trait.specs.declared.command.Item.TheVariants.{Cmd}
 use Rattle.game_trait.specs.declared.event.Event.{Event}
 use Rattle.game_trait.specs.declared.event.Event.TheVariants.{Tick, Arrive, Step, Restagger}
-use Rattle.game_trait.specs.declared.event.Reply.TheVariants.{Tick as ToTick, Arrive as ToArrive, Step as ToStep}
-use Rattle.game_trait.specs.declared.event.Ticked.TheVariants.{Moved}
-use Rattle.game_trait.specs.declared.event.Arrived.TheVariants.{Taken, Repeat, Late}
-use Rattle.game_trait.specs.declared.event.Stepped.TheVariants.{Ran, Idle}
+use Rattle.game_trait.specs.declared.event.Reply.TheVariants.{Arrive as ToArrive, Step as ToStep}
+use Rattle.game_trait.specs.declared.event.Arrived.TheVariants.{Taken, Late}
+use Rattle.game_trait.specs.declared.event.Stepped.TheVariants.{Ran}
 use Rattle.game_trait.specs.Count.{times}
 use Rattle.game_trait.specs.Game.{Rules}
 use Rattle.game_trait.specs.Keys.{same_name, in_key_order}
@@ -30,7 +29,8 @@ use Rattle.sync_model.specs.Settle.{begins_with, rebuilt, settle_one, settle, is
 use Rattle.sync_model.specs.Change.{next, said, is_over, is_repeat, is_late, is_idle, with_late, with_tick, proposed_by_arrival, proposed_by_step}
 use Rattle.game_trait.specs.Later.{later, later_item, earlier_item, later_event, later_reply}
 use Rattle.sync_model.specs.Forgetting.{whole_run, IsLeft, IsRemembered}
-use Rattle.sync_model.proofs.Cases.{moved, away, taken, ran}
+use Rattle.sync_model.proofs.Cases.{taken}
+use Rattle.sync_model.proofs.Answered.{tick_moved, arrive_repeat, arrive_late, arrive_taken, step_idle, step_ran}
 use Rattle.game_trait.proofs.Later.{due_at-later, tick-later, beats-later, earlier-later}
 use Rattle.sync_model.proofs.Lists.{last-map}
 use Rattle.sync_model.proofs.Proposals.{ticks-later}
@@ -224,7 +224,8 @@ same-front b all x = ticks-later all (later b x) 0 (b - 0) (omega arith)
 
 -- ---- names
 
-any-split :
+-- one of all passes a test where one of the older ones does, or one of the others
+pub any-split :
     (b : ℕ) (p : Command → Bool) (xs : List Command)
     → list_any p xs ≡ list_any p (filter (λ y. ltb y.time b) xs) || list_any p (filter (λ y. leb b y.time) xs)
 any-split b p [] = refl
@@ -241,44 +242,17 @@ any-split b p (x ∷ xs) =
           ≡ v || (p x || list_any p (filter (λ y. leb b y.time) xs))) [ true ↦ elim (p x) as (λ u. u || true ≡ true) [ true ↦ refl | false ↦ refl ] | false ↦ refl ])
     ])
 
-named-later : (b : ℕ) (x : Command) (ys : List Command) → list_any (same_name (later b x)) (map (later b) ys) ≡ list_any (same_name x) ys
+-- a name is had by later commands where it is by these
+pub named-later : (b : ℕ) (x : Command) (ys : List Command) → list_any (same_name (later b x)) (map (later b) ys) ≡ list_any (same_name x) ys
 unfolding same_name
 named-later b x [] = refl
 named-later b x (y ∷ ys) = ap (λ (v : Bool). same_name x y || v) (named-later b x ys)
 
 -- ---- events
 
--- a tick of a clock that stands before the match's end
-ticked : {W : Type 0} (s : MirrorState W) → s.clock < s.length → (next s Tick ≡ moved s) × (said s Tick ≡ ToTick Moved)
-unfolding next said
-ticked s before = (let e : is_over s ≡ false = grind (arith, nat_tests) in (rw e refl, rw e refl))
-
-again : {W : Type 0} (s : MirrorState W) (x : Command) → is_repeat s x ≡ true → (next s (Arrive x) ≡ s) × (said s (Arrive x) ≡ ToArrive Repeat)
-unfolding next said
-again s x e = (rw e refl, rw e refl)
-
-turned_away_late :
-    {W : Type 0} (s : MirrorState W) (x : Command) → is_repeat s x ≡ false → is_late s x ≡ true
-    → (next s (Arrive x) ≡ away s x) × (said s (Arrive x) ≡ ToArrive (Late (last_clock s.runs)))
-unfolding next said
-turned_away_late s x e l = (rw (e, l) refl, rw (e, l) refl)
-
-let_in :
-    {W : Type 0} (s : MirrorState W) (x : Command) → is_repeat s x ≡ false → is_late s x ≡ false
-    → (next s (Arrive x) ≡ taken s x)
-    × (said s (Arrive x) ≡ ToArrive (Taken (repaired (s.accepted ++ x ∷ []) (proposed_by_arrival x s.runs))))
-unfolding next said
-let_in s x e l = (rw (e, l) refl, rw (e, l) refl)
-
-idle : {W : Type 0} (s : MirrorState W) (c : ℕ) → is_idle s c ≡ true → (next s (Step c) ≡ s) × (said s (Step c) ≡ ToStep Idle)
-unfolding next said
-idle s c e = (rw e refl, rw e refl)
-
-stepped :
-    {W : Type 0} (s : MirrorState W) (c : ℕ) → is_idle s c ≡ false
-    → (next s (Step c) ≡ ran s c) × (said s (Step c) ≡ ToStep (Ran (repaired s.accepted (proposed_by_step s.accepted s.runs c))))
-unfolding next said
-stepped s c e = (rw e refl, rw e refl)
+-- a clock that stands before the match's end isn't over
+not-over : {W : Type 0} (s : MirrorState W) → s.clock < s.length → is_over s ≡ false
+not-over s before = grind (arith, nat_tests)
 
 -- a copy stands at its limit in the whole where it does in what is left
 first-limit :
@@ -306,7 +280,7 @@ module _ {W : Type 0} (rules : Rules W) (b : ℕ) (whole left : MirrorState W) (
       ap (λ (runs : List (List Item)). copy_clock runs c) h.runs
       ∙ clock-whole b whole.accepted left.accepted h.accepted (ordered whole.accepted 0 b) long left.runs c there
 
-  last-clocks : last_clock whole.runs ≡ b + last_clock left.runs
+  pub last-clocks : last_clock whole.runs ≡ b + last_clock left.runs
   last-clocks = ap last_clock h.runs ∙ last-whole b whole.accepted left.accepted h.accepted (ordered whole.accepted 0 b) long left.runs h.some_copy
 
 module _ {W : Type 0} (rules : Rules W) (b : ℕ) (whole left : MirrorState W) (h : IsLeft rules b whole left)
@@ -315,8 +289,8 @@ module _ {W : Type 0} (rules : Rules W) (b : ℕ) (whole left : MirrorState W) (
       IsLeft rules b (next whole Tick) (next left Tick) × (said whole Tick ≡ later_reply b (said left Tick))
   unfolding later_reply
   tick-left-over =
-      let w = ticked whole before in
-      let l = ticked left before_left in (
+      let w = tick_moved whole (not-over whole before) in
+      let l = tick_moved left (not-over left before_left) in (
         rw (w.0, l.0) (record {
           some_copy = h.some_copy;
           opening = h.opening;
@@ -367,12 +341,12 @@ module _ {W : Type 0} (rules : Rules W) (b : ℕ) (whole left : MirrorState W) (
   step-left-over c there =
       elim (is_idle left c) as (λ v. is_idle left c ≡ v → IsLeft rules b (next whole (Step c)) (next left (Step c)) × (said whole (Step c) ≡ later_reply b (said left (Step c)))) [
         | true ↦ λ e.
-            let w = idle whole c (same-idle c there ∙ e) in
-            let l = idle left c e in
+            let w = step_idle whole c (same-idle c there ∙ e) in
+            let l = step_idle left c e in
             (rw (w.0, l.0) h, rw (w.1, l.1) refl)
         | false ↦ λ e.
-            let w = stepped whole c (same-idle c there ∙ e) in
-            let l = stepped left c e in
+            let w = step_ran whole c (same-idle c there ∙ e) in
+            let l = step_ran left c e in
             let settled =
             ap (settle whole.accepted) (steps-whole c there)
             ∙ settle-whole b whole.accepted left.accepted h.accepted (ordered whole.accepted 0 b) (long rules b whole left h) (proposed_by_step left.accepted left.runs c) in
@@ -455,15 +429,15 @@ module _ {W : Type 0} (rules : Rules W) (b : ℕ) (whole left : MirrorState W) (
         elim (is_repeat left x) as (λ v. is_repeat left x ≡ v
         → IsLeft rules b (next whole (Arrive (later b x))) (next left (Arrive x)) × (said whole (Arrive (later b x)) ≡ later_reply b (said left (Arrive x)))) [
           | true ↦ λ e.
-              let w = again whole (later b x) (same-repeat ∙ e) in
-              let l = again left x e in
+              let w = arrive_repeat whole (later b x) (same-repeat ∙ e) in
+              let l = arrive_repeat left x e in
               (rw (w.0, l.0) h, rw (w.1, l.1) refl)
           | false ↦ λ e.
               elim (is_late left x) as (λ v. is_late left x ≡ v
               → IsLeft rules b (next whole (Arrive (later b x))) (next left (Arrive x)) × (said whole (Arrive (later b x)) ≡ later_reply b (said left (Arrive x)))) [
                 | true ↦ λ old.
-                    let w = turned_away_late whole (later b x) (same-repeat ∙ e) (same-late ∙ old) in
-                    let l = turned_away_late left x e old in
+                    let w = arrive_late whole (later b x) (same-repeat ∙ e) (same-late ∙ old) in
+                    let l = arrive_late left x e old in
                     let bound : last_clock whole.runs ≡ last_clock left.runs + b = (last-clocks rules b whole left h) ∙ omega arith in (
                       rw (w.0, l.0) (record {
                         some_copy = h.some_copy;
@@ -477,8 +451,8 @@ module _ {W : Type 0} (rules : Rules W) (b : ℕ) (whole left : MirrorState W) (
                       rw (w.1, l.1) (ap (λ (n : ℕ). ToArrive (Late n)) bound),
                     )
                 | false ↦ λ due.
-                    let w = let_in whole (later b x) (same-repeat ∙ e) (same-late ∙ due) in
-                    let l = let_in left x e due in
+                    let w = arrive_taken whole (later b x) (same-repeat ∙ e) (same-late ∙ due) in
+                    let l = arrive_taken left x e due in
                     (rw (w.0, l.0) taken-left, rw (w.1, l.1) (ap (λ (n : ℕ). ToArrive (Taken n)) taken-count))
               ]
               refl

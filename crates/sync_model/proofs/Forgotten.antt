@@ -4,6 +4,7 @@ use Rattle.std.proofs.Common.{List, [], ◌∷◌, ◌++◌, map, filter, length
 use Rattle.std.specs.List.{AllByRecursion}
 use Rattle.std.proofs.lemmas.Bool.Decides.{nat_tests}
 use Rattle.std.proofs.lemmas.List.{map-append, length-map}
+use Rattle.std.proofs.Math.Seq.{drop-append_seam}
 use Rattle.game_trait.specs.declared.command.Command.{Command}
 use Rattle.game_trait.specs.declared.command.Item.{Item}
 use Rattle.game_trait.specs.declared.command.Item.TheVariants.{Cmd, Beat}
@@ -18,7 +19,8 @@ use Rattle.sync_model.specs.Lists.{last_of}
 use Rattle.sync_model.specs.State.{MirrorState, last_clock}
 use Rattle.sync_model.specs.Staggered.{IsAhead, IsChained, IsComplete, IsTrailing}
 use Rattle.game_trait.specs.Later.{AreTimeBlind, later, earlier, later_item, earlier_item}
-use Rattle.sync_model.specs.Forgetting.{whole_run, IsLeft, forgotten}
+use Rattle.sync_model.specs.Forgetting.{whole_run, IsLeft, left_run, forgotten}
+use Rattle.game_trait.proofs.Later.{beats-earlier}
 use Rattle.sync_model.proofs.Forgetting.{filter-through, map-get, ordered-left}
 
 -- ---- worlds
@@ -170,9 +172,16 @@ commands-on b k (x ∷ xs) =
     ]
     refl)
 
-drop-front : {X : Type 0} (xs ys : List X) → drop (length xs) (xs ++ ys) ≡ ys
-drop-front [] ys = refl
-drop-front (x ∷ xs) ys = drop-front xs ys
+-- a run that begins with the last one, and what is left of it
+pub left-of : (k : ℕ) (last run : List Item) (begins : IsPrefix last run) → left_run k (length last) run ≡ map (earlier_item k) begins.0
+left-of k last run begins =
+    ap (map (earlier_item k)) (ap (drop (length last)) begins.1 ∙ drop-append_seam last begins.0)
+
+pub beats-left : (k : ℕ) (last run : List Item) → IsPrefix last run → beats run ≡ beats last + beats (left_run k (length last) run)
+beats-left k last run begins =
+    let parts : beats run ≡ beats last + beats begins.0 = ap beats begins.1 ∙ beats-append last begins.0 in
+    let same : beats (left_run k (length last) run) ≡ beats begins.0 = ap beats (left-of k last run begins) ∙ beats-earlier k begins.0 in
+    omega arith
 
 -- a run that begins with the last one, with that forgotten too
 run-on :
@@ -180,7 +189,7 @@ run-on :
     → whole_run front b run ≡ whole_run (whole_run front b last) (b + beats last) (map (earlier_item (beats last)) (drop (length last) run))
 run-on accepted front last b run complete_last complete begins =
     let rest = begins.0 in
-    let cut : drop (length last) run ≡ rest = ap (drop (length last)) begins.1 ∙ drop-front last rest in
+    let cut : drop (length last) run ≡ rest = ap (drop (length last)) begins.1 ∙ drop-append_seam last rest in
     ap (whole_run front b) begins.1
     ∙ ap (λ (l : List Item). front ++ l) (map-append (later_item b) last rest)
     ∙ sym (append_assoc front (map (later_item b) last) (map (later_item b) rest))

@@ -4,6 +4,9 @@ pub mod Lists
 pub mod Trailing
 pub mod Staggered
 pub mod Cases
+pub mod Answered
+pub mod Limits
+pub mod Plans
 mod Clocks
 pub mod Along
 pub mod Drain

@@ -30,12 +30,12 @@ greatest-most (delays ∷ plans) zero = omega arith
 greatest-most (delays ∷ plans) (suc p) = (let rest = greatest-most plans p in omega arith)
 
 -- what bounds the clocks of runs bounds those of runs with the same clocks
-same-clocks : (n : ℕ) (old new : List (List Item)) → map beats new ≡ map beats old → AllByRecursion (λ run. beats run ≤ n) old → AllByRecursion (λ run. beats run ≤ n) new
+pub same-clocks : (n : ℕ) (old new : List (List Item)) → map beats new ≡ map beats old → AllByRecursion (λ run. beats run ≤ n) old → AllByRecursion (λ run. beats run ≤ n) new
 same-clocks n old new same h =
     all-from_map (λ k. k ≤ n) beats new (subst (AllByRecursion (λ k. k ≤ n)) (sym same) (all-to_map (λ k. k ≤ n) beats old h))
 
 -- and with one clock of another value
-one-clock :
+pub one-clock :
     (n : ℕ) (old new : List (List Item)) (c k : ℕ) → map beats new ≡ set (map beats old) c k → k ≤ n
     → AllByRecursion (λ run. beats run ≤ n) old → AllByRecursion (λ run. beats run ≤ n) new
 one-clock n old new c k same most h =

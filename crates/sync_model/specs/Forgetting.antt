@@ -1,7 +1,6 @@
 -- A mirror that has forgotten what lies behind its last copy, beside one that remembers all.
 use Rattle.std.specs.Prelude.{◌≡◌, ℕ, ◌+◌, ◌-◌, ◌<◌, false, nat_le, nat_lt, List, [], ◌++◌, map, filter, drop, length}
 use Rattle.std.specs.List.{list_any}
-use Rattle.game_trait.specs.declared.command.Command.{Command}
 use Rattle.game_trait.specs.declared.command.Item.{Item}
 use Rattle.game_trait.specs.declared.event.Event.{Event}
 use Rattle.game_trait.specs.declared.event.Event.TheVariants.{Tick, Arrive, Step, Restagger}
@@ -11,7 +10,7 @@ use Rattle.game_trait.specs.Run.{world_of}
 use Rattle.game_trait.specs.Ordered.{ordered}
 use Rattle.sync_model.specs.Lists.{last_of}
 use Rattle.sync_model.specs.State.{MirrorState, last_clock}
-use Rattle.game_trait.specs.Later.{later, earlier, later_item, earlier_item}
+use Rattle.game_trait.specs.Later.{later, left_commands, later_item, earlier_item}
 
 -- a run whose front was forgotten, whole again
 abbrev pub whole_run : List Item → ℕ → List Item → List Item
@@ -37,11 +36,7 @@ IsRemembered b whole Tick = Unit {0}
 IsRemembered b whole (Step c) = c < length whole.runs
 IsRemembered b whole (Restagger p) = Unit {0}
 
--- the commands that are due after so many ticks, and what stands behind the first n items of a run,
--- their times told from these ticks on
-abbrev pub left_commands : ℕ → List Command → List Command
-left_commands b accepted = map (earlier b) (filter (λ x. nat_le b x.time) accepted)
-
+-- what stands behind the first n items of a run, their times told from b ticks on
 abbrev pub left_run : ℕ → ℕ → List Item → List Item
 left_run b n run = map (earlier_item b) (drop n run)
 

@@ -1,6 +1,6 @@
 -- Copies that forget the last one's run.
-use Rattle.std.proofs.Common.{◌≡◌, refl, ◌∙◌, ap, sym, subst, ℕ, zero, suc, ◌+◌, ◌-◌, ◌≤◌, ◌<◌, true, false, cond, leb}
-use Rattle.std.proofs.Common.{List, [], ◌∷◌, map, filter, take, drop, length, get_or, arith}
+use Rattle.std.proofs.Common.{◌≡◌, refl, ◌∙◌, ap, sym, subst, ℕ, zero, suc, ◌+◌, ◌-◌, ◌≤◌, ◌<◌}
+use Rattle.std.proofs.Common.{List, [], ◌∷◌, map, take, drop, length, get_or, arith}
 use Rattle.std.specs.List.{AllByRecursion}
 use Rattle.std.proofs.lemmas.List.{get_or-map, length-map, length-drop, length-take-le, take-map, drop-map}
 use Rattle.std.proofs.Math.Seq.{drop-nil, take-nil}
@@ -10,22 +10,22 @@ use Rattle.game_trait.specs.declared.command.Item.TheVariants.{Cmd, Beat}
 use Rattle.game_trait.specs.Game.{Rules}
 use Rattle.game_trait.specs.Run.{beats, world_of, IsPrefix}
 use Rattle.game_trait.specs.Ordered.{ordered}
-use Rattle.game_trait.specs.Later.{AreTimeBlind, earlier, earlier_item}
-use Rattle.game_trait.proofs.Later.{earlier-later}
+use Rattle.game_trait.specs.Later.{AreTimeBlind, left_commands, earlier_item}
+use Rattle.game_trait.proofs.Later.{left-fewer, earlier-later}
 use Rattle.game_trait.proofs.Runs.{world_of-append}
 use Rattle.game_trait.proofs.Lists.{all-at, all-to_map, all-both}
 use Rattle.sync_model.specs.Lists.{last_of}
 use Rattle.sync_model.specs.State.{last_clock}
 use Rattle.sync_model.specs.Staggered.{IsTrailing}
-use Rattle.sync_model.specs.Forgetting.{left_commands, left_run}
+use Rattle.sync_model.specs.Forgetting.{left_run}
 use Rattle.sync_model.proofs.Lists.{last_of-at}
 use Rattle.sync_model.proofs.Forgetting.{ordered-left}
-use Rattle.sync_model.proofs.Forgotten.{all-begin}
+use Rattle.sync_model.proofs.Forgotten.{all-begin, left-of, beats-left}
 use Rattle.executed_list.specs.Segments.{OneList, Falls, end_of, last_end, runs_at, clocks_at, run_forgotten}
 use Rattle.trailing_copy.specs.Stack.{IsStack, IsSettled, LazyCopies, forgotten_copies}
 use Rattle.trailing_copy.proofs.Ahead.{falls-between}
 use Rattle.trailing_copy.proofs.Remade.{run-many, clock-at, run-at, world-at, end-inside}
-use Rattle.trailing_copy.proofs.Left.{commands-back, left-of, beats-left, trailing-left}
+use Rattle.trailing_copy.proofs.Left.{commands-back, trailing-left}
 use Rattle.trailing_copy.proofs.OwnClocks.{within-kept, kept-own}
 use Rattle.trailing_copy.proofs.Steps.{same-state}
 
@@ -54,14 +54,6 @@ runs-left k n items (e ∷ es) =
     ap (λ (l : List Item). l ∷ runs_at (map (earlier_item k) (drop n items)) (map (λ d. d - n) es))
     (take-map (earlier_item k) (e - n) (drop n items) ∙ sym (ap (map (earlier_item k)) (drop-take n e items)))
     ∙ ap (λ (l : List (List Item)). left_run k n (take e items) ∷ l) (runs-left k n items es)
-
--- no more commands are left than there were
-few-left : (k : ℕ) (all : List Command) → length (left_commands k all) ≤ length all
-few-left k [] = omega arith
-few-left k (x ∷ xs) =
-    (let more = few-left k xs in
-    elim (leb k x.time) as (λ v. length (map (earlier k) (cond v (x ∷ filter (λ y. leb k y.time) xs) (filter (λ y. leb k y.time) xs))) ≤ length (x ∷ xs))
-    [ true ↦ omega arith | false ↦ omega arith ])
 
 -- the last of some elements is at their last place
 last-read : {X : Type 0} (xs : List X) (d : X) → 0 < length xs → last_of d xs ≡ get_or xs (length xs - 1) d
@@ -200,7 +192,7 @@ module _ {W : Type 0} {rules : Rules W} {opening : W} {ticks : ℕ} {all : List 
       let few_stale = h.few_stale in
       let worlds_many = h.as_many_worlds in
       let room = h.room in
-      let fewer = few-left k all in
+      let fewer = left-fewer k all in
       record {
         trailing = subst (IsTrailing (left_commands k all)) (sym forgotten-runs) (trailing-left all runs (omega arith) h.trailing);
         clocks_are = ap (map beats) (sym forgotten-runs);

@@ -1,33 +1,27 @@
 -- What is left of commands and runs where the last copy's run is forgotten is trailing as they were.
-use Rattle.std.proofs.Common.{◌≡◌, refl, ◌∙◌, ap, sym, subst, ℕ, zero, ◌+◌, ◌-◌, ◌≤◌, ◌<◌, Bool, true, false, cond, ◌&&◌, leb, ltb}
+use Rattle.std.proofs.Common.{◌≡◌, refl, ◌∙◌, ap, sym, subst, ℕ, zero, ◌+◌, ◌≤◌, ◌<◌, Bool, true, false, cond, ◌&&◌, leb, ltb}
 use Rattle.std.proofs.Common.{List, [], ◌∷◌, ◌++◌, map, filter, drop, length, arith, length-append}
 use Rattle.std.specs.List.{AllByRecursion}
 use Rattle.std.proofs.lemmas.Bool.Decides.{nat_tests}
 use Rattle.std.proofs.lemmas.List.{map-append, drop-append-le, drop_all}
-use Rattle.std.proofs.Math.Seq.{drop-append_seam}
 use Rattle.game_trait.specs.declared.command.Command.{Command}
 use Rattle.game_trait.specs.declared.command.Item.{Item}
 use Rattle.game_trait.specs.declared.command.Item.TheVariants.{Cmd, Beat}
 use Rattle.game_trait.specs.Count.{times}
 use Rattle.game_trait.specs.Run.{beats, commands_of, IsPrefix}
 use Rattle.game_trait.specs.Ordered.{ordered, ticks}
-use Rattle.game_trait.specs.Later.{later, earlier, later_item, earlier_item}
+use Rattle.game_trait.specs.Later.{later, earlier, left_commands, later_item, earlier_item}
+use Rattle.game_trait.proofs.Later.{command-earlier-later, command-later-earlier}
 use Rattle.game_trait.proofs.Counts.{times-append, times-agree, times-filter}
-use Rattle.game_trait.proofs.Runs.{beats-append, commands_of-append}
+use Rattle.game_trait.proofs.Runs.{commands_of-append}
 use Rattle.sync_model.specs.Lists.{last_of}
 use Rattle.sync_model.specs.State.{last_clock}
 use Rattle.sync_model.specs.Staggered.{IsAhead, IsChained, IsComplete, IsNeverEarly, IsTrailing}
-use Rattle.sync_model.specs.Forgetting.{left_commands, left_run}
+use Rattle.sync_model.specs.Forgetting.{left_run}
 use Rattle.sync_model.proofs.Lists.{last-map}
-use Rattle.sync_model.proofs.Forgotten.{all-begin, last-all, behind-the-last}
+use Rattle.sync_model.proofs.Forgotten.{all-begin, last-all, behind-the-last, left-of, beats-left}
 
 -- ---- times told from tick k on, and back
-
-time-back : (k : ℕ) (x : Command) → k ≤ x.time → later k (earlier k x) ≡ x
-time-back k x due = (let e : (x.time - k) + k ≡ x.time = omega arith in ap (λ (t : ℕ). record x { time = t }) e)
-
-time-there : (k : ℕ) (x : Command) → earlier k (later k x) ≡ x
-time-there k x = (let e : (x.time + k) - k ≡ x.time = omega arith in ap (λ (t : ℕ). record x { time = t }) e)
 
 pub commands-back : (k : ℕ) (all : List Command) → filter (λ x. leb k x.time) all ≡ map (later k) (left_commands k all)
 commands-back k [] = refl
@@ -35,7 +29,7 @@ commands-back k (x ∷ xs) =
     elim (leb k x.time) as (λ v. leb k x.time ≡ v → cond v (x ∷ filter (λ y. leb k y.time) xs) (filter (λ y. leb k y.time) xs)
     ≡ map (later k) (map (earlier k) (cond v (x ∷ filter (λ y. leb k y.time) xs) (filter (λ y. leb k y.time) xs)))) [
       | true ↦ λ due.
-          ap (λ (y : Command). y ∷ filter (λ z. leb k z.time) xs) (sym (time-back k x (grind (arith, nat_tests))))
+          ap (λ (y : Command). y ∷ filter (λ z. leb k z.time) xs) (sym (command-later-earlier k x (grind (arith, nat_tests))))
           ∙ ap (λ (l : List Command). later k (earlier k x) ∷ l) (commands-back k xs)
       | false ↦ λ old. commands-back k xs
     ]
@@ -47,15 +41,9 @@ items-back :
 unfolding later_item earlier_item commands_of
 items-back k [] due = refl
 items-back k (Cmd x ∷ rest) due =
-    ap (λ (y : Command). Cmd y ∷ map (later_item k) (map (earlier_item k) rest)) (time-back k x due.0)
+    ap (λ (y : Command). Cmd y ∷ map (later_item k) (map (earlier_item k) rest)) (command-later-earlier k x due.0)
     ∙ ap (λ (l : List Item). Cmd x ∷ l) (items-back k rest due.1)
 items-back k (Beat ∷ rest) due = ap (λ (l : List Item). Beat ∷ l) (items-back k rest due)
-
-pub beats-earlier : (k : ℕ) (run : List Item) → beats (map (earlier_item k) run) ≡ beats run
-unfolding beats earlier_item
-beats-earlier k [] = refl
-beats-earlier k (Cmd x ∷ run) = beats-earlier k run
-beats-earlier k (Beat ∷ run) = ap (λ (n : ℕ). n + 1) (beats-earlier k run)
 
 commands_of-later : (k : ℕ) (run : List Item) → commands_of (map (later_item k) run) ≡ map (later k) (commands_of run)
 unfolding commands_of later_item
@@ -77,17 +65,6 @@ times-never (x ∷ xs) = omega (arith, times-never xs)
 
 -- ---- one run
 
--- a run that begins with the last one, and what is left of it
-pub left-of : (k : ℕ) (last run : List Item) (begins : IsPrefix last run) → left_run k (length last) run ≡ map (earlier_item k) begins.0
-left-of k last run begins =
-    ap (map (earlier_item k)) (ap (drop (length last)) begins.1 ∙ drop-append_seam last begins.0)
-
-pub beats-left : (k : ℕ) (last run : List Item) → IsPrefix last run → beats run ≡ beats last + beats (left_run k (length last) run)
-beats-left k last run begins =
-    let parts : beats run ≡ beats last + beats begins.0 = ap beats begins.1 ∙ beats-append last begins.0 in
-    let same : beats (left_run k (length last) run) ≡ beats begins.0 = ap beats (left-of k last run begins) ∙ beats-earlier k begins.0 in
-    omega arith
-
 prefix-left : (k n : ℕ) (p q : List Item) → n ≤ length q → IsPrefix q p → IsPrefix (left_run k n q) (left_run k n p)
 prefix-left k n p q inside h = (
   map (earlier_item k) h.0,
@@ -108,7 +85,7 @@ module _ (accepted : List Command) (last : List Item) (front : IsComplete accept
   told-later test x =
       let passed : leb (beats last) (x.time + beats last) ≡ true = grind (arith, nat_tests) in
       ap (λ (v : Bool). v && test (earlier (beats last) (later (beats last) x))) passed
-      ∙ ap test (time-there (beats last) x)
+      ∙ ap test (command-earlier-later (beats last) x)
 
   in-rest : (test : Command → Bool) → times test (commands_of (left_run (beats last) (length last) run)) ≡ times (told test) (commands_of begins.0)
   in-rest test =
@@ -151,7 +128,7 @@ module _ (accepted : List Command) (last : List Item) (front : IsComplete accept
       ∙ times-map old (later k) (left_commands k accepted)
       ∙ times-agree (λ x. old (later k x)) (λ x. test x && ltb x.time clock) (left_commands k accepted)
       (λ x. (let same : ltb (x.time + k) (beats run) ≡ ltb x.time clock = grind (arith, nat_tests) in
-      ap (λ (y : Command). test y && ltb (x.time + k) (beats run)) (time-there k x) ∙ ap (λ (v : Bool). test x && v) same))
+      ap (λ (y : Command). test y && ltb (x.time + k) (beats run)) (command-earlier-later k x) ∙ ap (λ (v : Bool). test x && v) same))
 
 -- no command stands before its time
 early-rest : (n : ℕ) (front rest : List Item) → IsNeverEarly n (front ++ rest) → IsNeverEarly (n + beats front) rest

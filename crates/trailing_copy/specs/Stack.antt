@@ -11,7 +11,8 @@ use Rattle.game_trait.specs.Ordered.{ordered}
 use Rattle.sync_model.specs.Lists.{last_of}
 use Rattle.sync_model.specs.State.{last_clock}
 use Rattle.sync_model.specs.Staggered.{IsTrailing}
-use Rattle.sync_model.specs.Forgetting.{left_commands, left_run}
+use Rattle.game_trait.specs.Later.{left_commands}
+use Rattle.sync_model.specs.Forgetting.{left_run}
 use Rattle.executed_list.specs.Segments.{OneList, runs_at, end_of}
 
 -- the opening world, the match's length in ticks, the accepted commands in order of acceptance, the

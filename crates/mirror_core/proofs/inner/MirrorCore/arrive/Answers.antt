@@ -3,7 +3,7 @@ use Rattle.std.specs.List.{list_any}
 use Rattle.game_trait.specs.Keys.{same_name}
 use Rattle.game_trait.specs.NameTree.{has_name}
 use Rattle.game_trait.proofs.CommandLists.{not-so, is-so}
-use Rattle.mirror_core.proofs.Answered.{arrive_repeat, arrive_taken}
+use Rattle.sync_model.proofs.Answered.{arrive_repeat, arrive_taken}
 use Rattle.mirror_core.proofs.Calls.{on-time, has-push}
 use Rattle.mirror_core.proofs.Kept.{kept_taken, small-numbers}
 use Rattle.mirror_core.proofs.inner.MirrorCore.arrive.Goals as goal

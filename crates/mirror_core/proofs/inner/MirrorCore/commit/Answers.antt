@@ -1,6 +1,7 @@
 use Rattle.std.proofs.Common.{◌∙◌, sym, eqb, ltb, ◌||◌, arith}
 use Rattle.mirror_core.proofs.Renewed.{renewed-as}
-use Rattle.mirror_core.proofs.Calls.{below-end, behind-ahead, commit-runs, committed-ran}
+use Rattle.sync_model.proofs.Limits.{below-end, behind-ahead}
+use Rattle.mirror_core.proofs.Calls.{commit-runs, committed-ran}
 use Rattle.mirror_core.proofs.Kept.{kept_ran, note-ran, small-numbers}
 use Rattle.mirror_core.proofs.inner.MirrorCore.commit.Goals as goal
 
@@ -10,7 +11,7 @@ commit_tick-repaired-requires-clause-below g c =
     commit-runs c.self.invariant g.G.Game.rules c.args.r.now c.copy-copy.result c.epoch.result
     c.of-now.result (rw (← c.self.view_is) at c.requires) c.copy-copy.ensures c.epoch.ensures
     c.of-now.ensures c.if-epoch-now.false in
-    below-end c.self.invariant c.copy-copy.result more
+    below-end _ c.copy-copy.result more
 
 pub commit_tick-repaired-requires-clause-behind : goal.commit_tick-repaired-requires-clause-behind
 commit_tick-repaired-requires-clause-behind g c =
@@ -18,7 +19,7 @@ commit_tick-repaired-requires-clause-behind g c =
     commit-runs c.self.invariant g.G.Game.rules c.args.r.now c.copy-copy.result c.epoch.result
     c.of-now.result (rw (← c.self.view_is) at c.requires) c.copy-copy.ensures c.epoch.ensures
     c.of-now.ensures c.if-epoch-now.false in
-    behind-ahead c.self.invariant c.copy-copy.result more
+    behind-ahead _ c.copy-copy.result more
 
 pub renew_stepped-requires : goal.renew_stepped-requires
 renew_stepped-requires g c = small-numbers c.self.invariant

@@ -1,4 +1,4 @@
-use Rattle.mirror_core.proofs.Calls.{limit-first, limit-behind}
+use Rattle.sync_model.proofs.Limits.{limit-first, limit-behind}
 use Rattle.mirror_core.proofs.inner.MirrorCore.limit.Goals as goal
 
 pub returns-then-copy-eq0 : goal.returns-then-copy-eq0

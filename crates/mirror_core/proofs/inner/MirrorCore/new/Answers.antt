@@ -2,7 +2,7 @@ use Rattle.std.proofs.Common.{◌≡◌, ◌∙◌, ap, sym, refl, length, arith
 use Rattle.sync_model.specs.Schedule.{Schedule}
 use Rattle.sync_model.specs.State.{MirrorState}
 use Rattle.mirror_core.specs.Kept.{ticks_of_first, copies_of_first}
-use Rattle.mirror_core.proofs.PlanLaws.{first-ticks, first-copies}
+use Rattle.sync_model.proofs.Plans.{first-ticks, first-copies}
 use Rattle.mirror_core.proofs.Opened.{kept_opened, opened_state}
 use Rattle.mirror_core.proofs.inner.MirrorCore.new.Goals as goal
 

@@ -1,5 +1,5 @@
 use Rattle.std.proofs.Common.{sym}
-use Rattle.mirror_core.proofs.Answered.{restagger_one}
+use Rattle.sync_model.proofs.Answered.{restagger_one}
 use Rattle.mirror_core.proofs.Kept.{kept_restaggered, small-numbers}
 use Rattle.mirror_core.proofs.inner.MirrorCore.restagger.Goals as goal
 

@@ -1,6 +1,6 @@
 use Rattle.std.proofs.Common.{◌≡◌, true, false, sym, arith}
 use Rattle.sync_model.specs.Schedule.{is_at_end}
-use Rattle.mirror_core.proofs.Answered.{tick_over, tick_moved}
+use Rattle.sync_model.proofs.Answered.{tick_over, tick_moved}
 use Rattle.mirror_core.proofs.Calls.{clock-fits, note-moved}
 use Rattle.mirror_core.proofs.Kept.{kept_moved}
 use Rattle.mirror_core.proofs.inner.MirrorCore.tick.Goals as goal

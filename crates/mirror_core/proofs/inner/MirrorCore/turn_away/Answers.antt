@@ -3,7 +3,7 @@ use Rattle.std.specs.List.{list_any}
 use Rattle.game_trait.specs.Keys.{same_name}
 use Rattle.game_trait.specs.declared.event.Reply.TheVariants.{Arrive as ToArrive}
 use Rattle.game_trait.specs.declared.event.Arrived.TheVariants.{Late}
-use Rattle.mirror_core.proofs.Answered.{arrive_repeat, arrive_late}
+use Rattle.sync_model.proofs.Answered.{arrive_repeat, arrive_late}
 use Rattle.mirror_core.proofs.Calls.{late-at}
 use Rattle.mirror_core.proofs.Kept.{kept_away}
 use Rattle.mirror_core.proofs.inner.MirrorCore.turn_away.Goals as goal

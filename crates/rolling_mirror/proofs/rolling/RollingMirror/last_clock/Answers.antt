@@ -1,5 +1,5 @@
 use Rattle.std.proofs.Common.{◌∙◌}
-use Rattle.rolling_mirror.proofs.Limits.{last-is}
+use Rattle.sync_model.proofs.Limits.{last-is}
 use Rattle.rolling_mirror.proofs.rolling.RollingMirror.last_clock.Goals as goal
 
 pub returns-clause-clock : goal.returns-clause-clock

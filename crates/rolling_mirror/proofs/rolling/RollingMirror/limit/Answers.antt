@@ -1,4 +1,4 @@
-use Rattle.rolling_mirror.proofs.Limits.{limit-first, limit-behind}
+use Rattle.sync_model.proofs.Limits.{limit-first, limit-behind}
 use Rattle.rolling_mirror.proofs.rolling.RollingMirror.limit.Goals as goal
 
 pub returns-then-copy-eq0 : goal.returns-then-copy-eq0

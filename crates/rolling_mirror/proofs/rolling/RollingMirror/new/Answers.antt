@@ -2,7 +2,8 @@ use Rattle.std.proofs.Common.{◌≡◌, ◌∙◌, ap, sym, subst, length, arit
 use Rattle.sync_model.specs.Schedule.{Schedule, ticks_of_first, copies_of_first, delays_of_each}
 use Rattle.sync_model.specs.State.{opening_state}
 use Rattle.rolling_mirror.specs.Rolling.{IsWindowOf}
-use Rattle.rolling_mirror.proofs.Opened.{first-ticks, first-copies, opened-is, opened-copies, rolling-opened}
+use Rattle.sync_model.proofs.Plans.{first-ticks, first-copies}
+use Rattle.rolling_mirror.proofs.Opened.{opened-is, opened-copies, rolling-opened}
 use Rattle.rolling_mirror.proofs.Windows.{opening-window}
 use Rattle.rolling_mirror.proofs.rolling.RollingMirror.new.Goals as goal
 

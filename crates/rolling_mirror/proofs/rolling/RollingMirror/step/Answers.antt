@@ -1,6 +1,6 @@
 use Rattle.std.proofs.Common.{sym}
 use Rattle.rolling_mirror.proofs.Kept.{rolling-ran, within-of}
-use Rattle.rolling_mirror.proofs.Limits.{idle-at, runs-on, behind-ahead}
+use Rattle.sync_model.proofs.Limits.{idle-at, runs-on, behind-ahead}
 use Rattle.rolling_mirror.proofs.Windows.{after-idle, said-idle, after-step, said-step, step-window}
 use Rattle.rolling_mirror.proofs.rolling.RollingMirror.step.Goals as goal
 
