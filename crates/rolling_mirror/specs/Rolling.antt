@@ -11,11 +11,13 @@ use Rattle.game_trait.specs.declared.event.Ticked.{Ticked}
 use Rattle.game_trait.specs.declared.event.Ticked.TheVariants.{Moved, Over}
 use Rattle.game_trait.specs.Game.{Rules}
 use Rattle.game_trait.specs.Later.{earlier, left_commands}
+use Rattle.sync_model.specs.Schedule.{Schedule, delays_of_each}
 use Rattle.sync_model.specs.State.{MirrorState, last_clock}
 use Rattle.sync_model.specs.Settle.{repaired}
 use Rattle.sync_model.specs.Change.{next, said, is_repeat, proposed_by_arrival}
 use Rattle.sync_model.specs.Turns.{steps_from}
 use Rattle.sync_model.specs.Forgetting.{IsLeft, forgotten}
+use Rattle.trailing_copy.specs.Stack.{LazyCopies}
 use Rattle.rolling_mirror.specs.declared.arrival.Arrival.{Arrival}
 use Rattle.rolling_mirror.specs.declared.arrival.Arrival.TheVariants.{Taken, Repeat, Late, Far, Full}
 
@@ -30,6 +32,29 @@ pub record RollState (W : Type 0) : Type 0 where
   pub spare : ℕ
   -- how many ticks of the window the last copy runs before a tick forgets
   pub keep : ℕ
+
+-- a mirror of these parts: its base, its copies, its plans and which is in force, its clock, and how
+-- many ticks it keeps
+abbrev pub rolling_view :
+    {W : Type 0} → ℕ → LazyCopies W → List Schedule → ℕ → ℕ → ℕ → RollState W
+rolling_view base stack plans plan clock keep = record {
+  base = base;
+  left = record {
+    opening = stack.opening;
+    length = stack.ticks;
+    plans = delays_of_each plans;
+    plan = plan;
+    clock = clock;
+    accepted = stack.accepted;
+    turned = [];
+    runs = stack.runs;
+    history = [];
+    spare = 0;
+    plan_spare = 0;
+  };
+  spare = stack.spare;
+  keep = keep;
+}
 
 -- a mirror remembers the whole session, and this is what is left of it
 abbrev pub IsWindowOf : {W : Type 0} → Rules W → MirrorState W → RollState W → Type 0

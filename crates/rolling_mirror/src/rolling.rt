@@ -44,53 +44,16 @@ pub struct RollingMirror<G: TimeBlind> {
 }
 
 impl<G: TimeBlind> Model for RollingMirror<G> {
-    ghost use Rattle.std.specs.Prelude.{[]};
-    ghost use Rattle.sync_model.specs.Schedule.{delays_of_each};
-    ghost use Rattle.sync_model.specs.State.{MirrorState};
-    ghost use Rattle.rolling_mirror.specs.Rolling.{RollState};
+    ghost use Rattle.rolling_mirror.specs.Rolling.{RollState, rolling_view};
     ghost use Rattle.rolling_mirror.specs.Kept.{IsRolling};
 
     ghost Value = { RollState G };
 
-    ghost view = { λ m. record {
-      base = m.base;
-      left = record {
-        opening = m.stack.opening;
-        length = m.stack.ticks;
-        plans = delays_of_each m.plans.items;
-        plan = m.plan;
-        clock = m.clock;
-        accepted = m.stack.accepted;
-        turned = [];
-        runs = m.stack.runs;
-        history = [];
-        spare = 0;
-        plan_spare = 0;
-      };
-      spare = m.stack.spare;
-      keep = m.keep;
-    } };
+    ghost view = { λ m. rolling_view m.base m.stack m.plans.items m.plan m.clock m.keep };
 
     ghost invariant = { λ m.
-        let r : RollState G = record {
-          base = m.base;
-          left = record {
-            opening = m.stack.opening;
-            length = m.stack.ticks;
-            plans = delays_of_each m.plans.items;
-            plan = m.plan;
-            clock = m.clock;
-            accepted = m.stack.accepted;
-            turned = [];
-            runs = m.stack.runs;
-            history = [];
-            spare = 0;
-            plan_spare = 0;
-          };
-          spare = m.stack.spare;
-          keep = m.keep;
-        } in
-        IsRolling r m.plans.items m.names };
+        IsRolling (rolling_view m.base m.stack m.plans.items m.plan m.clock m.keep) m.plans.items
+        m.names };
 }
 
 impl<G: TimeBlind> RollingMirror<G> {
