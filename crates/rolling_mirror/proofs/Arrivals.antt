@@ -10,7 +10,7 @@ use Rattle.game_trait.specs.declared.event.Event.TheVariants.{Arrive}
 use Rattle.game_trait.specs.declared.event.Arrived.TheVariants.{Late as AsLate}
 use Rattle.game_trait.specs.declared.event.Reply.TheVariants.{Arrive as ToArrive}
 use Rattle.game_trait.specs.Game.{Rules}
-use Rattle.game_trait.specs.CommandList.{name_of}
+use Rattle.game_trait.specs.CommandList.{name_of, has_command}
 use Rattle.game_trait.specs.NameTree.{has_name}
 use Rattle.game_trait.proofs.CommandLists.{has-named}
 use Rattle.game_trait.specs.Keys.{same_name}
@@ -41,6 +41,13 @@ pub repeat-named :
 unfolding same_name
 repeat-named xs x names v are told =
     sym (told ∙ ap (λ (l : List (ℕ × ℕ)). has_name l x.from x.number) are ∙ has-named xs x.from x.number)
+
+-- a command of this mirror and number is remembered where its name is
+pub named-in :
+    (xs : List Command) (from number : ℕ) (names : List (ℕ × ℕ)) (v : Bool) → names ≡ map name_of xs
+    → v ≡ has_name names from number → v ≡ has_command xs from number
+named-in xs from number names v are told =
+    told ∙ ap (λ (l : List (ℕ × ℕ)). has_name l from number) are ∙ has-named xs from number
 
 -- ---- the answer, case by case
 

@@ -1,6 +1,6 @@
 -- Each event keeps what is always true.
-use Rattle.std.proofs.Common.{◌≡◌, refl, ◌∙◌, ap, sym, subst, ℕ, ◌+◌, ◌-◌, ◌^◌, ◌≤◌, ◌<◌, true, false, ◌&&◌, ◌||◌, eqb, leb, ltb}
-use Rattle.std.proofs.Common.{List, [], ◌∷◌, ◌++◌, map, length, get_or, arith, length-append}
+use Rattle.std.proofs.Common.{◌≡◌, refl, ◌∙◌, ap, sym, subst, ℕ, ◌+◌, ◌-◌, ◌^◌, ◌≤◌, ◌<◌, true, false, cond, ◌&&◌, ◌||◌, eqb, leb, ltb}
+use Rattle.std.proofs.Common.{List, [], ◌∷◌, ◌++◌, map, filter, length, get_or, arith, length-append}
 use Rattle.std.proofs.Math.ListN.{length-set}
 use Rattle.std.proofs.lemmas.Bool.Decides.{nat_tests}
 use Rattle.std.proofs.lemmas.List.{length-map, map-append}
@@ -10,9 +10,9 @@ use Rattle.game_trait.specs.declared.command.Command.{Command}
 use Rattle.game_trait.specs.CommandList.{name_of}
 use Rattle.game_trait.specs.NameTree.{NamesOfTree}
 use Rattle.game_trait.specs.Game.{Rules}
-use Rattle.game_trait.specs.Later.{left_commands}
+use Rattle.game_trait.specs.Later.{earlier, left_commands}
 use Rattle.game_trait.specs.Run.{beats, IsPrefix}
-use Rattle.game_trait.proofs.Lists.{all-to_map, all-both, all-weaker}
+use Rattle.game_trait.proofs.Lists.{all-to_map, all-both, all-weaker, all-push}
 use Rattle.game_trait.proofs.Later.{left-fewer}
 use Rattle.sync_model.specs.Lists.{last_of}
 use Rattle.sync_model.specs.Schedule.{Schedule}
@@ -37,6 +37,19 @@ same-plans s t plans h ticks copies there = record {
   copies_each = subst (λ (n : ℕ). AllByRecursion (λ plan. length plan.delays ≡ n) plans) (sym copies) h.copies_each;
   in_force = there;
 }
+
+-- what is left of the commands is due at the same ticks of the session
+due-later :
+    (b k : ℕ) (xs : List Command) → AllByRecursion (λ x. b + x.time < 2 ^ 32) xs
+    → AllByRecursion (λ x. (b + k) + x.time < 2 ^ 32) (left_commands k xs)
+due-later b k [] h = tt
+due-later b k (x ∷ xs) h =
+    let rest = due-later b k xs h.1 in
+    let fits = h.0 in
+    elim (leb k x.time) as (λ v. leb k x.time ≡ v → AllByRecursion (λ (y : Command). (b + k) + y.time < 2 ^ 32) (map (earlier k) (cond v (x ∷ filter (λ y. leb k y.time) xs) (filter (λ y. leb k y.time) xs)))) [
+      | true ↦ λ e. ((let at : k ≤ x.time = grind (arith, nat_tests) in omega arith), rest)
+      | false ↦ λ e. rest
+    ] refl
 
 -- what holds of the parts holds of the value
 pub within-of : {W : Type 0} {i r : RollState W} → i ≡ r → i.left.clock < i.left.length → r.left.clock < r.left.length
@@ -76,6 +89,7 @@ module _ {W : Type 0} {r : RollState W} {plans : List Schedule} {names : NamesOf
     within_window = within;
     behind_clock = all-weaker (λ run. beats run ≤ r.left.clock) (λ run. beats run ≤ r.left.clock + 1) r.left.runs (λ run b. omega arith) h.behind_clock;
     within_session = fits;
+    due_in_session = h.due_in_session;
     names_are = h.names_are;
     names_room = h.names_room;
     first_room = h.first_room;
@@ -117,6 +131,7 @@ module _ {W : Type 0} {r : RollState W} {plans : List Schedule} {names : NamesOf
         behind_clock =
             one-clock r.left.clock r.left.runs new c (copy_clock r.left.runs c + 1) (beats-step trailing c room.0) (omega arith) h.behind_clock;
         within_session = h.within_session;
+        due_in_session = h.due_in_session;
         names_are = h.names_are;
         names_room = h.names_room;
         first_room = h.first_room;
@@ -161,6 +176,7 @@ module _ {W : Type 0} {r : RollState W} {plans : List Schedule} {names : NamesOf
             (λ run upto begins. (let long = beats-left (beats last) last run begins in omega arith)) h.behind_clock
             (all-begin r.left.runs h.some_copy trailing.chained));
         within_session = omega arith;
+        due_in_session = due-later r.base k r.left.accepted h.due_in_session;
         names_are = refl;
         names_room = omega arith;
         first_room = omega arith;
@@ -174,6 +190,7 @@ module _ {W : Type 0} {r : RollState W} {plans : List Schedule} {names : NamesOf
     within_window = h.within_window;
     behind_clock = h.behind_clock;
     within_session = h.within_session;
+    due_in_session = h.due_in_session;
     names_are = h.names_are;
     names_room = h.names_room;
     first_room = h.first_room;
@@ -181,7 +198,7 @@ module _ {W : Type 0} {r : RollState W} {plans : List Schedule} {names : NamesOf
 
   -- a command that is taken
   pub rolling-taken :
-      (x : Command) → IsTrailing r.left.accepted r.left.runs → 0 < r.spare
+      (x : Command) → IsTrailing r.left.accepted r.left.runs → 0 < r.spare → r.base + x.time < 2 ^ 32
       → IsRolling (record r {
         left = record r.left {
           accepted = r.left.accepted ++ x ∷ [];
@@ -189,7 +206,7 @@ module _ {W : Type 0} {r : RollState W} {plans : List Schedule} {names : NamesOf
         };
         spare = r.spare - 1;
       }) plans (record names { items = names.items ++ name_of x ∷ [] })
-  rolling-taken x trailing spare =
+  rolling-taken x trailing spare fits =
       let all = r.left.accepted ++ x ∷ [] in
       let new = settle all (proposed_by_arrival x r.left.runs) in
       let many : length new ≡ length r.left.runs =
@@ -204,6 +221,7 @@ module _ {W : Type 0} {r : RollState W} {plans : List Schedule} {names : NamesOf
         within_window = h.within_window;
         behind_clock = same-clocks r.left.clock r.left.runs new (beats-arrival trailing x) h.behind_clock;
         within_session = h.within_session;
+        due_in_session = all-push (λ y. r.base + y.time < 2 ^ 32) r.left.accepted x h.due_in_session fits;
         names_are = ap (λ (l : List _). l ++ name_of x ∷ []) h.names_are ∙ sym (map-append name_of r.left.accepted (x ∷ []));
         names_room = omega arith;
         first_room = omega arith;

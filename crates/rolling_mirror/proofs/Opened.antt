@@ -67,6 +67,7 @@ rolling-opened opening plans room keep some some_copy some_tick same each =
       within_window = some_tick;
       behind_clock = none-ahead (copies_of_first plans);
       within_session = omega arith;
+      due_in_session = tt;
       names_are = refl;
       names_room = omega arith;
       first_room = omega arith;

@@ -15,8 +15,8 @@ pub record ArePlansOf {W : Type 0} (s : MirrorState W) (plans : List Schedule) :
   pub in_force : s.plan < length plans
 
 -- what is always true of a mirror with these plans and these names: there are copies, none is ahead of
--- the clock, which stands within the window and the session; and the names are those of the commands
--- that are remembered, with room for as many more as the copies have
+-- the clock, which stands within the window and the session; the remembered commands are due at ticks
+-- of the session; and the names are theirs, with room for as many more as the copies have
 pub record IsRolling {W : Type 0} (r : RollState W) (plans : List Schedule) (names : NamesOfTree) :
     Type 0 where
   pub plans_are : ArePlansOf r.left plans
@@ -24,6 +24,7 @@ pub record IsRolling {W : Type 0} (r : RollState W) (plans : List Schedule) (nam
   pub within_window : r.left.clock < r.left.length
   pub behind_clock : AllByRecursion (λ run. beats run ≤ r.left.clock) r.left.runs
   pub within_session : r.base + r.left.clock < 2 ^ 32
+  pub due_in_session : AllByRecursion (λ x. r.base + x.time < 2 ^ 32) r.left.accepted
   pub names_are : names.items ≡ map name_of r.left.accepted
   pub names_room : length names.items + r.spare ≤ names.room
   pub first_room : length names.items + r.spare ≤ names.first_room

@@ -1,6 +1,6 @@
 //! The events of a mirror of a session without an end.
 
-ghost use Rattle.std.specs.Prelude.{◌≡◌, ◌+◌, ◌-◌, ◌<◌, ◌≤◌, false, [], ◌∷◌, ◌++◌, IfSome, length};
+ghost use Rattle.std.specs.Prelude.{◌≡◌, ◌+◌, ◌-◌, ◌<◌, ◌≤◌, false, [], ◌∷◌, ◌++◌, IfSome, length, ◌^◌};
 ghost use Rattle.game_trait.specs.declared.event.Event.{Event};
 ghost use Rattle.sync_model.specs.State.{MirrorState, last_clock};
 ghost use Rattle.sync_model.specs.Settle.{repaired};
@@ -115,6 +115,7 @@ impl<G: TimeBlind> RollingMirror<G> {
     fn accept(&mut self, x: &Command) -> Arrival
         requires room { 0 < self.old.spare }
         requires within { x.now.time < self.old.left.length }
+        requires in_session { self.old.base + x.now.time < 2 ^ 32 }
         requires new_name { is_repeat self.old.left x.now ≡ false }
         requires due { last_clock self.old.left.runs ≤ x.now.time }
         ensures answer { result

@@ -1,10 +1,11 @@
 //! A mirror of a session without an end: its parts, and what is seen of it.
 
-ghost use Rattle.std.specs.Prelude.{◌≡◌, ℕ, ◌<◌, ◌≤◌, ◌+◌, [], IfOk, length, slice_index_or};
+ghost use Rattle.std.specs.Prelude.{◌≡◌, ℕ, ◌<◌, ◌≤◌, ◌+◌, ◌^◌, [], IfOk, length, slice_index_or};
 ghost use Rattle.std.specs.List.{AllByRecursion};
 ghost use Rattle.game_trait.specs.declared.limits.TheConstants.{MOST_COPIES, MOST_ROOM};
 ghost use Rattle.game_trait.specs.Ordered.{ordered};
-ghost use Rattle.game_trait.specs.Run.{world_of};
+ghost use Rattle.game_trait.specs.CommandList.{has_command};
+ghost use Rattle.game_trait.specs.Run.{beats, world_of};
 ghost use Rattle.sync_model.specs.Lists.{last_of};
 ghost use Rattle.sync_model.specs.Schedule.{delays_of_each, ticks_of_first, copies_of_first};
 ghost use Rattle.sync_model.specs.State.{MirrorState, opening_state, schedule_of, step_limit};
@@ -12,7 +13,7 @@ ghost use Rattle.sync_model.specs.State.{copy_clock as copy_clock_of, last_clock
 ghost use Rattle.sync_model.specs.Staggered.{IsTrailing};
 ghost use Rattle.rolling_mirror.specs.Rolling.{IsWindowOf};
 
-use game_trait::{NameTree, Tick, TimeBlind};
+use game_trait::{Command, MirrorId, NameTree, Number, Tick, TimeBlind};
 use stagger_clock::Stagger;
 use std::alloc::Global;
 use std::marker::Model;
@@ -100,10 +101,18 @@ impl<G: TimeBlind> RollingMirror<G> {
         })
     }
 
-    /// What always holds: the clock stands within the window, the copies trail one another, and of the
-    /// mirror that remembers all the last copy's run is in time order. It does nothing.
+    /// What always holds: the clock stands within the window and the session, there are copies, none is
+    /// ahead of the clock, they trail one another, and of the mirror that remembers all the last copy's
+    /// run is in time order; a plan is in force; and commands are due at ticks of the session. It does
+    /// nothing.
     pub fn always(&self)
         ensures within { self.now.left.clock < self.now.left.length }
+        ensures in_session { self.now.base + self.now.left.clock < 2 ^ 32 }
+        ensures some_copy { 0 < length self.now.left.runs }
+        ensures in_force { self.now.left.plan < length self.now.left.plans }
+        ensures behind_clock { AllByRecursion (λ run. beats run ≤ self.now.left.clock)
+            self.now.left.runs }
+        ensures due { AllByRecursion (λ x. self.now.base + x.time < 2 ^ 32) self.now.left.accepted }
         ensures trailing { IsTrailing self.now.left.accepted self.now.left.runs }
         ensures last_ordered { (whole : MirrorState G)
             → IsWindowOf G.rules whole self.now
@@ -157,6 +166,27 @@ impl<G: TimeBlind> RollingMirror<G> {
             → result ≡ copy_clock_of whole.runs copy }
     {
         self.base + self.stack.clock(copy)
+    }
+
+    /// The world at the tick at which the window begins.
+    pub fn opening(&self) -> &G
+        ensures { result.now ≡ self.now.left.opening }
+    {
+        self.stack.opening()
+    }
+
+    /// The commands that are remembered, in order of acceptance, their times told from the base.
+    pub fn accepted(&self) -> &[Command]
+        ensures { result.now ≡ self.now.left.accepted }
+    {
+        self.stack.accepted()
+    }
+
+    /// Whether a command of this mirror and number is remembered: to another one `Repeat` is answered.
+    pub fn remembers(&self, from: MirrorId, number: Number) -> bool
+        ensures { result ≡ has_command self.now.left.accepted from number }
+    {
+        self.names.has(from, number)
     }
 
     /// For how many more commands there is room.

@@ -15,7 +15,7 @@ pub invariant_of-self : goal.invariant_of-self
 invariant_of-self g c =
     let spare = rw (← c.self.view_is) at c.requires.room in
     rw (c.accept-repaired.ensures.state, c.push_reserved.ensures)
-    (rolling-taken c.self.invariant c.args.x.now c.always.ensures.trailing spare)
+    (rolling-taken c.self.invariant c.args.x.now c.always.ensures.trailing spare (rw (← c.self.view_is) at c.requires.in_session))
 
 pub returns-clause-state : goal.returns-clause-state
 returns-clause-state g c =
