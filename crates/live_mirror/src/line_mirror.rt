@@ -26,12 +26,12 @@ use std::mem;
 use tss_base::NoMemory;
 use tss_io::{Cause, LONGEST_LINE, LineFault, Refused, Word, check, push_line};
 
-// What a live mirror heard of its head.
+/// What a live mirror heard of its head.
 #[derive(Drop)]
 pub enum Head {
-    // Nothing.
+    /// Nothing.
     First,
-    // The first line, and lines of the match.
+    /// The first line, and lines of the match.
     Match(MatchReading),
 }
 
@@ -144,8 +144,8 @@ fn push_taken(out: &mut Vec<u8>, part: &Part) -> Result<(), NoMemory>
     }
 }
 
-// Appends the refusal of a line of the head. On `NoMemory` `out` is unchanged.
-fn push_refusal(out: &mut Vec<u8>, line: u32, cause: Cause) -> Result<(), NoMemory>
+/// Appends the refusal of a line of the head. On `NoMemory` `out` is unchanged.
+pub fn push_refusal(out: &mut Vec<u8>, line: u32, cause: Cause) -> Result<(), NoMemory>
     ensures ok { OnOk result
         (out.new.items ≡ out.old.items ++ refused_text (refused_at line cause)) }
     ensures err { OnErr result (out.new.items ≡ out.old.items) }
@@ -153,8 +153,8 @@ fn push_refusal(out: &mut Vec<u8>, line: u32, cause: Cause) -> Result<(), NoMemo
     refused_line(out, &Refused { line, cause })
 }
 
-// Why a head is refused that ends behind these bytes of a line.
-fn cut_short(begun: &[u8]) -> Cause
+/// Why a head is refused that ends behind these bytes of a line.
+pub fn cut_short(begun: &[u8]) -> Cause
     ensures { result ≡ cut_short begun.now }
 {
     if begun.len() > LONGEST_LINE {
