@@ -258,8 +258,6 @@ class RollingMirror(Mirror):
 class AskedWithoutEnd(Asked):
     """A mirror of a session without an end, behind its head."""
 
-    forms = {word: words for word, words in Asked.forms.items() if word != "run"}
-
     def __init__(self, name, match):
         super().__init__(name, match)
         if any(plan[-1] + 2 > match.length for plan in match.plans):
@@ -282,6 +280,11 @@ class AskedWithoutEnd(Asked):
 
     def ask_turn(self):
         return self.ask_tick() + self.steps()
+
+    def ask_run(self, copy):
+        """Only the end of a run is remembered, so these words are no form here; a copy that isn't there is refused as elsewhere."""
+        self.copy(copy)
+        raise Fault(SHAPE)
 
     def ask_commands(self):
         return [command_line(x) for x in self.mirror.remembered.values()]

@@ -29,10 +29,10 @@ class EndlessRoom(Room):
     def __init__(self, *given):
         super().__init__(*given)
         self.plans = [self.delays] + [[int(word) for word in words] for words in self.match.lines_of("plan")]
-        self.far, self.has_left = [], False
+        self.far, self.has_left, self.last_tick = [], False, None
 
     def is_over(self):
-        return self.has_left
+        return self.has_left or (self.last_tick is not None and self.clock >= self.last_tick)
 
     def keep(self, command):
         pass
@@ -124,6 +124,12 @@ class EndlessSession(Session):
 
     def left(self):
         return [number for number, room in sorted(self.rooms.items()) if room.has_left]
+
+    async def run(self, seconds, stop):
+        """The seconds are those of the session, so that mirrors of several machines end at one tick."""
+        for room in self.rooms.values():
+            room.last_tick = None if seconds is None else seconds * self.rate
+        await super().run(None, stop)
 
     def spare_collections(self):
         """A session without an end needs collections, but not of what was there before it."""
@@ -222,7 +228,10 @@ class PlayedWithoutEnd:
             return "the mirrors have no tick in common", False
         is_one = len({tuple(base.world_at(tick)) for base in bases}) == 1
         said = "one world" if is_one else "different worlds, since commands were late,"
-        return f"mirrors {', '.join(str(base.mirror) for base in bases)} show {said} at tick {tick}; each follows from its base, at ticks {ticks[0]} to {ticks[-1]}", is_one
+        numbers = ", ".join(str(base.mirror) for base in bases)
+        who, shown = (f"mirror {numbers}", "shows its world") if len(bases) == 1 else (f"mirrors {numbers}", f"show {said}")
+        base = f"tick {ticks[0]}" if ticks[0] == ticks[-1] else f"ticks {ticks[0]} to {ticks[-1]}"
+        return f"{who} {shown} at tick {tick}, which follows from the base at {base}", is_one
 
 
 def name_of(number):
