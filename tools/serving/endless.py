@@ -129,7 +129,10 @@ class EndlessSession(Session):
         """The seconds are those of the session, so that mirrors of several machines end at one tick."""
         for room in self.rooms.values():
             room.last_tick = None if seconds is None else seconds * self.rate
-        await super().run(None, stop)
+        try:
+            await super().run(None, stop)
+        finally:
+            gc.unfreeze()
 
     def spare_collections(self):
         """A session without an end needs collections, but not of what was there before it."""
