@@ -97,7 +97,7 @@ class Shown:
         return self.world if len(cells) == len(set(cells)) and self.world.lines() == lines else None
 
     def read_player(self, player, words):
-        player["score"] = (-1 if words[-1][0] == "-" else 1) * number(words[-1].lstrip("-"), 0, MOST_SCORE)
+        player["score"] = (-1 if words[-1].startswith("-") else 1) * number(words[-1].lstrip("-"), 0, MOST_SCORE)
         if words[0] == "live":
             _, _, x, y, face, health, ammo, _ = words
             player["live"] = [*self.place(x, y, face), number(health, 1, 3), number(ammo, 0, 9)]
