@@ -1,0 +1,6 @@
+pub mod Head
+pub mod Line
+pub mod Parts
+pub mod Session
+pub mod Told
+pub mod Way

@@ -1,0 +1,120 @@
+//! What a mirror of a session without an end is behind its head.
+
+ghost use Rattle.std.specs.Prelude.{◌≡◌, ◌<◌, ◌≤◌, IfOk, length};
+ghost use Rattle.std.specs.List.{AllByRecursion};
+ghost use Rattle.endless_mirror.specs.Session.{terms_of, opening_session};
+
+use game_trait::{MirrorId, Number, Tick, TimeBlind};
+use live_mirror::room_of;
+use live_text::Terms;
+use match_data::{Match, plans_of};
+use match_setup::Roster;
+use rolling_mirror::RollingMirror;
+use std::alloc::Global;
+use std::marker::Model;
+use tss_base::NoMemory;
+
+/// A mirror of a session without an end that is asked line by line, behind the lines of its match.
+#[derive(Drop)]
+pub struct EndlessSession<G: TimeBlind> {
+    pub(crate) mirror: RollingMirror<G>,
+    pub(crate) roster: Roster,
+    plans: u8,
+    pub(crate) number: MirrorId,
+    version: u8,
+    mirrors: u8,
+    pub(crate) next: Number,
+    pub(crate) line: u32,
+    pub(crate) is_over: bool,
+}
+
+impl<G: TimeBlind> Model for EndlessSession<G> {
+    ghost use Rattle.endless_mirror.specs.Session.{SessionState, IsSession};
+
+    ghost Value = { SessionState G };
+
+    ghost view = { λ s. record {
+      mirror = s.mirror;
+      names = s.roster;
+      number = s.number;
+      version = s.version;
+      mirrors = s.mirrors;
+      next = s.next;
+      line = s.line;
+      is_over = s.is_over;
+    } };
+
+    ghost invariant = { λ s. IsSession (record {
+      mirror = s.mirror;
+      names = s.roster;
+      number = s.number;
+      version = s.version;
+      mirrors = s.mirrors;
+      next = s.next;
+      line = s.line;
+      is_over = s.is_over;
+    }) s.plans };
+}
+
+impl<G: TimeBlind> EndlessSession<G> {
+    /// The mirror of this number, which the match has, as the session begins: its window is as long as
+    /// the match. The next line has this number.
+    pub fn open(
+        alloc: Global,
+        opening: &G,
+        m: Match,
+        number: MirrorId,
+        line: u32,
+    ) -> Result<EndlessSession<G>, NoMemory>
+        requires { number < m.mirrors }
+        ensures { IfOk result (λ s. s ≡ opening_session opening.now m number line) }
+    {
+        let plans = plans_of(alloc, &m)?;
+        let room = room_of(m.version);
+        let keep = m.length / 4;
+        let mirror = RollingMirror::new(alloc, opening, plans.as_slice(), room, keep)?;
+        Ok(EndlessSession {
+            mirror,
+            plans: plans.len() as u8,
+            number,
+            version: m.version,
+            mirrors: m.mirrors,
+            roster: m.roster,
+            next: 0,
+            line,
+            is_over: false,
+        })
+    }
+
+    /// The mirror.
+    pub fn mirror(&self) -> &RollingMirror<G>
+        ensures { result.now ≡ self.now.mirror }
+    {
+        &self.mirror
+    }
+
+    /// How the next line is read.
+    pub(crate) fn terms(&self) -> Terms
+        ensures { result ≡ terms_of self.now }
+    {
+        Terms {
+            version: self.version,
+            length: Tick::MAX,
+            mirrors: self.mirrors,
+            players: self.roster.len() as u8,
+            copies: self.mirror.copies(),
+            plans: self.plans,
+            can_arrive: self.mirror.spare() > 0,
+            can_number: !self.mirror.remembers(self.number, self.next),
+            can_restagger: true,
+        }
+    }
+
+    /// What always holds of it. It does nothing.
+    pub(crate) fn always(&self)
+        ensures copies { 0 < length self.now.mirror.left.runs }
+        ensures plans { 0 < length self.now.mirror.left.plans }
+    {
+        self.mirror.always();
+    }
+}
