@@ -1,6 +1,6 @@
 mod Named
-mod Windows
+pub mod Windows
 mod Kept
-mod Arrivals
-mod Turns
+pub mod Arrivals
+pub mod Turns
 mod Opened
