@@ -1,2 +1,6 @@
 pub mod HeadLaws
+mod Own
+mod Remembered
 pub mod Steps
+pub mod Texts
+mod Whole

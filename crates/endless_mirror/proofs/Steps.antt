@@ -1,8 +1,10 @@
 -- What a mirror's events keep.
-use Rattle.std.proofs.Common.{◌≡◌, ℕ, true, false, cond, ◌≤◌, length, List, [], ◌∷◌, refl, ap, sym, ◌∙◌}
+use Rattle.std.proofs.Common.{◌≡◌, ℕ, true, false, cond, ◌≤◌, length, List, [], ◌∷◌, refl, ap, sym, ◌∙◌, arith}
+use Rattle.std.proofs.lemmas.Bool.Decides.{nat_tests}
 use Rattle.game_trait.specs.declared.command.Command.{Command}
 use Rattle.game_trait.specs.declared.event.Event.{Event}
 use Rattle.game_trait.specs.declared.event.Event.TheVariants.{Tick, Arrive}
+use Rattle.game_trait.specs.declared.limits.TheConstants.{GREATEST_NUMBER}
 use Rattle.game_trait.specs.Game.{Rules}
 use Rattle.sync_model.specs.State.{opening_state}
 use Rattle.sync_model.specs.Schedule.{Schedule, ticks_of_first, delays_of_each}
@@ -12,7 +14,7 @@ use Rattle.match_data.proofs.Plans.{delays-of_schedules}
 use Rattle.rolling_mirror.specs.declared.arrival.Arrival.{Arrival}
 use Rattle.rolling_mirror.specs.declared.arrival.Arrival.TheVariants.{Taken, Repeat, Late, Far, Full}
 use Rattle.rolling_mirror.specs.Rolling.{RollState, left_after, left_after_all, forgets, rolled, ready, is_held, ticked, turned, steps_of_each, in_window, arrived}
-use Rattle.endless_mirror.specs.Session.{SessionState, IsSession, opening_roll, opening_session}
+use Rattle.endless_mirror.specs.Session.{SessionState, IsSession, number_behind, opening_roll, opening_session}
 
 -- another state of the mirror with the same plans
 pub other-mirror : {W : Type 0} (s : SessionState W) (t : RollState W) (plans : ℕ) → t.left.plans ≡ s.mirror.left.plans → IsSession s plans
@@ -22,6 +24,14 @@ other-mirror s t plans same is = record {
   few_players = is.few_players;
   next_is = is.next_is;
 }
+
+-- and with another number that isn't past the last
+pub other-next : {W : Type 0} (s : SessionState W) (n plans : ℕ) → n ≤ GREATEST_NUMBER → IsSession s plans → IsSession (record s { next = n }) plans
+other-next s n plans few is = record { plans_are = is.plans_are; few_players = is.few_players; next_is = few }
+
+-- the number behind a number isn't past the last
+pub behind-few : (n m : ℕ) → m ≡ number_behind n → m ≤ GREATEST_NUMBER
+behind-few n m is = grind (arith, nat_tests)
 
 module _ {W : Type 0} where
   left-plans : (r : RollState W) (e : Event) → (left_after r e).left.plans ≡ r.left.plans

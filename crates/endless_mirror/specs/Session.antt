@@ -87,12 +87,16 @@ mirror_after rules s End = s.mirror
 abbrev pub number_behind : ℕ → ℕ
 number_behind n = if nat_le GREATEST_NUMBER n then 0 else n + 1
 
--- the number of its own next command after a request: the one behind its own last number, whoever told
--- of that
+-- the number of the own next command of the mirror of this number, which was this, after a command
+-- came: where that is its own and not below, the one behind it
+abbrev pub next_behind : ℕ → ℕ → Command → ℕ
+next_behind own next x =
+    if (x.from == own) && nat_le next x.number then number_behind x.number else next
+
+-- the number of its own next command after a request
 unfoldable pub next_after : {W : Type 0} → SessionState W → Request → ℕ
 next_after s (Own player act) = if is_past s then s.next else number_behind s.next
-next_after s (Cmd x) =
-    if (x.from == s.number) && nat_le s.next x.number then number_behind x.number else s.next
+next_after s (Cmd x) = next_behind s.number s.next x
 next_after s Tick = s.next
 next_after s Turn = s.next
 next_after s (Step copy) = s.next

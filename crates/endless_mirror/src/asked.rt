@@ -1,16 +1,17 @@
 //! What a mirror of a session without an end does that is asked.
 
-ghost use Rattle.std.specs.Prelude.{◌≡◌, ◌++◌, length, take, OnOk};
+ghost use Rattle.std.specs.Prelude.{◌≡◌, ◌≤◌, ◌++◌, length, take, OnOk};
+ghost use Rattle.game_trait.specs.declared.limits.TheConstants.{GREATEST_NUMBER};
 ghost use Rattle.live_text.specs.Requests.{FitsTerms};
 ghost use Rattle.live_text.specs.declared.request.Request.TheVariants as requests;
-ghost use Rattle.endless_mirror.specs.Session.{terms_of, is_past, number_behind, played};
+ghost use Rattle.endless_mirror.specs.Session.{terms_of, is_past, number_behind, next_behind, played};
 ghost use Rattle.endless_mirror.specs.Way.{answer_by};
 
 use crate::session::EndlessSession;
 use crate::show::{push_arrival, push_copy, push_end, push_remembered, push_replies};
 use command_lines::push_command;
 use game_trait::limits::GREATEST_NUMBER;
-use game_trait::{Act, Command, Number, Tick, Ticked, TimeBlind};
+use game_trait::{Act, Command, MirrorId, Number, Tick, Ticked, TimeBlind};
 use live_text::Request;
 use match_setup::Shown;
 use report_text::{step_line, tick_line};
@@ -24,6 +25,18 @@ fn number_behind(number: Number) -> Number
         0
     } else {
         number + 1
+    }
+}
+
+// The number of the own next command of the mirror of this number, which was this, after a command came.
+fn next_behind(own: MirrorId, next: Number, x: &Command) -> Number
+    ensures next { result ≡ next_behind own next x.now }
+    ensures few { next ≤ GREATEST_NUMBER → result ≤ GREATEST_NUMBER }
+{
+    if x.from == own && next <= x.number {
+        number_behind(x.number)
+    } else {
+        next
     }
 }
 
@@ -66,9 +79,7 @@ impl<G: TimeBlind + Shown> EndlessSession<G> {
         ensures front { take (length out.old.items) out.new.items ≡ out.old.items }
     {
         let arrival = self.mirror.arrive(&command);
-        if command.from == self.number && self.next <= command.number {
-            self.next = number_behind(command.number);
-        }
+        self.next = next_behind(self.number, self.next, &command);
         push_arrival(out, self.number, &command, arrival)
     }
 

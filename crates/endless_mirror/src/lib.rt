@@ -3,6 +3,7 @@
 
 mod answer;
 mod asked;
+pub mod laws;
 mod line;
 mod session;
 mod show;

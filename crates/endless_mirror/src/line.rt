@@ -71,12 +71,20 @@ fn lets_run(plan: &Stagger) -> bool
     plan.longest() + 2 <= plan.length()
 }
 
+// The same of each plan.
+fn let_run(plans: &[Stagger]) -> bool
+    ensures { result ≡ list_all lets_run plans.now }
+{
+    plans.iter().all(|plan| lets_run(plan))
+}
+
 // Whether the match has this mirror, and a window for each of its plans.
 fn may_open(alloc: Global, m: &Match, number: MirrorId) -> Result<bool, NoMemory>
     ensures { IfOk result (λ may. may ≡ may_open m.now number) }
 {
     let plans = plans_of(alloc, m)?;
-    Ok(number < m.mirrors && plans.iter().all(|plan| lets_run(plan)))
+    let let_run = let_run(plans.as_slice());
+    Ok(number < m.mirrors && let_run)
 }
 
 // The mirror behind its head, which was read. The next line has this number.

@@ -1,8 +1,8 @@
 //! What a mirror of a session without an end is behind its head.
 
 ghost use Rattle.std.specs.Prelude.{◌≡◌, ◌<◌, ◌≤◌, IfOk, length};
-ghost use Rattle.std.specs.List.{AllByRecursion};
 ghost use Rattle.endless_mirror.specs.Session.{terms_of, opening_session};
+ghost use Rattle.endless_mirror.specs.Stands.{Stands};
 
 use game_trait::{MirrorId, Number, Tick, TimeBlind};
 use live_mirror::room_of;
@@ -111,7 +111,8 @@ impl<G: TimeBlind> EndlessSession<G> {
     }
 
     /// What always holds of it. It does nothing.
-    pub(crate) fn always(&self)
+    pub fn always(&self)
+        ensures stands { Stands self.now.mirror }
         ensures copies { 0 < length self.now.mirror.left.runs }
         ensures plans { 0 < length self.now.mirror.left.plans }
     {

@@ -1,0 +1,86 @@
+//! What always holds of a mirror of a session without an end that answers lines. Each is the contract of
+//! a function without parameters that does nothing.
+
+ghost use Rattle.std.specs.Prelude.{◌≡◌, ◌+◌, ◌<◌, ◌≤◌, ◌↔◌, ℕ, false, List, length};
+ghost use Rattle.std.specs.List.{AllByRecursion};
+ghost use Rattle.game_trait.specs.Ordered.{ordered};
+ghost use Rattle.game_trait.specs.Run.{world_of};
+ghost use Rattle.game_trait.specs.declared.command.Act.{Act};
+ghost use Rattle.game_trait.specs.declared.command.Command.{Command};
+ghost use Rattle.game_trait.specs.declared.event.Arrived.TheVariants.{Late as ToLate};
+ghost use Rattle.sync_model.specs.Change.{after, is_repeat};
+ghost use Rattle.sync_model.specs.State.{MirrorState};
+ghost use Rattle.report_text.specs.Replies.{arrival_text};
+ghost use Rattle.report_text.specs.Worlds.{Showing, showing, block_text, copy_head};
+ghost use Rattle.rolling_mirror.specs.declared.arrival.Arrival.TheVariants.{Taken, Late, Far};
+ghost use Rattle.rolling_mirror.specs.Rolling.{IsWindowOf, last_tick, window_end, said_to_arrival};
+ghost use Rattle.live_text.specs.Requests.{FitsTerms};
+ghost use Rattle.live_text.specs.declared.request.Request.{Request};
+ghost use Rattle.live_text.specs.declared.request.Request.TheVariants as requests;
+ghost use Rattle.endless_mirror.specs.Session.{SessionState, terms_of, own_command, after_request};
+ghost use Rattle.endless_mirror.specs.Stands.{Stands, events_made, BringsKnown};
+ghost use Rattle.endless_mirror.specs.Told.{answer_text, far_line, copy_told, last_copy, remembered};
+
+use game_trait::TimeBlind;
+
+/// A mirror's own command that isn't refused is never turned away: it is taken and repairs nothing.
+pub fn own_commands_are_taken<G: TimeBlind>()
+    ensures { (s : SessionState G) (player : ℕ) (act : Act) → Stands s.mirror
+        → FitsTerms (terms_of s) (requests.Own player act)
+        → said_to_arrival s.mirror (own_command s player act) ≡ Taken 0 }
+{}
+
+/// A `cmd` is answered `late` exactly where its name isn't remembered and it is older than the last
+/// copy's clock, which is its bound.
+pub fn late_exactly<G: TimeBlind>()
+    ensures answer { (s : SessionState G) (x : Command) (bound : ℕ)
+        → (said_to_arrival s.mirror x ≡ Late bound)
+        ↔ ((is_repeat s.mirror.left x ≡ false) × (x.time < last_tick s.mirror)
+        × (bound ≡ last_tick s.mirror)) }
+    ensures told { (show : Showing G) (s : SessionState G) (x : Command) (bound : ℕ)
+        → said_to_arrival s.mirror x ≡ Late bound
+        → answer_text show s (requests.Cmd x)
+        ≡ arrival_text s.number x.from x.number (ToLate bound) }
+{}
+
+/// A `cmd` is answered `far` exactly where its name isn't remembered, it isn't late, and it is due at the
+/// window's end or later, told in ticks of the session. Then the mirror is as before.
+pub fn far_exactly<G: TimeBlind>()
+    ensures answer { (s : SessionState G) (x : Command) (end : ℕ)
+        → (said_to_arrival s.mirror x ≡ Far end)
+        ↔ ((is_repeat s.mirror.left x ≡ false) × (last_tick s.mirror ≤ x.time)
+        × (window_end s.mirror ≤ x.time) × (end ≡ window_end s.mirror)) }
+    ensures told { (show : Showing G) (s : SessionState G) (x : Command) (end : ℕ)
+        → said_to_arrival s.mirror x ≡ Far end
+        → answer_text show s (requests.Cmd x) ≡ far_line s.number x end }
+    ensures same { (s : SessionState G) (x : Command) (end : ℕ)
+        → said_to_arrival s.mirror x ≡ Far end
+        → (after_request G.rules s (requests.Cmd x)).mirror ≡ s.mirror }
+{}
+
+/// What `end` tells fits together: the world of the last copy is what comes of the world at the base
+/// where the commands that are told are executed in time order, from the base to that copy's clock. None
+/// of them is due before the base.
+pub fn the_end_tells_what_is_remembered<G: TimeBlind>()
+    ensures world { (lines : G → List (List ℕ) → List ℕ) (names : List (List ℕ))
+        (s : SessionState G) → Stands s.mirror
+        → copy_told (showing G.rules lines names) s.number s.mirror (last_copy s.mirror)
+        ≡ block_text lines names (copy_head s.number (last_copy s.mirror) (last_tick s.mirror))
+        (world_of G.rules s.mirror.left.opening
+        (ordered (remembered s.mirror) s.mirror.base (last_tick s.mirror))) }
+    ensures due { (s : SessionState G)
+        → AllByRecursion (λ x. s.mirror.base ≤ x.time) (remembered s.mirror) }
+{}
+
+/// Where a mirror remembers the whole session, and this is its window, a request leads to the window of
+/// that mirror after the events that the request is: so whatever is told of copies, worlds and clocks is
+/// what that mirror has. Commands that come again after their names were forgotten are late there too;
+/// one of a forgotten name that isn't late is left out.
+pub fn requests_are_those_of_a_whole<G: TimeBlind>()
+    ensures { (whole : MirrorState G) (s : SessionState G) (r : Request)
+        → Stands s.mirror → IsWindowOf G.rules whole s.mirror
+        → whole.clock + 1 < whole.length
+        → FitsTerms (terms_of s) r → BringsKnown whole s r
+        → IsWindowOf G.rules (after whole (events_made (length whole.runs) s r))
+        (after_request G.rules s r).mirror }
+{}
