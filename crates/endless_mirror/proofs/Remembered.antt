@@ -15,7 +15,7 @@ use Rattle.sync_model.proofs.Forgetting.{ordered-left}
 use Rattle.sync_model.proofs.Lists.{last_of-at}
 use Rattle.report_text.specs.Worlds.{showing, block_text, copy_head}
 use Rattle.rolling_mirror.specs.Rolling.{RollState, last_tick}
-use Rattle.rolling_mirror.proofs.Limits.{last-is}
+use Rattle.sync_model.proofs.Limits.{last-is}
 use Rattle.endless_mirror.specs.Stands.{Stands}
 use Rattle.endless_mirror.specs.Told.{copy_told, last_copy, remembered}
 
