@@ -7,6 +7,7 @@ use crate::lines::push_watch;
 use crate::watcher::{Stay, Watcher};
 use game_trait::{MirrorId, Note};
 use itoa::Buffer;
+use sync_model::repaired_in;
 use tss_base::NoMemory;
 
 /// Tells at which mirror copies were repaired first: it leaves at that note and says `watch first
