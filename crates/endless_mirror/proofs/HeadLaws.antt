@@ -1,5 +1,5 @@
 -- The lines of a head, one after another.
-use Rattle.std.proofs.Common.{◌≡◌, ℕ, true, false, List, ◌++◌, Ok, Err, refl, sym, ap, ◌∙◌}
+use Rattle.std.proofs.Common.{◌≡◌, ℕ, false, List, ◌++◌, Ok, Err, refl, sym, ap, ◌∙◌}
 use Rattle.tss_io.specs.declared.cause.Cause.{Cause}
 use Rattle.tss_io.specs.Kinds.{is_long}
 use Rattle.match_file.specs.Around.{Around, in_match, after_line}

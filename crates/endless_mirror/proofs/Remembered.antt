@@ -1,5 +1,5 @@
 -- What `end` tells fits together.
-use Rattle.std.proofs.Common.{◌≡◌, ℕ, ◌+◌, ◌-◌, ◌≤◌, ◌<◌, true, cond, leb, List, [], ◌∷◌, map, filter, length, get_or, refl, ap, sym, ◌∙◌, arith}
+use Rattle.std.proofs.Common.{◌≡◌, ℕ, ◌+◌, ◌-◌, ◌≤◌, ◌<◌, true, leb, List, [], ◌∷◌, map, filter, length, get_or, refl, ap, sym, ◌∙◌, arith}
 use Rattle.std.specs.List.{AllByRecursion}
 use Rattle.std.proofs.lemmas.Bool.Decides.{nat_tests}
 use Rattle.game_trait.specs.declared.command.Command.{Command}
@@ -8,9 +8,9 @@ use Rattle.game_trait.specs.declared.command.Item.TheVariants.{Cmd, Beat}
 use Rattle.game_trait.specs.Game.{Rules}
 use Rattle.game_trait.specs.Later.{AreTimeBlind, later, later_item}
 use Rattle.game_trait.specs.Ordered.{ordered}
-use Rattle.game_trait.specs.Run.{beats, world_of}
+use Rattle.game_trait.specs.Run.{world_of}
 use Rattle.sync_model.specs.Lists.{last_of}
-use Rattle.sync_model.specs.State.{copy_clock, last_clock}
+use Rattle.sync_model.specs.State.{last_clock}
 use Rattle.sync_model.proofs.Forgetting.{ordered-left}
 use Rattle.sync_model.proofs.Lists.{last_of-at}
 use Rattle.report_text.specs.Worlds.{showing, block_text, copy_head}

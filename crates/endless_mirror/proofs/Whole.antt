@@ -1,9 +1,8 @@
 -- A request beside the mirror that remembers the whole session.
-use Rattle.std.proofs.Common.{◌≡◌, ℕ, ◌+◌, ◌-◌, ◌^◌, ◌≤◌, ◌<◌, Bool, true, false, cond, ◌&&◌, ◌||◌, eqb, leb, ltb, List, [], ◌∷◌, length, refl, ap, sym, subst, ◌∙◌, arith, ⊎_elim}
+use Rattle.std.proofs.Common.{◌≡◌, ℕ, ◌+◌, ◌-◌, ◌^◌, ◌≤◌, ◌<◌, Bool, true, false, cond, ◌&&◌, ◌||◌, eqb, leb, ltb, [], ◌∷◌, length, refl, sym, subst, arith, ⊎_elim}
 use Rattle.std.specs.Prelude.{IfSome}
 use Rattle.std.proofs.lemmas.Bool.Decides.{nat_tests}
 use Rattle.game_trait.specs.declared.command.Command.{Command}
-use Rattle.game_trait.specs.declared.event.Event.{Event}
 use Rattle.game_trait.specs.declared.event.Event.TheVariants as events
 use Rattle.game_trait.specs.declared.event.Ticked.TheVariants.{Moved, Over}
 use Rattle.game_trait.specs.declared.event.Reply.TheVariants.{Arrive as ToArrive}
@@ -20,7 +19,7 @@ use Rattle.live_text.specs.declared.request.Request.{Request}
 use Rattle.live_text.specs.declared.request.Request.TheVariants.{Own, Cmd, Tick, Turn, Step, Restagger, World, Run, Commands, End}
 use Rattle.rolling_mirror.specs.declared.arrival.Arrival.{Arrival}
 use Rattle.rolling_mirror.specs.declared.arrival.Arrival.TheVariants.{Taken, Repeat, Late, Far, Full}
-use Rattle.rolling_mirror.specs.Rolling.{RollState, IsWindowOf, left_after, left_after_all, rolled, forgets, ready, is_held, is_full, ticked, turned, said_to_turn, said_to_tick, steps_of_each, said_to_arrival, arrived, as_arrived}
+use Rattle.rolling_mirror.specs.Rolling.{RollState, IsWindowOf, left_after, rolled, forgets, ready, is_held, ticked, turned, said_to_turn, said_to_tick, said_to_arrival, arrived, as_arrived}
 use Rattle.rolling_mirror.proofs.Windows.{after-tick, event-window, tick-window, restagger-window, rolled-window}
 use Rattle.rolling_mirror.proofs.Arrivals.{arrival-window, passed-window}
 use Rattle.rolling_mirror.proofs.Turns.{turn-window, over-window}

@@ -4,10 +4,9 @@ use Rattle.game_trait.specs.declared.command.Command.{Command}
 use Rattle.game_trait.specs.declared.event.Arrived.TheVariants.{Taken as ToTaken, Repeat as ToRepeat, Late as ToLate}
 use Rattle.game_trait.specs.declared.event.Event.TheVariants as events
 use Rattle.game_trait.specs.declared.event.Reply.{Reply}
-use Rattle.game_trait.specs.declared.event.Reply.TheVariants.{Tick as ToTick, Arrive as ToArrive, Step as ToStep}
-use Rattle.game_trait.specs.declared.event.Stepped.TheVariants.{Ran, Idle}
+use Rattle.game_trait.specs.declared.event.Reply.TheVariants.{Tick as ToTick, Step as ToStep}
+use Rattle.game_trait.specs.declared.event.Stepped.TheVariants.{Ran}
 use Rattle.game_trait.specs.declared.event.Ticked.TheVariants.{Over}
-use Rattle.game_trait.specs.Game.{Rules}
 use Rattle.game_trait.specs.Later.{later}
 use Rattle.game_trait.specs.Run.{world_of}
 use Rattle.command_lines.specs.CommandLine.{command_line}

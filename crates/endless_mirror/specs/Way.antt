@@ -1,5 +1,5 @@
 -- To what a line leads a mirror of a session without an end, behind its head, and what it tells of it.
-use Rattle.std.specs.Prelude.{ℕ, true, List, [], ◌∷◌, ◌++◌, Result, Ok, Err, if◌then◌else◌}
+use Rattle.std.specs.Prelude.{ℕ, true, List, ◌++◌, Result, Ok, Err, if◌then◌else◌}
 use Rattle.game_trait.specs.Game.{Rules}
 use Rattle.tss_io.specs.declared.cause.Cause.{Cause}
 use Rattle.tss_io.specs.declared.cause.Cause.TheVariants.{Long, Shape}
