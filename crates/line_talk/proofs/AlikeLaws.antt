@@ -31,7 +31,7 @@ at_once-alike due owed bytes same c (Heard more ∷ talk) all answers =
 at_once-alike due owed bytes same c (Told more ∷ talk) all answers = (tt, at_once-alike due owed bytes same (onward c (Told more)) talk all answers.1)
 at_once-alike due owed bytes same c (Flushed ∷ talk) all answers = (tt, at_once-alike due owed bytes same (onward c Flushed) talk all answers.1)
 
-whole-alike : (due owed : List ℕ → List ℕ) (old new : Shown) (bytes text other : List ℕ) → ((x y : List ℕ) → bytes ≡ x ++ y → due x ≡ owed x) → text ≡ other
+pub whole-alike : (due owed : List ℕ → List ℕ) (old new : Shown) (bytes text other : List ℕ) → ((x y : List ℕ) → bytes ≡ x ++ y → due x ≡ owed x) → text ≡ other
     → IsWholeTalk due old new bytes text → IsWholeTalk owed old new bytes other
 whole-alike due owed old new bytes text other same told t = record {
   talk = t.talk;
@@ -40,7 +40,7 @@ whole-alike due owed old new bytes text other same told t = record {
   all_told = t.all_told ∙ (λ k. record { heard = bytes; told = told k; is_flushed = true });
 }
 
-front-alike : (due owed : List ℕ → List ℕ) (old new : Shown) (bytes text other : List ℕ) → ((x y : List ℕ) → bytes ≡ x ++ y → due x ≡ owed x) → text ≡ other
+pub front-alike : (due owed : List ℕ → List ℕ) (old new : Shown) (bytes text other : List ℕ) → ((x y : List ℕ) → bytes ≡ x ++ y → due x ≡ owed x) → text ≡ other
     → IsFrontOfTalk due old new bytes text → IsFrontOfTalk owed old new bytes other
 front-alike due owed old new bytes text other same told t = record {
   talk = t.talk;
@@ -51,16 +51,16 @@ front-alike due owed old new bytes text other same told t = record {
 }
 
 -- what is due of the bytes and of their end
-due-alike : {S T : Type 0} (a : Answering S) (h : Hearing S) (b : Answering T) (i : Hearing T) (bytes : List ℕ) → AreAlike a h b i bytes
+pub due-alike : {S T : Type 0} (a : Answering S) (h : Hearing S) (b : Answering T) (i : Hearing T) (bytes : List ℕ) → AreAlike a h b i bytes
     → dues a h bytes ++ told_at_close a (hear a h (lines_of bytes)) ≡ dues b i bytes ++ told_at_close b (hear b i (lines_of bytes))
 due-alike a h b i bytes same = rw (same.due bytes [] (sym (append-nil bytes)), same.at_close) refl
 
-ended-alike : {S T : Type 0} (a : Answering S) (h : Hearing S) (b : Answering T) (i : Hearing T) (bytes : List ℕ) (C : Type 0) → AreAlike a h b i bytes
+pub ended-alike : {S T : Type 0} (a : Answering S) (h : Hearing S) (b : Answering T) (i : Hearing T) (bytes : List ℕ) (C : Type 0) → AreAlike a h b i bytes
     → (a.is_over (hear a h (lines_of bytes)).state ≡ true) ⊎ C → (b.is_over (hear b i (lines_of bytes)).state ≡ true) ⊎ C
 ended-alike a h b i bytes C same (inl over) = inl (sym (same.is_over bytes [] (sym (append-nil bytes))) ∙ over)
 ended-alike a h b i bytes C same (inr none) = inr none
 
-pub answered-alike : {S T : Type 0} (a : Answering S) (h : Hearing S) (b : Answering T) (i : Hearing T) (j : Hearing S) (old new : Shown) (limit : ℕ) (t : IsAnswered a h j old new limit)
+unfoldable pub answered-alike : {S T : Type 0} (a : Answering S) (h : Hearing S) (b : Answering T) (i : Hearing T) (j : Hearing S) (old new : Shown) (limit : ℕ) (t : IsAnswered a h j old new limit)
     → AreAlike a h b i t.bytes → IsAnswered b i (close b (hear b i (lines_of t.bytes))) old new limit
 answered-alike a h b i j old new limit t same = record {
   bytes = t.bytes;
@@ -70,7 +70,7 @@ answered-alike a h b i j old new limit t same = record {
   talk = whole-alike (dues a h) (dues b i) old new t.bytes _ _ same.due (due-alike a h b i t.bytes same) t.talk;
 }
 
-pub past-alike : {S T : Type 0} (a : Answering S) (h : Hearing S) (b : Answering T) (i : Hearing T) (old new : Shown) (limit : ℕ) (too_long : List ℕ) (t : IsPast a h old new limit too_long)
+unfoldable pub past-alike : {S T : Type 0} (a : Answering S) (h : Hearing S) (b : Answering T) (i : Hearing T) (old new : Shown) (limit : ℕ) (too_long : List ℕ) (t : IsPast a h old new limit too_long)
     → AreAlike a h b i (t.front ++ t.one) → IsPast b i old new limit too_long
 past-alike a h b i old new limit too_long t same = record {
   front = t.front;
@@ -81,13 +81,13 @@ past-alike a h b i old new limit too_long t same = record {
   talk = whole-alike (dues a h) (dues b i) old new (t.front ++ t.one) _ _ same.due (ap (λ (l : List ℕ). l ++ too_long) (same.due t.front t.one refl)) t.talk;
 }
 
-is_due-alike : {S T : Type 0} (a : Answering S) (h : Hearing S) (b : Answering T) (i : Hearing T) (limit : ℕ) (too_long bytes text : List ℕ) → AreAlike a h b i bytes
+pub is_due-alike : {S T : Type 0} (a : Answering S) (h : Hearing S) (b : Answering T) (i : Hearing T) (limit : ℕ) (too_long bytes text : List ℕ) → AreAlike a h b i bytes
     → IsDueOf a h limit too_long bytes text → IsDueOf b i limit too_long bytes text
 is_due-alike a h b i limit too_long bytes text same (at_end is) = at_end (is ∙ due-alike a h b i bytes same)
 is_due-alike a h b i limit too_long bytes text same (past front one all counted one_more goes is) =
     past front one all counted one_more (sym (same.is_over front one all) ∙ goes) (is ∙ ap (λ (l : List ℕ). l ++ too_long) (same.due front one all))
 
-pub broken-alike : {S T : Type 0} (a : Answering S) (h : Hearing S) (b : Answering T) (i : Hearing T) (old new : Shown) (limit : ℕ) (too_long : List ℕ) (t : IsBrokenWhole a h old new limit too_long)
+unfoldable pub broken-alike : {S T : Type 0} (a : Answering S) (h : Hearing S) (b : Answering T) (i : Hearing T) (old new : Shown) (limit : ℕ) (too_long : List ℕ) (t : IsBrokenWhole a h old new limit too_long)
     → AreAlike a h b i t.bytes → IsBrokenWhole b i old new limit too_long
 broken-alike a h b i old new limit too_long t same = record {
   bytes = t.bytes;
@@ -96,7 +96,7 @@ broken-alike a h b i old new limit too_long t same = record {
   talk = front-alike (dues a h) (dues b i) old new t.bytes t.text t.text same.due refl t.talk;
 }
 
-pub unheard-alike : {S T : Type 0} (a : Answering S) (h : Hearing S) (b : Answering T) (i : Hearing T) (old new : Shown) (t : IsUnheard a h old new) → AreAlike a h b i t.bytes → IsUnheard b i old new
+unfoldable pub unheard-alike : {S T : Type 0} (a : Answering S) (h : Hearing S) (b : Answering T) (i : Hearing T) (old new : Shown) (t : IsUnheard a h old new) → AreAlike a h b i t.bytes → IsUnheard b i old new
 unheard-alike a h b i old new t same = record {
   bytes = t.bytes;
   talk = whole-alike (dues a h) (dues b i) old new t.bytes _ _ same.due (same.due t.bytes [] (sym (append-nil t.bytes))) t.talk;
