@@ -12,7 +12,9 @@ first difference is shown, and the exit status is then 1. Default: 300 talks of 
 
 import argparse
 import contextlib
+import os
 import random
+import select
 import subprocess
 import sys
 import threading
@@ -105,7 +107,8 @@ def full_talk_of(version):
     room = room_of(match)
     lines = ["tss live 2", *match.lines(), *[f"cmd {number % 4} 1 {number} 0 left" for number in range(room - 2)], "own 0 go", "own 0 right"]
     full = ["own 0 go", "cmd 0 1 0 0 left", f"cmd 9 1 {room} 0 go", "cmd 9 9 0 0 go", "restagger 0"]
-    lines += [*full, *["turn", "own 0 go"] * 12, *full, "cmd 9 0 999999 0 go", "own 0 go", "own 0 left", "turn", "commands", "end"]
+    lines += [*full, *["turn", "own 0 go"] * 12, *full, "cmd 9 0 999999 0 go", "own 0 go", "own 0 left"]
+    lines += [*["cmd 12 0 999999 0 go", "own 0 go"] * 2, "turn", "commands", "end"]
     return "0", "\n".join([*lines, ""]).encode()
 
 
@@ -115,8 +118,8 @@ def talks(draw, count):
         yield talk_of(draw) if number % 2 == 0 else endless_talk_of(draw)
 
 
-def answered(process, text, read, is_last=False):
-    """What is read while the text is written, so that neither waits for the other."""
+def written(process, text, is_last):
+    """Writes a text beside whoever reads, so that neither waits for the other."""
     def write():
         with contextlib.suppress(BrokenPipeError):
             process.stdin.write(text)
@@ -126,8 +129,17 @@ def answered(process, text, read, is_last=False):
                 process.stdin.close()
     writer = threading.Thread(target=write)
     writer.start()
-    told = read()
-    writer.join()
+    return writer
+
+
+def read(process, most=None, seconds=10):
+    """What a process tells: so many bytes, or all up to its end; less where for so long nothing more comes."""
+    told = b""
+    while (most is None or len(told) < most) and select.select([process.stdout], [], [], seconds)[0]:
+        piece = os.read(process.stdout.fileno(), 1 << 16 if most is None else most - len(told))
+        if not piece:
+            break
+        told += piece
     return told
 
 
@@ -136,8 +148,14 @@ def told_at_once(program, word, front, rest):
     live = Live(int(word))
     due = live.feed(front)
     with subprocess.Popen([program, word], stdin=subprocess.PIPE, stdout=subprocess.PIPE) as found:
-        first = answered(found, front, lambda: found.stdout.read(len(due)))
-        told = first + answered(found, rest, found.stdout.read, is_last=True)
+        writer = written(found, front, is_last=False)
+        first = read(found, len(due))
+        if first != due:
+            found.kill()
+        writer.join()
+        writer = written(found, rest, is_last=True)
+        told = first + read(found)
+        writer.join()
         return first == due, told, found.wait()
 
 
