@@ -12,7 +12,7 @@ import time
 import unittest
 
 from common import PROGRAM, TOOLS, Files, read, tool
-from test_serving import ARENA, BUILT, MIRROR_PROGRAM, SERVE, aiohttp
+from test_serving import ARENA, BUILT, CHROMIUM, MIRROR_PROGRAM, SERVE, Browser, aiohttp
 
 import live_model
 from audit_base import BaseText
@@ -261,19 +261,29 @@ class Programs(Files):
 
 @unittest.skipUnless(BUILT and aiohttp, "tss and tss_mirror aren't built, or aiohttp isn't installed")
 class Pages(Sessions):
-    async def test_who_looks_at_a_mirror_that_leaves_may_choose_another(self):
+    async def asyncSetUp(self):
         from serving.web import Page
-        session, stop = await self.session(Net(seed=7), bots=0, rate=50), asyncio.Event()
-        page = Page(session, stop)
-        url = await page.begin(0)
-        running = asyncio.get_running_loop().create_task(session.run(None, stop))
+        self.served, self.stop = await self.session(Net(seed=7), bots=0, rate=50), asyncio.Event()
+        self.page = Page(self.served, self.stop)
+        self.url = await self.page.begin(0)
+        self.running = asyncio.get_running_loop().create_task(self.served.run(None, self.stop))
+
+    async def asyncTearDown(self):
+        self.stop.set()
+        await self.running
+        await self.page.tell_end("over")
+        said, is_right = PlayedWithoutEnd.of(self.served, await self.served.finish()).verdict()
+        self.assertTrue(is_right, said)
+
+    async def test_who_looks_at_a_mirror_that_leaves_may_choose_another(self):
+        session = self.served
 
         async def hear(socket, key):
             while True:
                 message = json.loads((await asyncio.wait_for(socket.receive(), 5)).data)
                 if key in message:
                     return message
-        async with aiohttp.ClientSession() as client, client.ws_connect(url + "live") as socket:
+        async with aiohttp.ClientSession() as client, client.ws_connect(self.url + "live") as socket:
             opening = (await hear(socket, "opening"))["opening"]
             self.assertEqual((opening["length"], opening["mirrors"]), (None, [0, 1, 2, 3]))
             await socket.send_json({"do": "look", "mirror": 1})
@@ -289,11 +299,16 @@ class Pages(Sessions):
             await socket.send_json({"do": "look", "mirror": 2})
             await socket.send_json({"do": "claim", "player": 6})
             await hear(socket, "token")
-        stop.set()
-        await running
-        await page.tell_end("over")
-        said, is_right = PlayedWithoutEnd.of(session, await session.finish()).verdict()
-        self.assertTrue(is_right, said)
+
+    @unittest.skipUnless(CHROMIUM, "Chromium isn't installed")
+    async def test_a_browser_shows_a_tick_without_an_end(self):
+        async with Browser(self.path("profile"), self.url + "#3-5") as browser:
+            await browser.until("player === 5 && window.ticks > 10")
+            self.assertRegex(await browser.value("document.getElementById('state').textContent"), r"^mirror 3, tick \d+, you are fay$")
+            self.served.rooms[3].process.end()
+            await browser.until("mirror === null && player === null")
+            self.assertEqual(await browser.value("document.getElementById('state').textContent"), "mirror 3 has left; choose another")
+            self.assertEqual(await browser.value("document.querySelectorAll('#mirrors button').length"), 3)
 
 
 if __name__ == "__main__":
