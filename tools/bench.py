@@ -46,10 +46,10 @@ the `play` once more, and of the `wide` match the time from a turn to the block 
 by the end of the head and by the end of all requests.
 
 With the word `endless` it is a mirror of a session without an end, of a window of 2,048 ticks, eight copies with delays up to 1,024 and
-32 players, for N ticks (default a million). Each tick it is sent 19 commands of other mirrors, most up to 100 ticks old and a fiftieth
-up to 1,100, so that some are late, and asked for one of its own, a turn and the block of the leading copy. How long ticks take until
-all of that is answered, how much memory is in use at the start, in the middle and at the end, and what audit_base.py says of its end
-are printed.
+32 players, for N ticks (default a million), or until Ctrl-C. Each tick it is sent 19 commands of other mirrors, most up to 100 ticks
+old and a fiftieth up to 1,100, so that some are late, and asked for one of its own, a turn and the block of the leading copy. How long
+ticks take until all of that is answered, how much memory is in use at the start, in the middle and at the end, and what audit_base.py
+says of its end are printed.
 
 LOCK_BENCH is the built program `lock_bench`. With the word `lock` it makes 3,600,000 calls of a counter, of 1, 2, 4 and 9
 threads together, each with a seat of a turn lock, and then behind a mutex of std; the calls a second are printed.
@@ -57,9 +57,12 @@ threads together, each with a seat of a turn lock, and then behind a mutex of st
 
 import argparse
 import array
+import contextlib
 import os
+import signal
 import subprocess
 import sys
+import threading
 import time
 
 from audit_base import BaseText
@@ -382,7 +385,7 @@ class Spoken:
     """A live mirror that is spoken to: requests are sent together, and their answers read."""
 
     def __init__(self, program):
-        self.process = subprocess.Popen([program, "0"], stdin=subprocess.PIPE, stdout=subprocess.PIPE, bufsize=0)
+        self.process = subprocess.Popen([program, "0"], stdin=subprocess.PIPE, stdout=subprocess.PIPE, bufsize=0, start_new_session=True)
 
     def ask(self, lines, answers):
         """The seconds until so many were answered, and what was told."""
@@ -403,19 +406,31 @@ class Spoken:
             return next(int(line.split()[1]) for line in status if line.startswith("VmRSS:")) / 1024
 
 
+@contextlib.contextmanager
+def asked_to_stop():
+    """An event that an interrupt sets, where it would end the tool."""
+    stop = threading.Event()
+    before = signal.signal(signal.SIGINT, lambda *_: stop.set())
+    try:
+        yield stop
+    finally:
+        signal.signal(signal.SIGINT, before)
+
+
 def time_endless(program, ticks):
     head = ["tss live 2", *live_head(*ENDLESS)[1:]]
     draws, mirror, seconds, late, used = Draws(7), Spoken(program), array.array("d"), 0, []
     mirror.ask(head, 1)
-    for tick in range(ticks):
-        if tick in (0, ticks // 2):
-            used.append(mirror.memory())
-        took, told = mirror.ask(endless_requests(tick, draws), 22)
-        seconds.append(took)
-        late += told.count(b"late ")
-        if tick % 1000 == 0:
-            progress(f"{tick} of {ticks} ticks")
-    used.append(mirror.memory())
+    with asked_to_stop() as stop:
+        while len(seconds) < ticks and not stop.is_set():
+            if len(seconds) % 1000 == 0:
+                used.append(mirror.memory())
+                progress(f"{len(seconds)} of {ticks} ticks")
+            took, told = mirror.ask(endless_requests(len(seconds), draws), 22)
+            seconds.append(took)
+            late += told.count(b"late ")
+    ticks = len(seconds)
+    used = [used[0], used[len(used) // 2], mirror.memory()]
     told = mirror.ask(["end"], 1)[1].decode()
     mirror.process.wait()
     progress("")

@@ -279,10 +279,11 @@ class Pages(Sessions):
         session = self.served
 
         async def hear(socket, key):
-            while True:
-                message = json.loads((await asyncio.wait_for(socket.receive(), 5)).data)
-                if key in message:
-                    return message
+            async with asyncio.timeout(20):
+                while True:
+                    message = json.loads((await socket.receive()).data)
+                    if key in message:
+                        return message
         async with aiohttp.ClientSession() as client, client.ws_connect(self.url + "live") as socket:
             opening = (await hear(socket, "opening"))["opening"]
             self.assertEqual((opening["length"], opening["mirrors"]), (None, [0, 1, 2, 3]))
