@@ -202,6 +202,7 @@ fn a_session_answers_as_a_match_does(rt: HostRuntime) {
 }
 
 // Ann alone in a row of nine cells, told of plainly: where she is, and which way she looks.
+#[derive(Drop)]
 struct Ann {
     x: u32,
     facing: usize,
