@@ -18,6 +18,7 @@ mod orders;
 mod program;
 mod races;
 mod rewinds;
+mod rolling;
 mod slow;
 mod soaks;
 mod stage;
