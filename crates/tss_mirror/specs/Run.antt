@@ -1,12 +1,10 @@
 -- How a run of the program may end.
-use Rattle.std.specs.Prelude.{◌≡◌, ◌==◌, ◌⊎◌, ◌++◌, ℕ, List, Option, Some, None, codes, if◌then◌else◌}
-use Rattle.tss_io.specs.Lines.{as_line}
+use Rattle.std.specs.Prelude.{◌≡◌, ◌==◌, ℕ, List, Option, Some, None, codes, if◌then◌else◌}
 use Rattle.tss_io.specs.Streams.{Rose}
 use Rattle.tss_io.specs.declared.cause.Cause.TheVariants.{Long}
 use Rattle.tss_io.specs.Reading.{refused_at}
 use Rattle.report_text.specs.Ends.{refused_text}
-use Rattle.line_talk.specs.Choice.{Choosing, undecided, by_first, by_second}
-use Rattle.line_talk.specs.Hearing.{Answering, Hearing, fresh, IsFrontOf}
+use Rattle.line_talk.specs.Hearing.{Hearing, fresh}
 use Rattle.line_talk.specs.declared.said.Said.{Said}
 use Rattle.line_talk.specs.Talk.{Notes, Shown, TellsAll, TellsFront, IsAnswered, IsPast, IsBrokenWhole, IsUnheard}
 use Rattle.line_talk.specs.declared.course.TalkFault.{TalkFault}
@@ -14,8 +12,6 @@ use Rattle.line_talk.specs.declared.course.TalkFault.TheVariants as faults
 use Rattle.live_mirror.specs.declared.fed.Fed.{Fed}
 use Rattle.live_mirror.specs.declared.fed.Fed.TheVariants.{Goes, Refused, Ended}
 use Rattle.live_mirror.specs.Live.{LiveState, opening_live, live_way, fed_at}
-use Rattle.endless_mirror.specs.Head.{first_line}
-use Rattle.endless_mirror.specs.Line.{EndlessState, opening_endless, endless_way, fed_at as endless_fed_at}
 use Rattle.tss_mirror.specs.declared.done.Status.{Status}
 use Rattle.tss_mirror.specs.declared.done.Status.TheVariants.{Complete, NoMemory, WrongWords, ReadFault, WriteFault, Refusal}
 use Rattle.tss_mirror.specs.declared.talking.TheConstants.{LONGEST_INPUT}
@@ -52,6 +48,10 @@ side left said faults peer = record {
 
 -- ---- a talk
 
+-- a live mirror of this number to which nothing was said
+abbrev pub silent_mirror : ℕ → Hearing LiveState
+silent_mirror number = fresh (opening_live number)
+
 -- the line that tells that an input is too long
 abbrev pub too_long_text : List ℕ
 too_long_text = refused_text (refused_at 0 Long)
@@ -62,65 +62,33 @@ status_at Goes = Complete
 status_at Refused = Refusal
 status_at Ended = Complete
 
--- how the chosen of the two stands; where no line came, the mirror of a match
-abbrev pub fed_by : Choosing LiveState EndlessState → Fed
-fed_by (undecided a b) = fed_at a.place
-fed_by (by_first a) = fed_at a.place
-fed_by (by_second b) = endless_fed_at b.place
-
 -- and where it was broken off
 abbrev pub status_of : TalkFault → Status
 status_of faults.NotHeard = ReadFault
 status_of faults.NotTold = WriteFault
 status_of faults.NoMemory = NoMemory
 
--- how a talk may end with what answers so from this start on and stands so at last, where this holds of
--- all bytes that were heard
-pub data EndsAs {S : Type 0} (way : Answering S) (start : S) (fed : S → Fed)
-    (is_such : List ℕ → Type 0) (old new : Side) (status : Status) : Type 0 where
+-- how a talk of the mirror of this number may end
+pub data EndsTalk (number : ℕ) (old new : Side) (status : Status) : Type 0 where
   -- all was answered, and so was the end of the input
-  answered : (last : Hearing S)
-      → (talk : IsAnswered way (fresh start) last old.shown new.shown LONGEST_INPUT)
-      → is_such talk.bytes → status ≡ status_at (fed last.state) → new.faults ≡ old.faults
-      → EndsAs way start fed is_such old new status
+  answered : (last : Hearing LiveState)
+      → IsAnswered live_way (silent_mirror number) last old.shown new.shown LONGEST_INPUT
+      → status ≡ status_at (fed_at last.state.place) → new.faults ≡ old.faults
+      → EndsTalk number old new status
   -- the input is too long
-  past : (talk : IsPast way (fresh start) old.shown new.shown LONGEST_INPUT too_long_text)
-      → is_such (talk.front ++ talk.one) → status ≡ Refusal → new.faults ≡ old.faults
-      → EndsAs way start fed is_such old new status
+  past : IsPast live_way (silent_mirror number) old.shown new.shown LONGEST_INPUT too_long_text
+      → status ≡ Refusal → new.faults ≡ old.faults → EndsTalk number old new status
   -- hearing failed
-  unheard : (talk : IsUnheard way (fresh start) old.shown new.shown) → is_such talk.bytes
-      → status ≡ ReadFault → Rose old.faults new.faults
-      → EndsAs way start fed is_such old new status
+  unheard : IsUnheard live_way (silent_mirror number) old.shown new.shown
+      → status ≡ ReadFault → Rose old.faults new.faults → EndsTalk number old new status
   -- telling failed
-  untold : (talk : IsBrokenWhole way (fresh start) old.shown new.shown LONGEST_INPUT too_long_text)
-      → is_such talk.bytes → status ≡ WriteFault → Rose old.faults new.faults
-      → EndsAs way start fed is_such old new status
+  untold : IsBrokenWhole live_way (silent_mirror number) old.shown new.shown LONGEST_INPUT
+      too_long_text
+      → status ≡ WriteFault → Rose old.faults new.faults → EndsTalk number old new status
   -- memory ran out
-  no_memory : (talk : IsBrokenWhole way (fresh start) old.shown new.shown LONGEST_INPUT
-      too_long_text)
-      → is_such talk.bytes → status ≡ NoMemory → EndsAs way start fed is_such old new status
-
--- the first line of a text is `tss live 2`
-abbrev pub IsEndless : List ℕ → Type 0
-IsEndless bytes = IsFrontOf (as_line first_line) bytes
-
--- how a talk of the mirror of this number may end, where what was heard doesn't begin so: as one of a
--- live mirror of a match
-abbrev pub EndsMatch : ℕ → Side → Side → Status → Type 0
-EndsMatch number old new status =
-    EndsAs live_way (opening_live number) (λ s. fed_at s.place) (λ bytes. IsEndless bytes → ⊥)
-    old new status
-
--- and where it does: as one of a mirror of a session without an end
-abbrev pub EndsSession : ℕ → Side → Side → Status → Type 0
-EndsSession number old new status =
-    EndsAs endless_way (opening_endless number) (λ s. endless_fed_at s.place) IsEndless old new
-    status
-
--- how it may end
-abbrev pub EndsTalk : ℕ → Side → Side → Status → Type 0
-EndsTalk number old new status =
-    EndsMatch number old new status ⊎ EndsSession number old new status
+  no_memory : IsBrokenWhole live_way (silent_mirror number) old.shown new.shown LONGEST_INPUT
+      too_long_text
+      → status ≡ NoMemory → EndsTalk number old new status
 
 -- ---- words that name no mirror
 

@@ -1,5 +1,5 @@
-//! The program `tss_mirror`: one mirror of a match or of a session without an end, which is spoken to
-//! line by line over the standard streams. What it does is `live`.
+//! The program `tss_mirror`: one mirror of a match, which is spoken to line by line over the standard
+//! streams. What it does is `live`.
 #![tactic(auto)]
 
 mod done;

@@ -1,13 +1,12 @@
-//! The talk of a mirror with its peer.
+//! The talk of a live mirror with its peer.
 
 ghost use Rattle.std.specs.Prelude.{◌≡◌, ◌≤◌};
-ghost use Rattle.tss_mirror.specs.Run.{side, too_long_text, status_at, status_of, fed_by, EndsTalk};
+ghost use Rattle.tss_mirror.specs.Run.{side, too_long_text, status_at, status_of, EndsTalk};
 
 use crate::done::Status;
 use arrayvec::ArrayString;
-use endless_mirror::EndlessLine;
 use game_trait::MirrorId;
-use line_talk::{Choice, Ear, Peer, TalkFault, WholeEnd, talk_whole};
+use line_talk::{Ear, Peer, TalkFault, WholeEnd, talk_whole};
 use live_mirror::{Fed, LineMirror};
 use report_text::refusal_text;
 use std::alloc::Global;
@@ -27,22 +26,6 @@ fn status_of(fault: TalkFault) -> Status
         TalkFault::NoMemory => Status::NoMemory,
         TalkFault::NotHeard => Status::ReadFault,
         TalkFault::NotTold => Status::WriteFault,
-    }
-}
-
-// What a text's first line is by which its mirror is one of a session without an end.
-const ENDLESS_HEAD: &[u8] = b"tss live 2";
-
-// How the mirror stands that the text's first line chose.
-fn fed_of(choice: &Choice<LineMirror, EndlessLine>) -> Fed
-    ensures { result ≡ fed_by choice.now.choosing }
-{
-    match choice.second() {
-        Some(endless) => endless.fed(),
-        None => match choice.first() {
-            Some(line) => line.fed(),
-            None => unreachable!(),
-        },
     }
 }
 
@@ -66,19 +49,14 @@ fn too_long() -> ArrayString<64>
     })
 }
 
-/// Talks with the peer as the mirror of this number, which is one of a session without an end where the
-/// first line is `tss live 2`, and else one of a match: its lines are answered, each before more is
+/// Talks with the peer as the mirror of this number: its lines are answered, each before more is
 /// heard, until none is taken any more or its bytes end; that end is answered too. At most
 /// 1,073,741,824 bytes are heard: where one more comes, that is told. It returns for every peer.
 pub fn talk_as<P: Peer>(alloc: Global, number: MirrorId, peer: &mut P) -> Status
     ensures { EndsTalk number (side P.left P.said P.faults peer.old)
         (side P.left P.said P.faults peer.new) result }
 {
-    let mut ear = Ear::new(Choice::new(
-        ENDLESS_HEAD,
-        LineMirror::new(alloc, number),
-        EndlessLine::new(alloc, number),
-    ));
+    let mut ear = Ear::new(LineMirror::new(alloc, number));
     let mut buffer = [0; PIECE];
     let mut out = Vec::new(alloc);
     match talk_whole(
@@ -89,7 +67,7 @@ pub fn talk_as<P: Peer>(alloc: Global, number: MirrorId, peer: &mut P) -> Status
         LONGEST_INPUT,
         too_long().as_bytes(),
     ) {
-        Ok(WholeEnd::Answered) => status_at(fed_of(ear.answerer())),
+        Ok(WholeEnd::Answered) => status_at(ear.answerer().fed()),
         Ok(WholeEnd::TooLong) => Status::Refusal,
         Err(fault) => status_of(fault),
     }

@@ -4,6 +4,5 @@ mod endless;
 mod limits;
 mod refusals;
 mod rows;
-mod sessions;
 mod stage;
 mod talks;
