@@ -1,14 +1,14 @@
 -- A whole talk: what comes behind the lines.
-use Rattle.std.proofs.Common.{◌≡◌, ℕ, ◌≤◌, true, false, List, [], ◌∷◌, ◌++◌, length, take, drop, Option, Result, Ok, Err, inl, inr, refl, sym, ap, subst, ◌∙◌, append_assoc, append-nil, length-append, ◌+◌, arith}
-use Rattle.std.specs.Prelude.{IfSome, IfOk, OnOk, OnErr}
+use Rattle.std.proofs.Common.{◌≡◌, ℕ, ◌≤◌, true, false, List, [], ◌∷◌, ◌++◌, length, take, drop, Option, Some, None, Result, Ok, Err, inl, inr, refl, sym, ap, subst, ◌∙◌, append_assoc, append-nil, length-append, ◌+◌, arith}
+use Rattle.std.specs.Prelude.{IfSome, IfOk, OnOk, OnErr, option_to_list}
 use Rattle.std.proofs.lemmas.List.{take-append-drop}
 use Rattle.tss_io.specs.Lines.{lines_of}
 use Rattle.tss_io.specs.Streams.{Yields}
 use Rattle.line_talk.specs.declared.said.Said.{Said}
 use Rattle.line_talk.specs.declared.said.Said.TheVariants.{Heard}
-use Rattle.line_talk.specs.Hearing.{Answering, Hearing, hear, close, told_at_close}
-use Rattle.line_talk.specs.Talk.{Notes, Course, silence, course, AnswersAtOnce, Shown, TellsAll, TellsFront, dues, IsTalk, IsBrokenTalk, IsWholeTalk, IsFrontOfTalk, IsAnswered, IsPast, at_end, past, IsBrokenWhole, IsUnheard, HearsOne}
-use Rattle.line_talk.proofs.TalkLaws.{course-append, at_once-append, joined, told_on}
+use Rattle.line_talk.specs.Hearing.{Answering, Hearing, hear, close, told_at_close, IsFrontOf}
+use Rattle.line_talk.specs.Talk.{Notes, Course, silence, course, AnswersAtOnce, Shown, TellsAll, TellsFront, dues, IsTalk, IsTalkOn, IsBrokenTalk, IsWholeTalk, IsFrontOfTalk, IsAnswered, IsPast, at_end, past, IsBrokenWhole, IsUnheard, HearsOne}
+use Rattle.line_talk.proofs.TalkLaws.{course-append, at_once-append, joined, told_on, front-longer}
 
 -- where two facts hold on Ok, what follows from them holds of what is there
 pub when-ok : {T E A B : Type 0} (r : Result T E) (C : T → Type 0) → OnOk r A → OnOk r B → (A → B → (t : T) → C t) → IfOk r C
@@ -18,6 +18,10 @@ when-ok (Err e) C a b f = tt
 pub when-err : {T E A B : Type 0} (r : Result T E) → OnErr r A → (A → B) → OnErr r B
 when-err (Ok t) a f = tt
 when-err (Err e) a f = f a
+
+pub when-done : {T E A B C : Type 0} (r : Result T E) → OnOk r A → OnOk r B → (A → B → C) → OnOk r C
+when-done (Ok t) a b f = f a b
+when-done (Err e) a b f = tt
 
 -- a talk so far, as a whole
 pub talk-whole : {S : Type 0} (a : Answering S) (h i : Hearing S) (old new : Shown) (n : ℕ) (t : IsTalk a h i old new n) → IsWholeTalk (dues a h) old new t.bytes (dues a h t.bytes)
@@ -93,146 +97,187 @@ close-over : {S : Type 0} (a : Answering S) (h : Hearing S) → a.is_over h.stat
 close-over a h over = rw over (refl, refl)
 
 -- no further line is taken
-pub answered-over : {S : Type 0} (a : Answering S) (h i : Hearing S) (old new : Shown) (limit : ℕ) → (n : ℕ) × (n ≤ limit) × IsTalk a h i old new n → a.is_over i.state ≡ true
-    → IsAnswered a h i old new limit
-answered-over {S = S} a h i old new limit t over =
-    let bytes = t.2.bytes in
-    let there : a.is_over (hear a h (lines_of bytes)).state ≡ true = ap (λ (k : Hearing S). a.is_over k.state) (sym t.2.led) ∙ over in
-    let shut = close-over a (hear a h (lines_of bytes)) there in
-    record {
-      bytes = bytes;
-      within = omega (arith, t.1, t.2.counted);
-      led = t.2.led ∙ sym shut.0;
-      ended = inl there;
-      talk = subst (λ (l : List ℕ). IsWholeTalk (dues a h) old new bytes l) (sym (append-nil (dues a h bytes)) ∙ ap (λ (l : List ℕ). dues a h bytes ++ l) (sym shut.1))
-          (talk-whole a h i old new t.0 t.2);
-    }
+pub answered-over : {S : Type 0} (front : List ℕ) (a : Answering S) (h i : Hearing S) (old new : Shown) (limit : ℕ) → (n : ℕ) × (n ≤ limit) × IsTalkOn front a h i old new n → a.is_over i.state ≡ true
+    → (t : IsAnswered a h i old new limit) × IsFrontOf front t.bytes
+answered-over {S = S} front a h i old new limit t over =
+    let here = t.2.0 in
+    let bytes = here.bytes in
+    let there : a.is_over (hear a h (lines_of bytes)).state ≡ true = ap (λ (k : Hearing S). a.is_over k.state) (sym here.led) ∙ over in
+    let shut = close-over a (hear a h (lines_of bytes)) there in (
+      record {
+        bytes = bytes;
+        within = omega (arith, t.1, here.counted);
+        led = here.led ∙ sym shut.0;
+        ended = inl there;
+        talk = subst (λ (l : List ℕ). IsWholeTalk (dues a h) old new bytes l) (sym (append-nil (dues a h bytes)) ∙ ap (λ (l : List ℕ). dues a h bytes ++ l) (sym shut.1))
+            (talk-whole a h i old new t.0 here);
+      },
+      t.2.1,
+    )
 
 -- nothing is left, and the end was answered
-answered-end : {S : Type 0} (a : Answering S) (h i j : Hearing S) (old mid new : Shown) (limit : ℕ) (bytes : List ℕ) → length bytes ≤ limit → i ≡ hear a h (lines_of bytes)
+pub answered-end : {S : Type 0} (a : Answering S) (h i j : Hearing S) (old mid new : Shown) (limit : ℕ) (bytes : List ℕ) → length bytes ≤ limit → i ≡ hear a h (lines_of bytes)
     → IsWholeTalk (dues a h) old mid bytes (dues a h bytes) → IfSome mid.left (λ rest. rest ≡ []) → new.left ≡ mid.left → j ≡ close a i
-    → (talk : List Said) × Notes mid.said talk new.said × TellsAll (told_at_close a i) talk → IsAnswered a h j old new limit
-answered-end {S = S} a h i j old mid new limit bytes within led t none left shut told = record {
-  bytes = bytes;
-  within = within;
-  led = shut ∙ ap (λ (k : Hearing S). close a k) led;
-  ended = inr (subst (λ (l : Option (List ℕ)). IfSome l (λ rest. rest ≡ [])) (sym left) none);
-  talk = subst (λ (k : Hearing S). IsWholeTalk (dues a h) old new bytes (dues a h bytes ++ told_at_close a k)) led
-      (whole-told (dues a h) old mid new bytes (dues a h bytes) (told_at_close a i) t left told);
-}
+    → (talk : List Said) × Notes mid.said talk new.said × TellsAll (told_at_close a i) talk → (t : IsAnswered a h j old new limit) × (t.bytes ≡ bytes)
+answered-end {S = S} a h i j old mid new limit bytes within led t none left shut told = (
+  record {
+    bytes = bytes;
+    within = within;
+    led = shut ∙ ap (λ (k : Hearing S). close a k) led;
+    ended = inr (subst (λ (l : Option (List ℕ)). IfSome l (λ rest. rest ≡ [])) (sym left) none);
+    talk = subst (λ (k : Hearing S). IsWholeTalk (dues a h) old new bytes (dues a h bytes ++ told_at_close a k)) led
+        (whole-told (dues a h) old mid new bytes (dues a h bytes) (told_at_close a i) t left told);
+  },
+  refl,
+)
 
-broken-end : {S : Type 0} (a : Answering S) (h i : Hearing S) (old mid new : Shown) (limit : ℕ) (too_long bytes : List ℕ) → i ≡ hear a h (lines_of bytes)
-    → IsWholeTalk (dues a h) old mid bytes (dues a h bytes) → new.left ≡ mid.left → TellsFront (told_at_close a i) mid.said new.said → IsBrokenWhole a h old new limit too_long
-broken-end {S = S} a h i old mid new limit too_long bytes led t left told = record {
-  bytes = bytes;
-  text = dues a h bytes ++ told_at_close a (hear a h (lines_of bytes));
-  due = at_end refl;
-  talk = subst (λ (k : Hearing S). IsFrontOfTalk (dues a h) old new bytes (dues a h bytes ++ told_at_close a k)) led
-      (whole-broken (dues a h) old mid new bytes (dues a h bytes) (told_at_close a i) t left told);
-}
+pub broken-end : {S : Type 0} (a : Answering S) (h i : Hearing S) (old mid new : Shown) (limit : ℕ) (too_long bytes : List ℕ) → i ≡ hear a h (lines_of bytes)
+    → IsWholeTalk (dues a h) old mid bytes (dues a h bytes) → new.left ≡ mid.left → TellsFront (told_at_close a i) mid.said new.said
+    → (t : IsBrokenWhole a h old new limit too_long) × (t.bytes ≡ bytes)
+broken-end {S = S} a h i old mid new limit too_long bytes led t left told = (
+  record {
+    bytes = bytes;
+    text = dues a h bytes ++ told_at_close a (hear a h (lines_of bytes));
+    due = at_end refl;
+    talk = subst (λ (k : Hearing S). IsFrontOfTalk (dues a h) old new bytes (dues a h bytes ++ told_at_close a k)) led
+        (whole-broken (dues a h) old mid new bytes (dues a h bytes) (told_at_close a i) t left told);
+  },
+  refl,
+)
 
-pub answered-ended : {S : Type 0} (a : Answering S) (h i j : Hearing S) (old mid new : Shown) (limit : ℕ) → (n : ℕ) × (n ≤ limit) × IsTalk a h i old mid n → IfSome mid.left (λ rest. rest ≡ [])
-    → new.left ≡ mid.left → j ≡ close a i → (talk : List Said) × Notes mid.said talk new.said × TellsAll (told_at_close a i) talk → IsAnswered a h j old new limit
-answered-ended a h i j old mid new limit t none left shut told =
-    answered-end a h i j old mid new limit t.2.bytes (omega (arith, t.1, t.2.counted)) t.2.led (talk-whole a h i old mid t.0 t.2) none left shut told
+-- what holds of the bytes that were heard
+behind : {T : Type 0} (bytes_of : T → List ℕ) (front bytes : List ℕ) → IsFrontOf front bytes → (t : T) × (bytes_of t ≡ bytes) → (t : T) × IsFrontOf front (bytes_of t)
+behind bytes_of front bytes f t = (t.0, (f.0, t.1 ∙ f.1))
 
-pub broken-ended : {S : Type 0} (a : Answering S) (h i : Hearing S) (old mid new : Shown) (limit : ℕ) (too_long : List ℕ) → (n : ℕ) × (n ≤ limit) × IsTalk a h i old mid n
-    → new.left ≡ mid.left → TellsFront (told_at_close a i) mid.said new.said → IsBrokenWhole a h old new limit too_long
-broken-ended a h i old mid new limit too_long t left told =
-    broken-end a h i old mid new limit too_long t.2.bytes t.2.led (talk-whole a h i old mid t.0 t.2) left told
+pub answered-ended : {S : Type 0} (front : List ℕ) (a : Answering S) (h i j : Hearing S) (old mid new : Shown) (limit : ℕ) → (n : ℕ) × (n ≤ limit) × IsTalkOn front a h i old mid n
+    → IfSome mid.left (λ rest. rest ≡ []) → new.left ≡ mid.left → j ≡ close a i → (talk : List Said) × Notes mid.said talk new.said × TellsAll (told_at_close a i) talk
+    → (t : IsAnswered a h j old new limit) × IsFrontOf front t.bytes
+answered-ended front a h i j old mid new limit t none left shut told =
+    let here = t.2.0 in
+    behind (λ (u : IsAnswered a h j old new limit). u.bytes) front here.bytes t.2.1
+    (answered-end a h i j old mid new limit here.bytes (omega (arith, t.1, here.counted)) here.led (talk-whole a h i old mid t.0 here) none left shut told)
+
+pub broken-ended : {S : Type 0} (front : List ℕ) (a : Answering S) (h i : Hearing S) (old mid new : Shown) (limit : ℕ) (too_long : List ℕ) → (n : ℕ) × (n ≤ limit) × IsTalkOn front a h i old mid n
+    → new.left ≡ mid.left → TellsFront (told_at_close a i) mid.said new.said → (t : IsBrokenWhole a h old new limit too_long) × IsFrontOf front t.bytes
+broken-ended front a h i old mid new limit too_long t left told =
+    let here = t.2.0 in
+    behind (λ (u : IsBrokenWhole a h old new limit too_long). u.bytes) front here.bytes t.2.1
+    (broken-end a h i old mid new limit too_long here.bytes here.led (talk-whole a h i old mid t.0 here) left told)
 
 -- ---- at the limit
 
-none-heard : (l : List ℕ) → length l ≡ 0 → l ≡ []
-none-heard [] e = refl
-none-heard (b ∷ l) e = absurd (omega (arith, e))
-
 -- behind as many bytes as the limit allows nothing more was heard
-still-whole : {S : Type 0} (a : Answering S) (h i : Hearing S) (old mid new : Shown) (n count : ℕ) (t : IsTalk a h i old mid n) → HearsOne mid new count → count ≡ 0
+still-whole : {S : Type 0} (a : Answering S) (h i : Hearing S) (old mid new : Shown) (n : ℕ) (one : Option ℕ) (t : IsTalk a h i old mid n) → HearsOne mid new one → one ≡ None
     → IsWholeTalk (dues a h) old new t.bytes (dues a h t.bytes)
-still-whole a h i old mid new n count t more none =
-    whole-heard_none (dues a h) old mid new t.bytes more.bytes (talk-whole a h i old mid n t) more.left more.said (none-heard more.bytes (more.counted ∙ none))
+still-whole a h i old mid new n one t more none =
+    whole-heard_none (dues a h) old mid new t.bytes (option_to_list one) (talk-whole a h i old mid n t) more.left more.said (ap (λ (o : Option ℕ). option_to_list o) none)
 
-pub answered-full : {S : Type 0} (a : Answering S) (h i j : Hearing S) (old mid next new : Shown) (limit count : ℕ) → (n : ℕ) × (n ≡ limit) × IsTalk a h i old mid n → HearsOne mid next count
-    → count ≡ 0 → IfSome next.left (λ rest. rest ≡ []) → new.left ≡ next.left → j ≡ close a i
-    → (talk : List Said) × Notes next.said talk new.said × TellsAll (told_at_close a i) talk → IsAnswered a h j old new limit
-answered-full a h i j old mid next new limit count t more none_more none left shut told =
-    answered-end a h i j old next new limit t.2.bytes (omega (arith, t.1, t.2.counted)) t.2.led (still-whole a h i old mid next t.0 count t.2 more none_more) none left shut told
+pub answered-full : {S : Type 0} (front : List ℕ) (a : Answering S) (h i j : Hearing S) (old mid next new : Shown) (limit : ℕ) (one : Option ℕ) → (n : ℕ) × (n ≡ limit) × IsTalkOn front a h i old mid n
+    → HearsOne mid next one → one ≡ None → IfSome next.left (λ rest. rest ≡ []) → new.left ≡ next.left → j ≡ close a i
+    → (talk : List Said) × Notes next.said talk new.said × TellsAll (told_at_close a i) talk → (t : IsAnswered a h j old new limit) × IsFrontOf front t.bytes
+answered-full front a h i j old mid next new limit one t more none_more none left shut told =
+    let here = t.2.0 in
+    behind (λ (u : IsAnswered a h j old new limit). u.bytes) front here.bytes t.2.1
+    (answered-end a h i j old next new limit here.bytes (omega (arith, t.1, here.counted)) here.led (still-whole a h i old mid next t.0 one here more none_more) none left shut told)
 
-pub broken-full : {S : Type 0} (a : Answering S) (h i : Hearing S) (old mid next new : Shown) (limit count : ℕ) (too_long : List ℕ) → (n : ℕ) × (n ≡ limit) × IsTalk a h i old mid n
-    → HearsOne mid next count → count ≡ 0 → new.left ≡ next.left → TellsFront (told_at_close a i) next.said new.said → IsBrokenWhole a h old new limit too_long
-broken-full a h i old mid next new limit count too_long t more none_more left told =
-    broken-end a h i old next new limit too_long t.2.bytes t.2.led (still-whole a h i old mid next t.0 count t.2 more none_more) left told
+pub broken-full : {S : Type 0} (front : List ℕ) (a : Answering S) (h i : Hearing S) (old mid next new : Shown) (limit : ℕ) (one : Option ℕ) (too_long : List ℕ)
+    → (n : ℕ) × (n ≡ limit) × IsTalkOn front a h i old mid n → HearsOne mid next one → one ≡ None → new.left ≡ next.left → TellsFront (told_at_close a i) next.said new.said
+    → (t : IsBrokenWhole a h old new limit too_long) × IsFrontOf front t.bytes
+broken-full front a h i old mid next new limit one too_long t more none_more left told =
+    let here = t.2.0 in
+    behind (λ (u : IsBrokenWhole a h old new limit too_long). u.bytes) front here.bytes t.2.1
+    (broken-end a h i old next new limit too_long here.bytes here.led (still-whole a h i old mid next t.0 one here more none_more) left told)
 
 -- one byte more was heard
 goes-on : {S : Type 0} (a : Answering S) (h i : Hearing S) (bytes : List ℕ) → i ≡ hear a h (lines_of bytes) → a.is_over i.state ≡ false → a.is_over (hear a h (lines_of bytes)).state ≡ false
 goes-on {S = S} a h i bytes led goes = ap (λ (k : Hearing S). a.is_over k.state) (sym led) ∙ goes
 
-one-more : {S : Type 0} (a : Answering S) (h i : Hearing S) (old mid new : Shown) (n count : ℕ) (t : IsTalk a h i old mid n) (more : HearsOne mid new count)
-    → IsWholeTalk (dues a h) old new (t.bytes ++ more.bytes) (dues a h t.bytes)
-one-more a h i old mid new n count t more = whole-heard (dues a h) old mid new t.bytes more.bytes (talk-whole a h i old mid n t) more.left more.said
+one-more : {S : Type 0} (a : Answering S) (h i : Hearing S) (old mid new : Shown) (n : ℕ) (one : Option ℕ) (t : IsTalk a h i old mid n) (more : HearsOne mid new one)
+    → IsWholeTalk (dues a h) old new (t.bytes ++ option_to_list one) (dues a h t.bytes)
+one-more a h i old mid new n one t more = whole-heard (dues a h) old mid new t.bytes (option_to_list one) (talk-whole a h i old mid n t) more.left more.said
 
-pub past-told : {S : Type 0} (a : Answering S) (h i : Hearing S) (old mid next new : Shown) (limit count : ℕ) (too_long : List ℕ)
-    → ((n : ℕ) × (n ≡ limit) × IsTalk a h i old mid n) × (a.is_over i.state ≡ false) → HearsOne mid next count → 1 ≤ count → new.left ≡ next.left
-    → (talk : List Said) × Notes next.said talk new.said × TellsAll too_long talk → IsPast a h old new limit too_long
-past-told a h i old mid next new limit count too_long t more some left told =
-    let here = t.0.2 in
-    record {
-      front = here.bytes;
-      one = more.bytes;
-      counted = here.counted ∙ t.0.1;
-      one_more = omega (arith, more.counted, more.few);
-      goes = goes-on a h i here.bytes here.led t.1;
-      talk = whole-told (dues a h) old next new (here.bytes ++ more.bytes) (dues a h here.bytes) too_long (one-more a h i old mid next t.0.0 count here more) left told;
-    }
+some-one : (one : Option ℕ) (b : ℕ) → one ≡ Some b → length (option_to_list one) ≡ 1
+some-one one b some = ap (λ (o : Option ℕ). length (option_to_list o)) some
 
-pub broken-past : {S : Type 0} (a : Answering S) (h i : Hearing S) (old mid next new : Shown) (limit count : ℕ) (too_long : List ℕ)
-    → ((n : ℕ) × (n ≡ limit) × IsTalk a h i old mid n) × (a.is_over i.state ≡ false) → HearsOne mid next count → 1 ≤ count → new.left ≡ next.left
-    → TellsFront too_long next.said new.said → IsBrokenWhole a h old new limit too_long
-broken-past a h i old mid next new limit count too_long t more some left told =
-    let here = t.0.2 in
-    record {
-      bytes = here.bytes ++ more.bytes;
-      text = dues a h here.bytes ++ too_long;
-      due = past here.bytes more.bytes refl (here.counted ∙ t.0.1) (omega (arith, more.counted, more.few)) (goes-on a h i here.bytes here.led t.1) refl;
-      talk = whole-broken (dues a h) old next new (here.bytes ++ more.bytes) (dues a h here.bytes) too_long (one-more a h i old mid next t.0.0 count here more) left told;
-    }
+pub past-told : {S : Type 0} (front : List ℕ) (a : Answering S) (h i : Hearing S) (old mid next new : Shown) (limit : ℕ) (one : Option ℕ) (b : ℕ) (too_long : List ℕ)
+    → (n : ℕ) × (n ≡ limit) × IsTalkOn front a h i old mid n → a.is_over i.state ≡ false → HearsOne mid next one → one ≡ Some b → new.left ≡ next.left
+    → (talk : List Said) × Notes next.said talk new.said × TellsAll too_long talk → (t : IsPast a h old new limit too_long) × IsFrontOf front (t.front ++ t.one)
+past-told front a h i old mid next new limit one b too_long t goes more some left told =
+    let here = t.2.0 in (
+      record {
+        front = here.bytes;
+        one = option_to_list one;
+        counted = here.counted ∙ t.1;
+        one_more = some-one one b some;
+        goes = goes-on a h i here.bytes here.led goes;
+        talk = whole-told (dues a h) old next new (here.bytes ++ option_to_list one) (dues a h here.bytes) too_long (one-more a h i old mid next t.0 one here more) left told;
+      },
+      front-longer front here.bytes (option_to_list one) t.2.1,
+    )
+
+pub broken-past : {S : Type 0} (front : List ℕ) (a : Answering S) (h i : Hearing S) (old mid next new : Shown) (limit : ℕ) (one : Option ℕ) (b : ℕ) (too_long : List ℕ)
+    → (n : ℕ) × (n ≡ limit) × IsTalkOn front a h i old mid n → a.is_over i.state ≡ false → HearsOne mid next one → one ≡ Some b → new.left ≡ next.left
+    → TellsFront too_long next.said new.said → (t : IsBrokenWhole a h old new limit too_long) × IsFrontOf front t.bytes
+broken-past front a h i old mid next new limit one b too_long t goes more some left told =
+    let here = t.2.0 in (
+      record {
+        bytes = here.bytes ++ option_to_list one;
+        text = dues a h here.bytes ++ too_long;
+        due = past here.bytes (option_to_list one) refl (here.counted ∙ t.1) (some-one one b some) (goes-on a h i here.bytes here.led goes) refl;
+        talk = whole-broken (dues a h) old next new (here.bytes ++ option_to_list one) (dues a h here.bytes) too_long (one-more a h i old mid next t.0 one here more) left told;
+      },
+      front-longer front here.bytes (option_to_list one) t.2.1,
+    )
 
 -- ---- a talk that is broken off
 
-pub unheard-talk : {S : Type 0} (a : Answering S) (h i : Hearing S) (old new : Shown) → (n : ℕ) × IsTalk a h i old new n → IsUnheard a h old new
-unheard-talk a h i old new t = record { bytes = t.1.bytes; talk = talk-whole a h i old new t.0 t.1 }
+pub unheard-talk : {S : Type 0} (front : List ℕ) (a : Answering S) (h i : Hearing S) (old new : Shown) → (n : ℕ) × IsTalkOn front a h i old new n → (t : IsUnheard a h old new) × IsFrontOf front t.bytes
+unheard-talk front a h i old new t = (record { bytes = t.1.0.bytes; talk = talk-whole a h i old new t.0 t.1.0 }, t.1.1)
 
-pub unheard-full : {S : Type 0} (a : Answering S) (h i : Hearing S) (old mid new : Shown) (limit : ℕ) → (n : ℕ) × (n ≡ limit) × IsTalk a h i old mid n → new.left ≡ mid.left → new.said ≡ mid.said
-    → IsUnheard a h old new
-unheard-full a h i old mid new limit t left said =
-    record { bytes = t.2.bytes; talk = whole-still (dues a h) old mid new t.2.bytes (dues a h t.2.bytes) (talk-whole a h i old mid t.0 t.2) left said }
+pub unheard-full : {S : Type 0} (front : List ℕ) (a : Answering S) (h i : Hearing S) (old mid new : Shown) (limit : ℕ) → (n : ℕ) × (n ≡ limit) × IsTalkOn front a h i old mid n → new.left ≡ mid.left
+    → new.said ≡ mid.said → (t : IsUnheard a h old new) × IsFrontOf front t.bytes
+unheard-full front a h i old mid new limit t left said =
+    let here = t.2.0 in
+    (record { bytes = here.bytes; talk = whole-still (dues a h) old mid new here.bytes (dues a h here.bytes) (talk-whole a h i old mid t.0 here) left said }, t.2.1)
 
-pub broken-unheard : {S : Type 0} (a : Answering S) (h : Hearing S) (old new : Shown) (limit : ℕ) (too_long : List ℕ) → IsUnheard a h old new → IsBrokenWhole a h old new limit too_long
-broken-unheard a h old new limit too_long t = record {
-  bytes = t.bytes;
-  text = dues a h t.bytes ++ told_at_close a (hear a h (lines_of t.bytes));
-  due = at_end refl;
-  talk = whole-front (dues a h) old new t.bytes (dues a h t.bytes) (told_at_close a (hear a h (lines_of t.bytes))) t.talk;
-}
+pub broken-unheard : {S : Type 0} (front : List ℕ) (a : Answering S) (h : Hearing S) (old new : Shown) (limit : ℕ) (too_long : List ℕ) → (t : IsUnheard a h old new) × IsFrontOf front t.bytes
+    → (t : IsBrokenWhole a h old new limit too_long) × IsFrontOf front t.bytes
+broken-unheard front a h old new limit too_long u =
+    let t = u.0 in (
+      record {
+        bytes = t.bytes;
+        text = dues a h t.bytes ++ told_at_close a (hear a h (lines_of t.bytes));
+        due = at_end refl;
+        talk = whole-front (dues a h) old new t.bytes (dues a h t.bytes) (told_at_close a (hear a h (lines_of t.bytes))) t.talk;
+      },
+      u.1,
+    )
 
 -- a front of what is due of the lines is one of what is due of them and their end
-pub broken-talk : {S : Type 0} (a : Answering S) (h : Hearing S) (old new : Shown) (limit : ℕ) (too_long : List ℕ) → IsBrokenTalk a h old new → IsBrokenWhole a h old new limit too_long
-broken-talk a h old new limit too_long t =
+pub broken-talk : {S : Type 0} (a : Answering S) (h : Hearing S) (old new : Shown) (limit : ℕ) (too_long bytes : List ℕ) (t : IsBrokenTalk a h old new) → t.bytes ≡ bytes
+    → (u : IsBrokenWhole a h old new limit too_long) × (u.bytes ≡ bytes)
+broken-talk a h old new limit too_long bytes t same =
     let more = told_at_close a (hear a h (lines_of t.bytes)) in
-    let f = t.talk in
-    record {
-      bytes = t.bytes;
-      text = dues a h t.bytes ++ more;
-      due = at_end refl;
-      talk = record {
-        talk = f.talk;
-        passed = f.passed;
-        at_once = f.at_once;
-        all_heard = f.all_heard;
-        front = (f.front.0 ++ more, ap (λ (l : List ℕ). l ++ more) f.front.1 ∙ append_assoc (course silence f.talk).told f.front.0 more);
-      };
-    }
+    let f = t.talk in (
+      record {
+        bytes = t.bytes;
+        text = dues a h t.bytes ++ more;
+        due = at_end refl;
+        talk = record {
+          talk = f.talk;
+          passed = f.passed;
+          at_once = f.at_once;
+          all_heard = f.all_heard;
+          front = (f.front.0 ++ more, ap (λ (l : List ℕ). l ++ more) f.front.1 ∙ append_assoc (course silence f.talk).told f.front.0 more);
+        };
+      },
+      same,
+    )
+
+pub broken-talk_on : {S : Type 0} (front : List ℕ) (a : Answering S) (h : Hearing S) (old new : Shown) (limit : ℕ) (too_long : List ℕ) → (t : IsBrokenTalk a h old new) × IsFrontOf front t.bytes
+    → (u : IsBrokenWhole a h old new limit too_long) × IsFrontOf front u.bytes
+broken-talk_on front a h old new limit too_long t =
+    behind (λ (u : IsBrokenWhole a h old new limit too_long). u.bytes) front t.0.bytes t.1 (broken-talk a h old new limit too_long t.0.bytes t.0 refl)
 
 front-of : {X : Type 0} (xs ys : List X) → take (length xs) (xs ++ ys) ≡ xs
 front-of [] ys = refl

@@ -1,15 +1,16 @@
 //! A whole talk: a peer is heard to its end, and that is answered too.
 
-ghost use Rattle.std.specs.Prelude.{◌≡◌, ◌⊎◌, ◌<◌, ◌+◌, true, List, ℕ, [], length, IfOk, IfErr, IfSome, OnOk, OnErr, IsErrOf};
+ghost use Rattle.std.specs.Prelude.{◌≡◌, ◌≤◌, ◌<◌, ◌++◌, List, ℕ, [], length, IfOk, IfErr, IfSome, OnOk, OnErr, IsErrOf};
 ghost use Rattle.tss_io.specs.Lines.{lines_of};
 ghost use Rattle.tss_io.specs.Streams.{Rose};
-ghost use Rattle.line_talk.specs.Hearing.{hear, close, told_at_close};
+ghost use Rattle.line_talk.specs.Hearing.{hear, close, told_at_close, IsFrontOf};
 ghost use Rattle.line_talk.specs.declared.said.Said.{Said};
-ghost use Rattle.line_talk.specs.Talk.{Notes, TellsAll, TellsFront, dues, shown, HearsOne, IsAnswered, IsPast, IsBrokenWhole, IsUnheard};
+ghost use Rattle.line_talk.specs.Talk.{Notes, TellsAll, TellsFront, dues, shown, Behind, IsAnswered, IsPast, IsBrokenWhole, IsUnheard};
 
 use crate::answerer::Answerer;
-use crate::course::{TalkEnd, TalkFault, talk, tell_flushed};
+use crate::course::{TalkEnd, TalkFault, answer_piece, talk, tell_flushed};
 use crate::ear::Ear;
+use crate::front::hear_one;
 use crate::peer::Peer;
 use tss_base::NoMemory;
 use tss_io::Failed;
@@ -54,25 +55,6 @@ fn close_talk<A: Answerer, P: Peer>(
     }
 }
 
-// Hears one byte more, and answers how many there are: none at the end.
-fn hear_one<P: Peer>(peer: &mut P, buffer: &mut [u8]) -> Result<usize, TalkFault>
-    requires buffer { 0 < length buffer.old }
-    ensures heard { IfOk result (λ n. HearsOne
-        (shown P.left P.said peer.old) (shown P.left P.said peer.new) n) }
-    ensures end { IfOk result (λ n. n ≡ 0 → IfSome (P.left peer.new) (λ bytes. bytes ≡ [])) }
-    ensures left_still { OnErr result (P.left peer.new ≡ P.left peer.old) }
-    ensures unsaid { OnErr result (P.said peer.new ≡ P.said peer.old) }
-    ensures steady { OnOk result (P.faults peer.new ≡ P.faults peer.old) }
-    ensures rose { OnErr result (Rose (P.faults peer.old) (P.faults peer.new)) }
-    ensures not_heard { IfErr result (λ fault. fault ≡ TalkFault.NotHeard) }
-{
-    let (one, _) = buffer.split_at_mut(1);
-    match peer.hear(one) {
-        Ok(count) => Ok(count),
-        Err(Failed) => Err(TalkFault::NotHeard),
-    }
-}
-
 // Tells that the peer's bytes are too long.
 fn tell_too_long<P: Peer>(peer: &mut P, too_long: &[u8]) -> Result<WholeEnd, TalkFault>
     ensures too_long { IfOk result (λ end. end ≡ WholeEnd.TooLong) }
@@ -91,43 +73,80 @@ fn tell_too_long<P: Peer>(peer: &mut P, too_long: &[u8]) -> Result<WholeEnd, Tal
     }
 }
 
-/// Talks until no further line is taken or the peer's bytes end, and answers that end. Where they
-/// are more than `limit`, the lines of the first of these are answered, and then `too_long` is told.
-/// `out` holds what is told meanwhile.
+/// Answers the front of a talk, which was heard before, then talks until no further line is taken or
+/// the peer's bytes end, and answers that end. Where they are more than `limit` with the front's, the
+/// lines of the first of these are answered, and then `too_long` is told. `out` holds what is told
+/// meanwhile.
 pub fn talk_whole<A: Answerer, P: Peer>(
     ear: &mut Ear<A>,
     peer: &mut P,
+    front: &[u8],
     buffer: &mut [u8],
     out: &mut Vec<u8>,
     limit: usize,
     too_long: &[u8],
 ) -> Result<WholeEnd, TalkFault>
+    requires short { length front.now ≤ limit }
     requires buffer { 0 < length buffer.old }
     requires empty { out.old.items ≡ [] }
-    requires fresh { ear.old.begun ≡ [] }
     ensures answered { IfOk result (λ end. end ≡ WholeEnd.Answered
-        → IsAnswered A.way ear.old ear.new
-        (shown P.left P.said peer.old) (shown P.left P.said peer.new) limit) }
-    ensures past { IfOk result (λ end. end ≡ WholeEnd.TooLong → IsPast A.way ear.old
-        (shown P.left P.said peer.old) (shown P.left P.said peer.new) limit too_long.now) }
-    ensures broken { OnErr result (IsBrokenWhole A.way ear.old
-        (shown P.left P.said peer.old) (shown P.left P.said peer.new) limit too_long.now) }
-    ensures unheard { IfErr result (λ fault. fault ≡ TalkFault.NotHeard → IsUnheard A.way ear.old
-        (shown P.left P.said peer.old) (shown P.left P.said peer.new)) }
+        → Behind front.now (shown P.left P.said peer.old) (λ old.
+        (t : IsAnswered A.way ear.old ear.new old (shown P.left P.said peer.new) limit)
+        × IsFrontOf front.now t.bytes)) }
+    ensures past { IfOk result (λ end. end ≡ WholeEnd.TooLong
+        → Behind front.now (shown P.left P.said peer.old) (λ old.
+        (t : IsPast A.way ear.old old (shown P.left P.said peer.new) limit too_long.now)
+        × IsFrontOf front.now (t.front ++ t.one))) }
+    ensures broken { OnErr result (Behind front.now (shown P.left P.said peer.old) (λ old.
+        (t : IsBrokenWhole A.way ear.old old (shown P.left P.said peer.new) limit too_long.now)
+        × IsFrontOf front.now t.bytes)) }
+    ensures unheard { IfErr result (λ fault. fault ≡ TalkFault.NotHeard
+        → Behind front.now (shown P.left P.said peer.old) (λ old.
+        (t : IsUnheard A.way ear.old old (shown P.left P.said peer.new))
+        × IsFrontOf front.now t.bytes)) }
     ensures steady { OnOk result (P.faults peer.new ≡ P.faults peer.old) }
     ensures not_heard { IsErrOf result TalkFault.NotHeard
         → Rose (P.faults peer.old) (P.faults peer.new) }
     ensures not_told { IsErrOf result TalkFault.NotTold
         → Rose (P.faults peer.old) (P.faults peer.new) }
 {
-    match talk(ear, peer, buffer, out, limit) {
+    match talk(ear, peer, front, buffer, out, limit) {
         Ok(TalkEnd::Over) => Ok(WholeEnd::Answered),
         Ok(TalkEnd::Ended) => close_talk(ear, peer, out),
-        Ok(TalkEnd::Full) => match hear_one(peer, buffer) {
-            Ok(0) => close_talk(ear, peer, out),
-            Ok(_) => tell_too_long(peer, too_long),
-            Err(fault) => Err(fault),
+        Ok(TalkEnd::Full) => match hear_one(peer) {
+            Ok(None) => close_talk(ear, peer, out),
+            Ok(Some(_)) => tell_too_long(peer, too_long),
+            Err(Failed) => Err(TalkFault::NotHeard),
         },
+        Err(fault) => Err(fault),
+    }
+}
+
+/// Answers a talk of which all was heard before, and its end. `out` holds what is told meanwhile.
+pub fn close_front<A: Answerer, P: Peer>(
+    ear: &mut Ear<A>,
+    peer: &mut P,
+    front: &[u8],
+    out: &mut Vec<u8>,
+) -> Result<WholeEnd, TalkFault>
+    requires empty { out.old.items ≡ [] }
+    ensures answered { OnOk result (IfSome (P.left peer.old) (λ rest. rest ≡ [])
+        → Behind front.now (shown P.left P.said peer.old) (λ old. (limit : ℕ)
+        → length front.now ≤ limit
+        → (t : IsAnswered A.way ear.old ear.new old (shown P.left P.said peer.new) limit)
+        × (t.bytes ≡ front.now))) }
+    ensures broken { OnErr result (Behind front.now (shown P.left P.said peer.old) (λ old.
+        (limit : ℕ) (too_long : List ℕ)
+        → (t : IsBrokenWhole A.way ear.old old (shown P.left P.said peer.new) limit too_long)
+        × (t.bytes ≡ front.now))) }
+    ensures whole { IfOk result (λ end. end ≡ WholeEnd.Answered) }
+    ensures steady { OnOk result (P.faults peer.new ≡ P.faults peer.old) }
+    ensures rose { IsErrOf result TalkFault.NotTold
+        → Rose (P.faults peer.old) (P.faults peer.new) }
+    ensures heard { IfErr result (λ fault. fault ≡ TalkFault.NotHeard → ⊥) }
+{
+    match answer_piece(ear, peer, front, out) {
+        Ok(()) => close_talk(ear, peer, out),
         Err(fault) => Err(fault),
     }
 }

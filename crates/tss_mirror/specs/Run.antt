@@ -1,20 +1,23 @@
 -- How a run of the program may end.
-use Rattle.std.specs.Prelude.{◌≡◌, ◌==◌, ℕ, List, Option, Some, None, codes, if◌then◌else◌}
+use Rattle.std.specs.Prelude.{◌≡◌, ◌==◌, ◌⊎◌, ◌++◌, ℕ, List, Option, Some, None, codes, if◌then◌else◌}
+use Rattle.tss_io.specs.Lines.{as_line}
 use Rattle.tss_io.specs.Streams.{Rose}
 use Rattle.tss_io.specs.declared.cause.Cause.TheVariants.{Long}
 use Rattle.tss_io.specs.Reading.{refused_at}
 use Rattle.report_text.specs.Ends.{refused_text}
-use Rattle.line_talk.specs.Hearing.{Hearing, fresh}
+use Rattle.line_talk.specs.Hearing.{Answering, Hearing, fresh, IsFrontOf}
 use Rattle.line_talk.specs.declared.said.Said.{Said}
 use Rattle.line_talk.specs.Talk.{Notes, Shown, TellsAll, TellsFront, IsAnswered, IsPast, IsBrokenWhole, IsUnheard}
 use Rattle.line_talk.specs.declared.course.TalkFault.{TalkFault}
 use Rattle.line_talk.specs.declared.course.TalkFault.TheVariants as faults
 use Rattle.live_mirror.specs.declared.fed.Fed.{Fed}
 use Rattle.live_mirror.specs.declared.fed.Fed.TheVariants.{Goes, Refused, Ended}
-use Rattle.live_mirror.specs.Live.{LiveState, opening_live, live_way, fed_at}
+use Rattle.live_mirror.specs.Live.{opening_live, live_way, fed_at}
+use Rattle.endless_mirror.specs.Head.{first_line}
+use Rattle.endless_mirror.specs.Line.{opening_endless, endless_way, fed_at as endless_fed_at}
 use Rattle.tss_mirror.specs.declared.done.Status.{Status}
 use Rattle.tss_mirror.specs.declared.done.Status.TheVariants.{Complete, NoMemory, WrongWords, ReadFault, WriteFault, Refusal}
-use Rattle.tss_mirror.specs.declared.talking.TheConstants.{LONGEST_INPUT}
+use Rattle.tss_mirror.specs.declared.talking.TheConstants.{LONGEST_INPUT, LONGEST_SESSION}
 use Rattle.tss_mirror.specs.Words.{mirror_of, usage_text}
 
 -- the exit status
@@ -48,10 +51,6 @@ side left said faults peer = record {
 
 -- ---- a talk
 
--- a live mirror of this number to which nothing was said
-abbrev pub silent_mirror : ℕ → Hearing LiveState
-silent_mirror number = fresh (opening_live number)
-
 -- the line that tells that an input is too long
 abbrev pub too_long_text : List ℕ
 too_long_text = refused_text (refused_at 0 Long)
@@ -68,27 +67,53 @@ status_of faults.NotHeard = ReadFault
 status_of faults.NotTold = WriteFault
 status_of faults.NoMemory = NoMemory
 
--- how a talk of the mirror of this number may end
-pub data EndsTalk (number : ℕ) (old new : Side) (status : Status) : Type 0 where
+-- how a talk may end with what answers so from this start on, hears as many bytes as this at most and
+-- stands so at last, where this holds of all bytes that were heard
+pub data EndsAs {S : Type 0} (way : Answering S) (start : S) (fed : S → Fed) (limit : ℕ)
+    (is_such : List ℕ → Type 0) (old new : Side) (status : Status) : Type 0 where
   -- all was answered, and so was the end of the input
-  answered : (last : Hearing LiveState)
-      → IsAnswered live_way (silent_mirror number) last old.shown new.shown LONGEST_INPUT
-      → status ≡ status_at (fed_at last.state.place) → new.faults ≡ old.faults
-      → EndsTalk number old new status
+  answered : (last : Hearing S)
+      → (talk : IsAnswered way (fresh start) last old.shown new.shown limit)
+      → is_such talk.bytes → status ≡ status_at (fed last.state) → new.faults ≡ old.faults
+      → EndsAs way start fed limit is_such old new status
   -- the input is too long
-  past : IsPast live_way (silent_mirror number) old.shown new.shown LONGEST_INPUT too_long_text
-      → status ≡ Refusal → new.faults ≡ old.faults → EndsTalk number old new status
+  past : (talk : IsPast way (fresh start) old.shown new.shown limit too_long_text)
+      → is_such (talk.front ++ talk.one) → status ≡ Refusal → new.faults ≡ old.faults
+      → EndsAs way start fed limit is_such old new status
   -- hearing failed
-  unheard : IsUnheard live_way (silent_mirror number) old.shown new.shown
-      → status ≡ ReadFault → Rose old.faults new.faults → EndsTalk number old new status
+  unheard : (talk : IsUnheard way (fresh start) old.shown new.shown) → is_such talk.bytes
+      → status ≡ ReadFault → Rose old.faults new.faults
+      → EndsAs way start fed limit is_such old new status
   -- telling failed
-  untold : IsBrokenWhole live_way (silent_mirror number) old.shown new.shown LONGEST_INPUT
-      too_long_text
-      → status ≡ WriteFault → Rose old.faults new.faults → EndsTalk number old new status
+  untold : (talk : IsBrokenWhole way (fresh start) old.shown new.shown limit too_long_text)
+      → is_such talk.bytes → status ≡ WriteFault → Rose old.faults new.faults
+      → EndsAs way start fed limit is_such old new status
   -- memory ran out
-  no_memory : IsBrokenWhole live_way (silent_mirror number) old.shown new.shown LONGEST_INPUT
-      too_long_text
-      → status ≡ NoMemory → EndsTalk number old new status
+  no_memory : (talk : IsBrokenWhole way (fresh start) old.shown new.shown limit too_long_text)
+      → is_such talk.bytes → status ≡ NoMemory
+      → EndsAs way start fed limit is_such old new status
+
+-- the first line of a text is `tss live 2`
+abbrev pub IsEndless : List ℕ → Type 0
+IsEndless bytes = IsFrontOf (as_line first_line) bytes
+
+-- how a talk of the mirror of this number may end, where what was heard doesn't begin so: as one of a
+-- live mirror of a match
+abbrev pub EndsMatch : ℕ → Side → Side → Status → Type 0
+EndsMatch number old new status =
+    EndsAs live_way (opening_live number) (λ s. fed_at s.place) LONGEST_INPUT
+    (λ bytes. IsEndless bytes → ⊥) old new status
+
+-- and where it does: as one of a mirror of a session without an end
+abbrev pub EndsSession : ℕ → Side → Side → Status → Type 0
+EndsSession number old new status =
+    EndsAs endless_way (opening_endless number) (λ s. endless_fed_at s.place) LONGEST_SESSION
+    IsEndless old new status
+
+-- how it may end
+abbrev pub EndsTalk : ℕ → Side → Side → Status → Type 0
+EndsTalk number old new status =
+    EndsMatch number old new status ⊎ EndsSession number old new status
 
 -- ---- words that name no mirror
 

@@ -1,11 +1,12 @@
-//! The program `tss_mirror`: one mirror of a match, which is spoken to line by line over the standard
-//! streams. What it does is `live`.
+//! The program `tss_mirror`: one mirror of a match or of a session without an end, which is spoken to
+//! line by line over the standard streams. What it does is `live`.
 #![tactic(auto)]
 
 mod done;
 pub mod laws;
 mod live;
 mod memory;
+mod standing;
 mod streams;
 mod talking;
 #[cfg(test)]

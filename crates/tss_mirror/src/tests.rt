@@ -4,5 +4,6 @@ mod endless;
 mod limits;
 mod refusals;
 mod rows;
+mod sessions;
 mod stage;
 mod talks;

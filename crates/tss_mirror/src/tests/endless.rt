@@ -1,10 +1,11 @@
-//! A peer that says as much as the program hears, and one that says a byte more.
+//! A peer that says as much as the mirror of a match hears, and one that says a byte more.
 
 ghost use Rattle.std.specs.Prelude.{◌≡◌, ◌≤◌, None, length};
 
 use crate::live::live;
 use crate::talking::LONGEST_INPUT;
 use crate::tests::rows::HEAD;
+use crate::tests::sessions::HEAD as SESSION;
 use crate::tests::stage::{assert_lines, words_of};
 use line_talk::Peer;
 use std::alloc::Global;
@@ -77,9 +78,16 @@ impl Peer for EndlessPeer {
     }
 }
 
-// Asserts that a talk with a peer that says so many bytes ends so.
-fn assert_ends(rt: &impl Abort, alloc: Global, bytes: usize, status: u8, due: &str) {
-    let text = HEAD.as_bytes();
+// Asserts that a talk with a peer that says this head and so many bytes in all ends so.
+fn assert_ends(
+    rt: &impl Abort,
+    alloc: Global,
+    head: &'static str,
+    bytes: usize,
+    status: u8,
+    due: &str,
+) {
+    let text = head.as_bytes();
     let mut peer = EndlessPeer {
         text,
         left: bytes.saturating_sub(text.len()),
@@ -94,10 +102,17 @@ fn assert_ends(rt: &impl Abort, alloc: Global, bytes: usize, status: u8, due: &s
 }
 
 #[test]
-fn an_input_has_1_073_741_824_bytes(rt: HostRuntime) {
+fn the_input_of_a_match_has_1_073_741_824_bytes(rt: HostRuntime) {
     let due = "ok\nrefused line 10 cause 8 end\n";
-    assert_ends(&rt, rt.alloc(), LONGEST_INPUT, 0, due);
+    assert_ends(&rt, rt.alloc(), HEAD, LONGEST_INPUT, 0, due);
     let due = "ok\nrefused line 0 cause 9 long\n";
     let more = LONGEST_INPUT.saturating_add(1);
-    assert_ends(&rt, rt.alloc(), more, 5, due);
+    assert_ends(&rt, rt.alloc(), HEAD, more, 5, due);
+}
+
+#[test]
+fn a_session_hears_more(rt: HostRuntime) {
+    let due = "ok\nrefused line 11 cause 8 end\n";
+    let more = LONGEST_INPUT.saturating_add(2);
+    assert_ends(&rt, rt.alloc(), SESSION, more, 0, due);
 }

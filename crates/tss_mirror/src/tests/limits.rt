@@ -1,6 +1,7 @@
 //! Limits, and one past them.
 
 use crate::tests::rows::HEAD;
+use crate::tests::sessions::HEAD as SESSION;
 use crate::tests::stage::{WHOLE, assert_talk, joined, make_talk};
 use std::alloc::Global;
 use std::process::Abort;
@@ -157,4 +158,24 @@ const HEAD_2: &str =
 #[test]
 fn a_match_of_version_2_has_32_768_commands(rt: HostRuntime) {
     assert_room(&rt, rt.alloc(), HEAD_2, 32_768);
+}
+
+// A session is refused a command while as many are remembered as a match may have, also one that is
+// remembered, and takes one again once a tick forgot.
+#[test]
+fn a_session_remembers_16_384_commands(rt: HostRuntime) {
+    let mut input = Text::of(&rt, rt.alloc(), SESSION);
+    let mut due = Text::of(&rt, rt.alloc(), "ok\n");
+    push_own(&rt, rt.alloc(), &mut input, &mut due, 16_384);
+    input.push(&rt, "own 0 go\ncmd 0 0 5 0 go\ncmd 9 1 0 0 go\n");
+    due.push(
+        &rt,
+        "refused line 16395 cause 7 many\nrefused line 16396 cause 7 many\n",
+    );
+    due.push(&rt, "refused line 16397 cause 7 many\n");
+    input.push_times(&rt, "turn\n", 9);
+    due.push_times(&rt, "ok\n", 9);
+    input.push(&rt, "own 0 go\n");
+    due.push(&rt, "cmd 9 0 16384 0 go\nok\n");
+    assert_answers(&rt, rt.alloc(), "what is remembered at once", &input, &due);
 }

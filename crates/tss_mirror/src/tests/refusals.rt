@@ -20,8 +20,8 @@ type Head = (&'static str, &'static str, &'static str);
 const HEADS: [Head; 25] = [
     ("no head", "", "line 1 cause 8 end"),
     (
-        "a head of version 2",
-        "tss live 2\ntss match 1\n",
+        "a head of version 3",
+        "tss live 3\ntss match 1\n",
         "line 1 cause 1 head",
     ),
     (

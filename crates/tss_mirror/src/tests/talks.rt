@@ -2,6 +2,7 @@
 
 use crate::tests::refusals::REFUSED_HEAD;
 use crate::tests::rows::{GOES_ON, HEAD, LATE, OWN};
+use crate::tests::sessions::EACH;
 use crate::tests::stage::{
     Calls, Row, WHOLE, assert_row, assert_rows, assert_talk, joined, make_talk, told_in,
 };
@@ -87,6 +88,7 @@ fn answers_are_the_same_however_a_talk_is_cut(rt: HostRuntime) {
     assert_cut(&rt, rt.alloc(), &OWN);
     assert_cut(&rt, rt.alloc(), &LATE);
     assert_cut(&rt, rt.alloc(), &GOES_ON);
+    assert_cut(&rt, rt.alloc(), &EACH);
     assert_cut(&rt, rt.alloc(), &REFUSED_HEAD);
 }
 
@@ -125,6 +127,7 @@ fn a_peer_fails_anywhere(rt: HostRuntime) {
     assert_fails(&rt, rt.alloc(), &OWN, WHOLE.piece);
     assert_fails(&rt, rt.alloc(), &LATE, 1);
     assert_fails(&rt, rt.alloc(), &GOES_ON, 1);
+    assert_fails(&rt, rt.alloc(), &EACH, WHOLE.piece);
     assert_fails(&rt, rt.alloc(), &REFUSED_HEAD, 1);
     assert_fails(&rt, rt.alloc(), &USED_WRONG, 1);
 }
@@ -167,4 +170,5 @@ fn a_talk_ends_anywhere(rt: HostRuntime) {
     assert_torn(&rt, rt.alloc(), &OWN);
     assert_torn(&rt, rt.alloc(), &LATE);
     assert_torn(&rt, rt.alloc(), &GOES_ON);
+    assert_torn(&rt, rt.alloc(), &EACH);
 }

@@ -1,30 +1,43 @@
-use Rattle.std.proofs.Common.{◌≡◌, ap, ◌∙◌}
-use Rattle.std.specs.Prelude.{Err}
-use Rattle.line_talk.specs.Hearing.{fresh}
-use Rattle.live_mirror.specs.Live.{LiveState, fed_at}
-use Rattle.tss_mirror.specs.Run.{side, silent_mirror, status_at}
-use Rattle.tss_mirror.proofs.RunLaws.{ends-answered, ends-past, ends-broken}
+use Rattle.std.proofs.Common.{ℕ, List, inl, inr, sym, subst, arith}
+use Rattle.line_talk.specs.Talk.{HeardFront, IsOpening, IsTorn}
+use Rattle.tss_mirror.specs.Run.{side, IsEndless}
+use Rattle.tss_mirror.specs.declared.talking.TheConstants.{LONGEST_INPUT}
+use Rattle.tss_mirror.proofs.RunLaws.{ends-from, ends-unheard, heads, heads-not, torn-not}
 use Rattle.tss_mirror.proofs.talking.talk_as.Goals as goal
 
-pub returns-in-Ok-Answered : goal.returns-in-Ok-Answered
-returns-in-Ok-Answered g c =
+pub returns-in-Err : goal.returns-in-Err
+returns-in-Err g c =
     let seen = side g.P.Peer.left g.P.Peer.said g.P.Peer.faults in
-    let from : c.new-ear.result ≡ silent_mirror c.args.number = c.new-ear.ensures ∙ ap fresh c.new.ensures in
-    ends-answered c.args.number c.new-ear.result c.talk_whole.new.ear (seen c.args.peer.now) (seen c.talk_whole.new.peer) c.status_at.result from
-    (c.in-Ok-Answered.ensures.answered c.in-Ok-Answered.field-0-is)
-    (c.status_at.ensures ∙ ap status_at (c.fed.ensures ∙ ap (λ (s : LiveState). fed_at s.place) c.answerer.ensures)) c.in-Ok-Answered.ensures.steady
+    inl (ends-unheard _ _ _ _ _ (seen c.args.peer.now) (seen c.hear_front.new.peer) c.in-Err.ensures.unheard (λ bytes is. torn-not bytes is) c.in-Err.ensures.rose)
 
-pub returns-in-Ok-TooLong : goal.returns-in-Ok-TooLong
-returns-in-Ok-TooLong g c =
+pub returns-then-front : goal.returns-then-front
+returns-then-front g c =
     let seen = side g.P.Peer.left g.P.Peer.said g.P.Peer.faults in
-    let from : c.new-ear.result ≡ silent_mirror c.args.number = c.new-ear.ensures ∙ ap fresh c.new.ensures in
-    ends-past c.args.number c.new-ear.result c.as_bytes.result.now (seen c.args.peer.now) (seen c.talk_whole.new.peer) from (cc)
-    (c.in-Ok-TooLong.ensures.past c.in-Ok-TooLong.field-0-is) c.in-Ok-TooLong.ensures.steady
+    let bytes = c.as_slice-bytes.result.now in
+    let same = sym c.as_slice-bytes.ensures.value in
+    let heard = subst (λ (l : List ℕ). HeardFront (seen c.args.peer.now).shown (seen c.hear_front.new.peer).shown l) same c.in-Ok.ensures.heard in
+    let torn = subst (λ (l : List ℕ). IsTorn l) same (c.in-Ok.ensures.torn c.if-front.true) in
+    let fits = c.as_slice-bytes.ensures.fits in
+    inl (ends-from _ _ _ _ _ _ _ (seen c.args.peer.now) (seen c.close_with.new.peer) c.close_with.result c.new.ensures
+    (λ all is endless. torn-not bytes torn (subst (λ (l : List ℕ). IsEndless l) is endless))
+    (c.close_with.ensures (seen c.args.peer.now) LONGEST_INPUT heard c.in-Ok.ensures.steady (c.in-Ok.ensures.end c.if-front.true) (omega (arith, fits))))
+
+pub returns-then-eq : goal.returns-then-eq
+returns-then-eq g c =
+    let seen = side g.P.Peer.left g.P.Peer.said g.P.Peer.faults in
+    let bytes = c.as_slice-bytes.result.now in
+    let same = sym c.as_slice-bytes.ensures.value in
+    let heard = subst (λ (l : List ℕ). HeardFront (seen c.args.peer.now).shown (seen c.hear_front.new.peer).shown l) same c.in-Ok.ensures.heard in
+    inr (ends-from _ _ _ _ _ _ _ (seen c.args.peer.now) (seen c.talk_with.new.peer) c.talk_with.result c.new-mirror.ensures (λ all is. heads bytes all c.if-eq.ensures is)
+    (c.talk_with.ensures (seen c.args.peer.now) heard c.in-Ok.ensures.steady))
 
 pub returns : goal.returns
 returns g c =
     let seen = side g.P.Peer.left g.P.Peer.said g.P.Peer.faults in
-    let from : c.new-ear.result ≡ silent_mirror c.args.number = c.new-ear.ensures ∙ ap fresh c.new.ensures in
-    ends-broken c.args.number c.new-ear.result c.as_bytes.result.now (seen c.args.peer.now) (seen c.talk_whole.new.peer) c.in-Err.fault c.status_of.result from
-    (cc) c.status_of.ensures c.in-Err.ensures.broken c.in-Err.ensures.unheard (λ e. c.in-Err.ensures.not_heard (λ i. Err (e i)))
-    (λ e. c.in-Err.ensures.not_told (λ i. Err (e i)))
+    let bytes = c.as_slice-bytes.result.now in
+    let same = sym c.as_slice-bytes.ensures.value in
+    let heard = subst (λ (l : List ℕ). HeardFront (seen c.args.peer.now).shown (seen c.hear_front.new.peer).shown l) same c.in-Ok.ensures.heard in
+    let opening = subst (λ (l : List ℕ). IsOpening l) same (c.in-Ok.ensures.opening c.if-front.false) in
+    inl (ends-from _ _ _ _ _ _ _ (seen c.args.peer.now) (seen c.talk_with-2.new.peer) c.talk_with-2.result c.new-mirror-2.ensures
+    (λ all is endless. heads-not bytes all c.if-eq.ensures opening is endless)
+    (c.talk_with-2.ensures (seen c.args.peer.now) heard c.in-Ok.ensures.steady))
