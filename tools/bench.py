@@ -7,6 +7,7 @@
     python3 tools/bench.py PROGRAM --word race [--text four|eight|largest] [--runs N]
     python3 tools/bench.py PROGRAM --word beside [--runs N]
     python3 tools/bench.py TSS_MIRROR --word live [--runs N]
+    python3 tools/bench.py TSS_MIRROR --word endless [--ticks N]
     python3 tools/bench.py LOCK_BENCH --word lock [--runs N]
 
 PROGRAM is the built program `tss`. The match has 8,192 ticks and 2,048 to 16,384 commands of one mirror, in a mixed
@@ -44,17 +45,28 @@ copies and 32 players with 20 commands a tick. Then it is spoken to over pipes, 
 the `play` once more, and of the `wide` match the time from a turn to the block of the leading copy, and how much memory was asked for
 by the end of the head and by the end of all requests.
 
+With the word `endless` it is a mirror of a session without an end, of a window of 2,048 ticks, eight copies with delays up to 1,024 and
+32 players, for N ticks (default a million), or until Ctrl-C. Each tick it is sent 19 commands of other mirrors, most up to 100 ticks
+old and a fiftieth up to 1,100, so that some are late, and asked for one of its own, a turn and the block of the leading copy. How long
+ticks take until all of that is answered, how much memory is in use at the start, in the middle and at the end, and what audit_base.py
+says of its end are printed.
+
 LOCK_BENCH is the built program `lock_bench`. With the word `lock` it makes 3,600,000 calls of a counter, of 1, 2, 4 and 9
 threads together, each with a seat of a turn lock, and then behind a mutex of std; the calls a second are printed.
 """
 
 import argparse
+import array
+import contextlib
 import os
+import signal
 import subprocess
 import sys
+import threading
 import time
 
-from match_lines import end_with, number_in, program_at
+from audit_base import BaseText
+from match_lines import Wrong, end_with, number_in, program_at, progress
 
 LENGTH = 8192
 # The delays of a text's copies, and by how many ticks at most its commands come after their time.
@@ -355,6 +367,80 @@ def time_live(program, runs):
     print(f"wide: memory asked for by the end of the head {opened / 1024:8.1f} MiB, by the end of {len(requests)} requests {ended / 1024:8.1f} MiB")
 
 
+ENDLESS = (8, (0, 8, 32, 64, 128, 256, 512, 1024), 2048, 32)
+
+
+def endless_requests(tick, draws):
+    """What a mirror of a session without an end is sent in a tick."""
+    lines = []
+    for at in range(19):
+        number = 19 * tick + at
+        age = draws.below(1101 if draws.below(50) == 0 else 101)
+        act = ("go", "go", "left", "right", "shoot")[draws.below(5)]
+        lines.append(f"cmd {max(0, tick - age)} {1 + number % 7} {number // 7 % 1_000_000} {draws.below(32)} {act}")
+    return lines + [f"own {draws.below(32)} go", "turn", "world 0"]
+
+
+class Spoken:
+    """A live mirror that is spoken to: requests are sent together, and their answers read."""
+
+    def __init__(self, program):
+        self.process = subprocess.Popen([program, "0"], stdin=subprocess.PIPE, stdout=subprocess.PIPE, bufsize=0, start_new_session=True)
+
+    def ask(self, lines, answers):
+        """The seconds until so many were answered, and what was told."""
+        text = "".join(line + "\n" for line in lines).encode()
+        begun = time.perf_counter()
+        self.process.stdin.write(text)
+        told = b""
+        while told.count(b"ok\n") + told.count(b"done\n") < answers:
+            piece = os.read(self.process.stdout.fileno(), 1 << 18)
+            if not piece or b"refused line" in piece:
+                raise Wrong(f"the mirror told {(told + piece)[-100:]}: does it know `tss live 2`?")
+            told += piece
+        return time.perf_counter() - begun, told
+
+    def memory(self):
+        """In MiB, what is in use."""
+        with open(f"/proc/{self.process.pid}/status", encoding="utf-8") as status:
+            return next(int(line.split()[1]) for line in status if line.startswith("VmRSS:")) / 1024
+
+
+@contextlib.contextmanager
+def asked_to_stop():
+    """An event that an interrupt sets, where it would end the tool."""
+    stop = threading.Event()
+    before = signal.signal(signal.SIGINT, lambda *_: stop.set())
+    try:
+        yield stop
+    finally:
+        signal.signal(signal.SIGINT, before)
+
+
+def time_endless(program, ticks):
+    head = ["tss live 2", *live_head(*ENDLESS)[1:]]
+    draws, mirror, seconds, late, used = Draws(7), Spoken(program), array.array("d"), 0, []
+    mirror.ask(head, 1)
+    with asked_to_stop() as stop:
+        while len(seconds) < ticks and not stop.is_set():
+            if len(seconds) % 1000 == 0:
+                used.append(mirror.memory())
+                progress(f"{len(seconds)} of {ticks} ticks")
+            took, told = mirror.ask(endless_requests(len(seconds), draws), 22)
+            seconds.append(took)
+            late += told.count(b"late ")
+    ticks = len(seconds)
+    used = [used[0], used[len(used) // 2], mirror.memory()]
+    told = mirror.ask(["end"], 1)[1].decode()
+    mirror.process.wait()
+    progress("")
+    ranked = sorted(seconds)
+    parts = ", ".join(f"{100 * part:g} of 100 within {1000 * ranked[min(ticks - 1, int(part * ticks))]:.3f}" for part in (0.5, 0.9, 0.99, 0.999, 0.9999))
+    print(f"endless: {ticks} ticks with 20 commands, {late} of them late; ms of a tick: {parts}, the longest {1000 * ranked[-1]:.3f}")
+    print("endless: memory in use at the start {:.1f} MiB, in the middle {:.1f} MiB, at the end {:.1f} MiB".format(*used))
+    print(f"endless: {BaseText(head[1:] + told.splitlines()).verdict()[0]}")
+
+
 def run_once(program, words, text):
     """The wall time in seconds and the peak memory in KiB of one run."""
     read_end, write_end = os.pipe()
@@ -419,9 +505,10 @@ def time_races(program, kind, runs):
 def main():
     parser = argparse.ArgumentParser(description=__doc__, formatter_class=argparse.RawDescriptionHelpFormatter)
     parser.add_argument("program")
-    parser.add_argument("--word", choices=("order", "play", "score", "audit", "soak", "race", "beside", "live", "lock"), default="order")
+    parser.add_argument("--word", choices=("order", "play", "score", "audit", "soak", "race", "beside", "live", "endless", "lock"), default="order")
     parser.add_argument("--text", choices=("plain", "script", "late", "copies", "falling", "arena", "large", *HALLS))
     parser.add_argument("--record", help="the file of a record that is audited alone")
+    parser.add_argument("--ticks", type=number_in(1, 100_000_000), default=1_000_000, help="of a session without an end")
     parser.add_argument("--runs", type=number_in(1, 10_000), default=15)
     given = parser.parse_args()
     kind = given.text or {"play": "script", "score": "script", "audit": "record"}.get(given.word, "plain")
@@ -429,6 +516,9 @@ def main():
     print(f"processor: {processor()}, {os.cpu_count()} cores")
     if given.word == "lock":
         time_locks(program, given.runs)
+        return
+    if given.word == "endless":
+        time_endless(program, given.ticks)
         return
     if given.word == "live":
         time_live(program, given.runs)

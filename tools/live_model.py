@@ -1,12 +1,14 @@
-"""A slow plain model of `tss_mirror`, written from docs/FORMATS.md ("The text of a live mirror") over `slow_model.py`.
+"""A slow plain model of `tss_mirror`, written from docs/FORMATS.md over `slow_model.py`: of "The text of a live mirror", and of
+"The text of a mirror without an end".
 
 `slow_live.py` compares the built program with it. The head is read by the slow reader of `broken_texts.py`.
 """
 
 from broken_texts import CAUSES, END, HEAD, LONG, MANY, NAME, NUMBER, SHAPE, Fault, Reader, number
-from slow_model import BEAT, Arena, Match, Mirror, arrival_lines, beats, repairs_of
+from slow_model import BEAT, Arena, Match, Mirror, arrival_lines, beats, ordered, repairs_of, world_of
 
-LONGEST_LINE, LONGEST_INPUT = 120, 1_073_741_824
+LONGEST_LINE = 120
+LAST_NUMBER, LAST_TICK = 999_999, 2**32 - 1
 USAGE = b"usage: tss_mirror M\n"
 
 
@@ -20,6 +22,11 @@ def refused(line, cause):
 
 def command_line(x):
     return "cmd %d %d %d %d %s" % x
+
+
+def room_of(match):
+    """How many commands a match of the version may have."""
+    return 16_384 if match.version == 1 else 32_768
 
 
 class Head(Reader):
@@ -48,7 +55,7 @@ class Live:
 
     def __init__(self, name):
         self.name, self.at, self.begun, self.status = name, 0, b"", None
-        self.head, self.mirror = Head(), None
+        self.head, self.kind, self.asked = Head(), None, None
 
     def feed(self, piece):
         *lines, self.begun = (self.begun + piece).split(b"\n")
@@ -57,7 +64,7 @@ class Live:
     def close(self):
         if self.status is not None:
             return b""
-        if self.mirror is None:
+        if self.asked is None:
             self.status = 5
             return text([refused(self.at + 1, LONG if len(self.begun) > LONGEST_LINE else END)])
         self.status = 0
@@ -70,15 +77,16 @@ class Live:
         try:
             if len(raw) > LONGEST_LINE:
                 raise Fault(LONG)
-            return self.head_line(raw) if self.mirror is None else self.request(raw)
+            return self.head_line(raw) if self.asked is None else self.request(raw)
         except Fault as fault:
-            if self.mirror is None:
+            if self.asked is None:
                 self.status = 5
             return [refused(self.at, fault.cause)]
 
     def head_line(self, raw):
         if self.at == 1:
-            if raw != b"tss live 1":
+            self.kind = {b"tss live 1": Asked, b"tss live 2": AskedWithoutEnd}.get(raw)
+            if self.kind is None:
                 raise Fault(HEAD)
             return []
         self.head.line(self.at - 1, raw)
@@ -86,23 +94,32 @@ class Live:
             return []
         if self.name >= self.head.mirror_count:
             raise Fault(NUMBER)
-        self.open(self.head.match())
+        self.asked = self.kind(self.name, self.head.match())
         return ["ok"]
 
-    def open(self, match):
-        self.match, self.mirror = match, Mirror(match, lambda: Arena(match))
-        self.next, self.room, self.changes, self.log = 0, 16_384 if match.version == 1 else 32_768, 1_024, []
+    def request(self, raw):
+        told = self.asked.request(raw)
+        if told[-1] == "done":
+            self.status = 0
+        return told
 
-    # ---- requests
+
+class Asked:
+    """A mirror of a match, behind its head: what each request is answered."""
+
+    forms = {"own": 2, "cmd": 5, "tick": 0, "turn": 0, "step": 1, "restagger": 1, "world": 1, "run": 1, "commands": 0, "end": 0}
+
+    def __init__(self, name, match):
+        self.name, self.match, self.mirror = name, match, Mirror(match, lambda: Arena(match))
+        self.next, self.room, self.changes, self.log = 0, room_of(match), 1_024, []
 
     def request(self, raw):
         words = raw.split(b" ")
         if any(not w or any(not 33 <= b <= 126 for b in w) for w in words):
             raise Fault(SHAPE)
         word, *rest = [w.decode("ascii") for w in words]
-        forms = {"own": 2, "cmd": 5, "tick": 0, "turn": 0, "step": 1, "restagger": 1, "world": 1, "run": 1, "commands": 0, "end": 0}
         acts = ("go", "left", "right", "shoot") + (("dash",) if self.match.version == 2 else ())
-        if forms.get(word) != len(rest) or (word in ("own", "cmd") and rest[-1] not in acts):
+        if self.forms.get(word) != len(rest) or (word in ("own", "cmd") and rest[-1] not in acts):
             raise Fault(SHAPE)
         self.check_room(word)
         told = getattr(self, "ask_" + word)(*rest)
@@ -123,6 +140,10 @@ class Live:
     def copy(self, word):
         return number(word, 0, len(self.match.plans[0]) - 1)
 
+    def end_of_time(self):
+        """The tick before which the commands of others and of its own are due."""
+        return self.match.length
+
     def arrive(self, x):
         answer = self.mirror.arrive(x)
         if x[1] == self.name:
@@ -135,14 +156,15 @@ class Live:
     def ask_own(self, player, act):
         player = self.player(player)
         self.is_there(player)
-        if self.mirror.clock >= self.match.length:
+        if self.mirror.clock >= self.end_of_time():
             return [f"over {self.name}"]
         x = (self.mirror.clock, self.name, self.next, player, act)
         self.arrive(x)
         return [command_line(x)]
 
     def ask_cmd(self, time, sender, name, player, act):
-        x = (number(time, 0, self.match.length - 1), number(sender, 0, self.match.mirrors - 1), number(name, 0, 999_999), self.player(player), act)
+        time, sender = number(time, 0, self.end_of_time() - 1), number(sender, 0, self.match.mirrors - 1)
+        x = (time, sender, number(name, 0, LAST_NUMBER), self.player(player), act)
         self.is_there(x[3])
         return self.arrive(x)
 
@@ -158,9 +180,12 @@ class Live:
             self.log.append(f"step {copy}")
         return repaired
 
+    def steps(self):
+        return repairs_of(self.name, [r for r in map(self.step, range(len(self.mirror.runs))) if r])
+
     def ask_turn(self):
         self.ask_tick()
-        return repairs_of(self.name, [r for r in map(self.step, range(len(self.mirror.runs))) if r])
+        return self.steps()
 
     def ask_step(self, copy):
         copy = self.copy(copy)
@@ -173,9 +198,11 @@ class Live:
         self.log.append(f"restagger {self.mirror.plan}")
         return []
 
-    def ask_world(self, copy):
-        copy = self.copy(copy)
+    def block(self, copy):
         return self.mirror.block(f"world {self.name} {copy} {beats(self.mirror.runs[copy])}", copy)
+
+    def ask_world(self, copy):
+        return self.block(self.copy(copy))
 
     def ask_run(self, copy):
         copy = self.copy(copy)
@@ -188,11 +215,85 @@ class Live:
         lines = []
         while any(beats(run) < self.match.length for run in self.mirror.runs):
             lines += self.ask_turn()
-        self.status = 0
         lines += [self.mirror.line(f"mirror {self.name}"), f"log {self.name} {len(self.log)}", *self.log]
         for copy in range(len(self.mirror.runs)):
-            lines += self.mirror.block(f"world {self.name} {copy} {self.match.length}", copy)
+            lines += self.block(copy)
         return lines
+
+
+class RollingMirror(Mirror):
+    """A mirror of a session without an end. All that its copies ran is kept here; what the program forgets is forgotten too: `remembered`
+    has the commands whose names it knows, by name, and `base` is the tick at which its window begins."""
+
+    def __init__(self, match, opening):
+        super().__init__(match, opening)
+        self.window, self.keep, self.base, self.remembered = match.length, match.length // 4, 0, {}
+
+    def tick(self):
+        passed, is_full = beats(self.runs[-1]) - self.base, self.clock + 1 == self.base + self.window
+        if passed == 0 and is_full or self.clock == LAST_TICK:
+            return False
+        if passed > 0 and (passed >= self.keep or is_full):
+            self.base += passed
+            self.remembered = {name: x for name, x in self.remembered.items() if x[0] >= self.base}
+        self.clock += 1
+        return True
+
+    def arrive(self, x):
+        """What it is answered: `repeat`, the bound of a late one, the end of the window, or how many copies were repaired."""
+        if x[1:3] in self.remembered:
+            return "repeat", 0
+        bound, end = beats(self.runs[-1]), self.base + self.window
+        if not bound <= x[0] < end:
+            return ("late", bound) if x[0] < bound else ("far", end)
+        self.accepted.append(x)
+        self.remembered[x[1:3]] = x
+        return "taken", self.settle([run + [x] if beats(run) > x[0] else list(run) for run in self.runs])
+
+    def limit(self, copy):
+        own = max(0, self.clock - self.match.plans[self.plan][copy])
+        return min(own, beats(self.runs[copy - 1])) if copy else own
+
+
+class AskedWithoutEnd(Asked):
+    """A mirror of a session without an end, behind its head."""
+
+    def __init__(self, name, match):
+        super().__init__(name, match)
+        if any(plan[-1] + 2 > match.length for plan in match.plans):
+            raise Fault(NUMBER)
+        self.mirror = RollingMirror(match, lambda: Arena(match))
+
+    def check_room(self, word):
+        remembered = self.mirror.remembered
+        if word in ("own", "cmd") and len(remembered) == self.room or word == "own" and (self.name, self.next) in remembered:
+            raise Fault(MANY)
+
+    def end_of_time(self):
+        return LAST_TICK
+
+    def arrive(self, x):
+        kind, value = self.mirror.arrive(x)
+        if x[1] == self.name and x[2] >= self.next:
+            self.next = 0 if x[2] == LAST_NUMBER else x[2] + 1
+        return [f"far {self.name} {x[1]} {x[2]} {value}"] if kind == "far" else arrival_lines(self.name, x, (kind, value))
+
+    def ask_turn(self):
+        return self.ask_tick() + self.steps()
+
+    def ask_run(self, copy):
+        """Only the end of a run is remembered, so these words are no form here; a copy that isn't there is refused as elsewhere."""
+        self.copy(copy)
+        raise Fault(SHAPE)
+
+    def ask_commands(self):
+        return [command_line(x) for x in self.mirror.remembered.values()]
+
+    def ask_end(self):
+        last, remembered = len(self.mirror.runs) - 1, self.ask_commands()
+        base = world_of(self.mirror.opening, ordered(self.mirror.accepted, 0, self.mirror.base))
+        head = [f"base {self.name} {self.mirror.base}", f"world {self.name} {last} {self.mirror.base}"]
+        return [*head, *base.lines(), f"log {self.name} {len(remembered)}", *remembered, *self.block(last)]
 
 
 def run(words, given):

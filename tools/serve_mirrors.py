@@ -5,6 +5,7 @@
     python3 tools/serve_mirrors.py MATCH --mirror M --listen HOST:PORT --peer K=HOST:PORT .. --key FILE
     python3 tools/serve_mirrors.py MATCH [--mirror M --key FILE] --broker HOST:PORT
     python3 tools/serve_mirrors.py MATCH --gather FOLDER ..
+    python3 tools/serve_mirrors.py MATCH --endless [..]
 
 MATCH is a file with a match text, of which the setup is taken: length, grid, mirrors, delays, plans, walls, pickups, players. Each
 mirror is a process `tss_mirror`, which is spoken to line by line; all are ticked by one clock, and linked by TCP. In the first form
@@ -14,6 +15,10 @@ linked to those named. With `--broker` their commands go over a broker of messag
 At the end of the match, after `--seconds`, or at Ctrl-C every mirror is ended, and one line says whether all end at one world and
 whether `tss audit` finds the record legal. `--out FOLDER` keeps the record, the match with its commands, and the match with a script
 of what happened, for show_match.py and study_delays.py. Where each mirror ran alone, `--gather` puts together what each kept by `--out`.
+
+With `--endless` the session has no end but `--seconds` or Ctrl-C: the mirrors are of `tss live 2`, and the match's length is how many
+ticks they remember. At its end the last copies are brought to one tick; whether they show one world there, and each follows from what
+its mirror remembers, is said in a line, and `--out FOLDER` keeps what audit_base.py reads. A mirror that dies leaves the session.
 
 The page needs python3-aiohttp, a broker python3-paho-mqtt; all else is of the standard library.
 """
@@ -27,6 +32,7 @@ import signal
 import sys
 
 from match_lines import PROGRAM, Wrong, end_with, number_in
+from serving.endless import EndlessSession, PlayedWithoutEnd
 from serving.session import Played, Session, Told, setup_of
 from serving.wire import Net
 
@@ -73,6 +79,7 @@ def parser_of():
     parser.add_argument("--listen", type=place_of, metavar="HOST:PORT", help="where the other mirrors reach it")
     parser.add_argument("--peer", type=peer_of, action="append", default=[], metavar="K=HOST:PORT", help="where mirror K is reached; for each other mirror")
     parser.add_argument("--broker", type=place_of, metavar="HOST:PORT", help="carries commands in place of links")
+    parser.add_argument("--endless", action="store_true", help="the session has no end; the match's length is the mirrors' window")
     parser.add_argument("--gather", nargs="+", metavar="FOLDER", help="audits what mirrors that ran alone kept, one folder each")
     parser.add_argument("--key", metavar="FILE", help="the shared key by which mirrors know each other")
     parser.add_argument("--program", default=PROGRAM, help="the built program `tss`")
@@ -158,13 +165,15 @@ def gathered(match, given):
 async def serve(given):
     match = setup_of(given.match, given.program)
     if given.gather:
-        return gathered(match, given)
+        return gathered_without_end(match, given) if given.endless else gathered(match, given)
+    if given.endless and given.broker:
+        raise Wrong("--endless wants links: a broker keeps each command until the end")
     mirrors = match.numbers("mirrors")[0]
     if given.mirror is not None and given.mirror >= mirrors:
         raise Wrong(f"--mirror {given.mirror}: the match has {mirrors} mirrors")
     numbers = range(mirrors) if given.mirror is None else [given.mirror]
     told, stop = Told(), asyncio.Event()
-    session = Session(match, given.mirror_program, numbers, key_of(given), Net(given.lag, given.jitter, given.loss), given.rate, told)
+    session = (EndlessSession if given.endless else Session)(match, given.mirror_program, numbers, key_of(given), Net(given.lag, given.jitter, given.loss), given.rate, told)
     for which in (signal.SIGINT, signal.SIGTERM):
         asyncio.get_running_loop().add_signal_handler(which, stop.set)
     page = page_of(session, given, stop)
@@ -182,8 +191,10 @@ async def serve(given):
 
 async def ended(session, given, page):
     told = await session.finish()
-    played = Played.of(session, told)
     print(session.work_line(), flush=True)
+    if given.endless:
+        return await ended_without_end(session, PlayedWithoutEnd.of(session, told), given, page)
+    played = Played.of(session, told)
     if given.mirror is not None:
         return ended_alone(given, session.rooms[given.mirror], told[given.mirror])
     if given.out:
@@ -192,6 +203,25 @@ async def ended(session, given, page):
     print(verdict, flush=True)
     if page:
         await page.tell_end(verdict)
+    return 0 if is_right else 1
+
+
+async def ended_without_end(session, played, given, page):
+    if given.out:
+        played.write(given.out)
+    verdict, is_right = played.verdict()
+    print(verdict, flush=True)
+    if page:
+        await page.tell_end(verdict)
+    return 0 if is_right else 1
+
+
+def gathered_without_end(match, given):
+    played = PlayedWithoutEnd.gathered(match, given.gather)
+    if given.out:
+        played.write(given.out)
+    verdict, is_right = played.verdict()
+    print(verdict)
     return 0 if is_right else 1
 
 

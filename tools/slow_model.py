@@ -40,6 +40,10 @@ class Match:
         return 0 <= cell[0] < self.grid[0] and 0 <= cell[1] < self.grid[1] and cell not in self.walls
 
 
+def score(player, gain):
+    player["score"] = max(-1_000_000, min(1_000_000, player["score"] + gain))
+
+
 class Arena:
     """The world of the arena at the opening, which items change."""
 
@@ -81,7 +85,7 @@ class Arena:
                 elif kind == "heal":
                     body[2] = min(3, body[2] + 1)
                 else:
-                    player["score"] += 1
+                    score(player, 1)
 
     def fly(self, shot):
         """Whether the shot still flies."""
@@ -94,7 +98,7 @@ class Arena:
             if hit["live"][2] == 0:
                 hit["live"], hit["wait"] = None, 10
                 owner = self.players[shot[0]]
-                owner["score"] += -1 if owner is hit else 1
+                score(owner, -1 if owner is hit else 1)
             return False
         shot[1], shot[3] = ahead, shot[3] - 1
         return shot[3] > 0
@@ -219,12 +223,14 @@ class Mirror:
         self.accepted.append(x)
         return "taken", self.settle([run + [x] if beats(run) > x[0] else list(run) for run in self.runs])
 
+    def limit(self, copy):
+        ahead = beats(self.runs[copy - 1]) if copy else self.match.length
+        return min(self.match.length, max(0, self.clock - self.match.plans[self.plan][copy]), ahead)
+
     def step(self, copy):
         """How many copies were repaired, or None where the copy stands at its limit."""
-        ahead = beats(self.runs[copy - 1]) if copy else self.match.length
-        limit = min(self.match.length, max(0, self.clock - self.match.plans[self.plan][copy]), ahead)
         at = beats(self.runs[copy])
-        if at >= limit:
+        if at >= self.limit(copy):
             return None
         runs = [list(run) for run in self.runs]
         runs[copy] += ordered(self.accepted, at, at + 1)

@@ -27,8 +27,8 @@ class Answer:
 
 
 class MirrorProcess:
-    def __init__(self, program, number, setup):
-        self.program, self.number, self.setup = program, number, setup
+    def __init__(self, program, number, head, setup):
+        self.program, self.number, self.head, self.setup = program, number, head, setup
         self.process, self.buffer, self.turn = None, b"", asyncio.Lock()
 
     async def begin(self):
@@ -39,10 +39,10 @@ class MirrorProcess:
                 self.program, str(self.number), stdin=asyncio.subprocess.PIPE, stdout=asyncio.subprocess.PIPE, start_new_session=True)
         except OSError as fault:
             raise Wrong(f"{self.program}: {fault.strerror}; {HOW_TO_BUILD}")
-        self.process.stdin.write("".join(line + "\n" for line in ["tss live 1", *self.setup]).encode("ascii"))
+        self.process.stdin.write("".join(line + "\n" for line in [self.head, *self.setup]).encode("ascii"))
         answer = await self.answer()
         if answer.refusal:
-            raise Wrong(f"mirror {self.number}: {answer.refusal} (counted from 'tss live 1')")
+            raise Wrong(f"mirror {self.number}: {answer.refusal} (counted from '{self.head}')")
 
     async def ask(self, *lines):
         """The answers to these lines, which are sent together."""

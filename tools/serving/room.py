@@ -11,13 +11,13 @@ OWN = re.compile(r"cmd (\d+ \d \d+ \d+ \w+)")
 class Room:
     """A mirror that is ticked. Between two turns its players act and links bring commands; each turn hands all of them in."""
 
-    MOST_OWN_A_TICK = 64
+    HEAD, MOST_OWN_A_TICK = "tss live 1", 64
 
     def __init__(self, program, number, match, told):
         self.number, self.match, self.told = number, match, told
         self.mirrors, self.length = match.numbers("mirrors")[0], match.numbers("length")[0]
         self.delays = match.numbers("delays")
-        self.process = MirrorProcess(program, number, match.setup + ["end"])
+        self.process = MirrorProcess(program, number, self.HEAD, match.setup + ["end"])
         self.out, self.tokens, self.bots = {}, {}, []
         self.clock, self.start, self.plan, self.wants, self.offset_ms = 0, None, 0, False, {}
         self.acts, self.heard, self.olds, self.olds_from = [], [], set(), set()
@@ -83,10 +83,13 @@ class Room:
         for command, answer in zip(heard, answers[len(acts):]):
             self.take_heard(command, answer)
         turn = len(acts) + len(heard)
+        self.turned(answers[turn].lines)
+        return {copy: answer.lines for copy, answer in zip(looks, answers[turn + 1:])}
+
+    def turned(self, lines):
         self.clock += 1
         self.enter(f"turn {self.number}")
-        self.notes += answers[turn].lines
-        return {copy: answer.lines for copy, answer in zip(looks, answers[turn + 1:])}
+        self.notes += lines
 
     def enter(self, line):
         self.script.append((next(self.told.counter), line))

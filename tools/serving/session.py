@@ -1,6 +1,7 @@
 """The mirrors of this machine, their common clock, and what becomes of what was played."""
 
 import asyncio
+import collections
 import gc
 import itertools
 import os
@@ -19,7 +20,7 @@ class Told:
     """What mirrors say, in one place, with a counter that orders what they do."""
 
     def __init__(self, quiet=False):
-        self.counter, self.lines, self.quiet, self.heard = itertools.count(), [], quiet, None
+        self.counter, self.lines, self.quiet, self.heard = itertools.count(), collections.deque(maxlen=10_000), quiet, None
 
     def __call__(self, number, text):
         self.lines.append(f"mirror {number}: {text}")
@@ -30,11 +31,14 @@ class Told:
 
 
 class Session:
+    ROOM = Room
+
     def __init__(self, match, program, numbers, key, net, rate, told):
         self.match, self.key, self.net, self.rate, self.told = match, key, net, rate, told
-        self.rooms = {number: Room(program, number, match, told) for number in numbers}
+        self.rooms = {number: self.ROOM(program, number, match, told) for number in numbers}
         self.players = [words[0] for words in match.lines_of("player")]
-        self.claims, self.servers, self.works, self.looked_at, self.shown = {}, [], [], set(), None
+        self.claims, self.servers, self.looked_at, self.shown = {}, [], set(), None
+        self.works = collections.deque(maxlen=1 << 17)  # seconds: more than a match has ticks of mirrors
         self.stalled, self.draw = set(), random.Random(5)
 
     # ---- links
@@ -94,11 +98,15 @@ class Session:
                         link.tell_start()
         await self.wait_for_start(stop)
         end = None if seconds is None else time.time() + seconds
-        gc.disable()  # a collection stops all mirrors for some 10 ms; what a match leaves in cycles is little
+        self.spare_collections()
         try:
             await asyncio.gather(*[self.tick(room, end, stop) for room in self.rooms.values()])
         finally:
             gc.enable()
+
+    def spare_collections(self):
+        """A collection of all that is there stops all mirrors for some 10 ms; what a match leaves in cycles is little."""
+        gc.disable()
 
     async def wait_for_start(self, stop):
         while not stop.is_set() and any(room.start is None for room in self.rooms.values()):
@@ -133,6 +141,9 @@ class Session:
             room.say(f"the mirror is {ticks} ticks behind, more than its last delay: what it sends now comes late")
         elif ticks == 0:
             self.stalled.discard(room.number)
+
+    def length(self):
+        return self.match.numbers("length")[0]
 
     # ---- the end
 

@@ -58,8 +58,8 @@ def whole(message, key, most):
 
 class Page:
     def __init__(self, session, stop):
-        self.session, self.stop, self.viewers, self.runner = session, stop, set(), None
-        session.shown, session.told.heard = self.show, self.tell
+        self.session, self.stop, self.viewers, self.runner, self.gone = session, stop, set(), None, set()
+        session.shown, session.shown_left, session.told.heard = self.show, self.left, self.tell
         self.does = {"look": self.look, "claim": self.claim, "act": self.act, "leave": self.leave, "net": self.net, "plan": self.plan}
 
     async def begin(self, port):
@@ -136,7 +136,7 @@ class Page:
 
     def look(self, viewer, message):
         viewer.mirror = whole(message, "mirror", 7)
-        if viewer.mirror not in self.session.rooms:
+        if viewer.mirror not in self.session.rooms or viewer.mirror in self.gone:
             viewer.mirror = None
             raise Bad("that mirror isn't here")
         self.drop(viewer)
@@ -192,7 +192,7 @@ class Page:
         session, match = self.session, self.session.match
         return {"opening": {
             "grid": match.numbers("grid"), "walls": [[int(n) for n in words] for words in match.lines_of("wall")], "players": session.players,
-            "mirrors": sorted(session.rooms), "length": match.numbers("length")[0], "rate": session.rate,
+            "mirrors": sorted(set(session.rooms) - self.gone), "length": session.length(), "rate": session.rate,
             "plans": [match.numbers("delays")] + [[int(n) for n in words] for words in match.lines_of("plan")],
             "claims": session.claims, "net": [session.net.lag, session.net.jitter, session.net.loss]}}
 
@@ -205,6 +205,15 @@ class Page:
 
     def tell(self, mirror, text):
         self.tell_all({"note": f"mirror {mirror}: {text}"})
+
+    def left(self, mirror):
+        """The mirror has left a session without an end: who looked at it looks at none."""
+        self.gone.add(mirror)
+        for viewer in self.viewers:
+            if viewer.mirror == mirror:
+                viewer.mirror = viewer.player = viewer.token = None
+        self.count_looks()
+        self.tell_all({"left": mirror, "claims": self.session.claims})
 
     def count_looks(self):
         self.session.looked_at = {viewer.mirror for viewer in self.viewers if viewer.mirror is not None}

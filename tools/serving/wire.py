@@ -17,7 +17,7 @@ import secrets
 import time
 
 LONGEST_LINE = 160
-COMMAND = re.compile(r"(\d{1,5}) (\d) (\d{1,6}) (\d{1,2}) (go|left|right|shoot|dash)")
+COMMAND = re.compile(r"(\d{1,10}) (\d) (\d{1,6}) (\d{1,2}) (go|left|right|shoot|dash)")
 
 
 class Stranger(Exception):
@@ -213,7 +213,7 @@ class LinkIn:
         if self.lines > self.MOST_LINES_A_SECOND:
             raise Stranger("too many lines in a second")
         words = line.split(" ", 2)
-        if words[0] == "cmd" and len(words) == 3 and words[1].isdigit() and len(words[1]) < 10:
+        if words[0] == "cmd" and len(words) == 3 and words[1].isdigit() and len(words[1]) < 16:
             self.take_command(words[2])
             send(writer, f"ack {words[1]}")
         elif words[0] == "ping" and len(words) == 2 and len(words[1]) < 32:

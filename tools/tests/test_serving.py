@@ -327,6 +327,8 @@ class Browser:
             found = re.search(r"ws://([\d.:]+)/", line)
             if found:
                 break
+            if not line:
+                raise AssertionError("Chromium ended before it listened")
         self.client = aiohttp.ClientSession()
         async with self.client.put(f"http://{found.group(1)}/json/new?{self.url.replace('#', '%23')}") as made:
             target = json.loads(await made.text())["webSocketDebuggerUrl"]
