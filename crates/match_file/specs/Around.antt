@@ -78,6 +78,14 @@ IsMet m start s = (front : List (List ℕ)) × Follows m.take m.is_last start fr
 abbrev pub first_at : List ℕ → Lines → Result (Unit {0} × Lines) Cause
 first_at head lines = line_at lines >>= λ l. first_step head l.0 >>= λ t. Ok (t, l.1)
 
+-- what the lines behind this match say, up to the end of the text; the first one has this number
+abbrev pub rest_at : {T : Type 0} → (MatchData → Machine T) → T → MatchData → ℕ → Lines
+    → Result (MatchData × T) Refused
+rest_at tail start m n lines =
+    run_to (tail m).take (tail m).is_last n start lines >>= λ stop.
+    ended stop >>= λ t.
+    Ok (m, t)
+
 -- what such a text says, within this limit
 unfoldable pub read_around : {T : Type 0} → ℕ → List ℕ → (MatchData → Machine T) → T → List ℕ
     → Result (MatchData × T) Refused
@@ -85,6 +93,4 @@ read_around longest head tail start text =
     if nat_lt longest (length text) then Err (refused_at 0 Long)
     else (at 1 (first_at head (lines_of text)) >>= λ first.
     read_match 2 first.1 >>= λ game.
-    run_to (tail game.0).take (tail game.0).is_last game.1.next start game.1.rest >>= λ stop.
-    ended stop >>= λ t.
-    Ok (game.0, t))
+    rest_at tail start game.0 game.1.next game.1.rest)

@@ -13,6 +13,7 @@ use Rattle.match_setup.specs.declared.face.Face.TheVariants.{N, E, S, W}
 use Rattle.match_setup.specs.declared.pickup.Kind as pickup_kinds
 use Rattle.match_setup.specs.declared.pickup.Kind.TheVariants.{Ammo, Heal, Gold}
 use Rattle.match_setup.specs.declared.pickup.PickupSpot.{PickupSpot}
+use Rattle.match_setup.specs.declared.spot.Spot.{Spot}
 use Rattle.sync_model.specs.Schedule.{longest_delay}
 use Rattle.command_lines.specs.declared.ranges.CommandRanges.{CommandRanges}
 use Rattle.command_lines.specs.CommandLine.{last_player, command_form}
@@ -170,11 +171,16 @@ wall_kind o = record {
   put = λ b cell. record b { walls = b.walls ++ cell ∷ [] };
 }
 
+-- a column, a row and a kind of pickup
+abbrev pub pickup_form : Form (List ℕ × (List ℕ × pickup_kinds.Kind)) (ℕ × (ℕ × pickup_kinds.Kind))
+pickup_form =
+    number 0 greatest & number 0 greatest & only (choice kind_word (Ammo ∷ Heal ∷ Gold ∷ []))
+
 abbrev pub pickup_kind : Opening → Kind Body (List ℕ × (List ℕ × pickup_kinds.Kind)) PickupSpot Body
 pickup_kind o = record {
   keyword = codes "pickup";
   form = λ _. made (λ p. record { x = p.0; y = p.1.0; kind = p.1.1 }) (λ p. (p.x, (p.y, p.kind)))
-      (number 0 greatest & number 0 greatest & only (choice kind_word (Ammo ∷ Heal ∷ Gold ∷ [])));
+      pickup_form;
   stands = λ b. is_open b.stage && (is_none b.players && is_none b.commands);
   room = λ b _. nat_lt (length b.pickups) MOST_PICKUPS;
   tests = λ b p.
@@ -189,22 +195,30 @@ player_of p = record { name = p.0; home = record { x = p.1.0; y = p.1.1.0; face 
 abbrev pub player_fields : Player → List ℕ × (ℕ × (ℕ × Face))
 player_fields p = (p.name, (p.home.x, (p.home.y, p.home.face)))
 
+-- a player may begin there: no wall, no pickup and no home is in this cell
+abbrev pub home_tests : Body → Spot → List (Bool × Cause)
+home_tests b home =
+    (not (has_wall home.x home.y b.walls), Place)
+    ∷ (not (has_pickup home.x home.y b.pickups), Place)
+    ∷ (not (has_home home.x home.y b.players), Place)
+    ∷ []
+
+-- a name, a column, a row and a facing
+abbrev pub player_form : Form (List ℕ × (List ℕ × (List ℕ × Face))) (List ℕ × (ℕ × (ℕ × Face)))
+player_form =
+    any_word & number 0 greatest & number 0 greatest & only (choice face_word (N ∷ E ∷ S ∷ W ∷ []))
+
 abbrev pub player_kind : Opening → Kind Body (List ℕ × (List ℕ × (List ℕ × Face))) Player Body
 player_kind o = record {
   keyword = codes "player";
-  form = λ _. made player_of player_fields
-      (any_word & number 0 greatest & number 0 greatest & only
-      (choice face_word (N ∷ E ∷ S ∷ W ∷ [])));
+  form = λ _. made player_of player_fields player_form;
   stands = λ b. is_open b.stage && is_none b.commands;
   room = λ b _. nat_lt (length b.players) (most_players o.version);
   tests = λ b p.
       (is_name p.name, Name)
       ∷ (not (has_name p.name b.players), Name)
       ∷ (in_grid o p.home.x p.home.y, Place)
-      ∷ (not (has_wall p.home.x p.home.y b.walls), Place)
-      ∷ (not (has_pickup p.home.x p.home.y b.pickups), Place)
-      ∷ (not (has_home p.home.x p.home.y b.players), Place)
-      ∷ [];
+      ∷ home_tests b p.home;
   put = λ b p. record b { players = b.players ++ p ∷ [] };
 }
 

@@ -7,7 +7,7 @@ ghost use Rattle.tss_io.specs.Machines.{Machine};
 ghost use Rattle.tss_io.specs.Reading.{Answers, Gives, GivesLine, Placed};
 ghost use Rattle.tss_io.specs.Runs.{line_step, run_to, stopped};
 ghost use Rattle.match_data.specs.Data.{MatchData, IsMatch};
-ghost use Rattle.match_file.specs.Around.{IsMet, first_at, read_around};
+ghost use Rattle.match_file.specs.Around.{IsMet, first_at, rest_at, read_around};
 
 use crate::reading::read_match_front;
 use match_data::Match;
@@ -92,6 +92,23 @@ fn read_behind<'a, T: BehindMatch>(
     Ok((tail, rest))
 }
 
+// The match with what follows it, up to the end of the text. The number of the line that is read is
+// kept in `line`, which has that of the line behind the match.
+fn read_rest<T: BehindMatch>(
+    alloc: Global,
+    game: Match,
+    line: &mut u32,
+    text: &[u8],
+) -> Result<(Match, T), LineFault>
+    requires { line.old + length text.now < 2 ^ 32 }
+    ensures { Placed (λ x. x) line.new result
+        (rest_at T.machine T.start game line.old (lines_of text.now)) }
+{
+    let (tail, rest) = read_behind(alloc, &game, line, text)?;
+    check(at_end(rest), Cause::End)?;
+    Ok((game, tail))
+}
+
 // What the whole text says. The number of the line that is read is kept in `line`.
 #[tactic(auto, unfolding(crate::specs::Around::read_around))]
 fn read_whole<T: BehindMatch>(
@@ -111,9 +128,7 @@ fn read_whole<T: BehindMatch>(
     let rest = read_first(head, text)?;
     *line = 2;
     let (game, rest) = read_match_front(alloc, line, rest)?;
-    let (tail, rest) = read_behind(alloc, &game, line, rest)?;
-    check(at_end(rest), Cause::End)?;
-    Ok((game, tail))
+    read_rest(alloc, game, line, rest)
 }
 
 /// Reads a text that holds a match: this first line, the lines of a match and what follows it, with

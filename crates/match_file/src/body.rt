@@ -1,22 +1,24 @@
 //! The lines behind the pace.
 
-ghost use Rattle.std.specs.Prelude.{◌≡◌, ◌≤◌, ◌<◌, ◌+◌, ◌&&◌, length, IfOk, IfErr, IfSome, IfNone, Ok};
+ghost use Rattle.std.specs.Prelude.{◌≡◌, ◌≤◌, ◌<◌, ◌+◌, ◌++◌, ◌&&◌, [], ◌∷◌, length, IfOk, IfErr, IfSome, IfNone, Ok};
 ghost use Rattle.game_trait.specs.declared.limits.TheConstants.{MOST_COPIES};
 ghost use Rattle.tss_io.specs.Lines.{lines_of, words_of};
 ghost use Rattle.tss_io.specs.Reading.{GivesLine, Placed};
 ghost use Rattle.tss_io.specs.declared.fault.LineFault.TheVariants as line_faults;
-ghost use Rattle.tss_io.specs.Kinds.{step};
+ghost use Rattle.tss_io.specs.Kinds.{checked, step};
 ghost use Rattle.tss_io.specs.Machines.{take_words};
 ghost use Rattle.tss_io.specs.Runs.{line_step, run_to, stopped};
-ghost use Rattle.match_file.specs.Kinds.{is_open, is_script, is_ended, is_none, plan_kind, wall_kind, pickup_kind, player_kind, command_kind};
+ghost use Rattle.match_file.specs.Kinds.{is_open, is_script, is_ended, is_none, home_tests, plan_kind, wall_kind, pickup_kind, player_kind, command_kind};
+ghost use Rattle.match_setup.specs.declared.pickup.PickupSpot.{PickupSpot};
 ghost use Rattle.match_file.specs.Sections.{IsOpening};
+ghost use Rattle.match_file.specs.declared.player.Player.{Player};
 ghost use Rattle.match_file.specs.Reading.{body_entries, may_open, may_end, take, is_last, no_body};
 
 use crate::cell::Cell;
 use crate::commands::Commands;
 use crate::opening::{Opening, rises};
-use crate::place::{has_pickup, has_wall, is_behind_all, kind_of};
-use crate::player::{Player, face_of, has_home, has_name};
+use crate::place::{PickupWords, has_pickup, has_wall, is_behind_all};
+use crate::player::{Player, PlayerWords, has_home, has_name};
 use crate::script::Script;
 use crate::seen::{arrival_of, command_of, turn_of};
 use crate::versions::{most_commands, most_players};
@@ -24,7 +26,7 @@ use command_lines::CommandWords;
 use game_trait::limits::{GREATEST_NUMBER, LONGEST_DELAY, MOST_PICKUPS, MOST_PLANS};
 use game_trait::{MirrorId, Tick};
 use match_data::{ScriptLine, is_name};
-use match_setup::{PickupSpot, Spot};
+use match_setup::{Kind, PickupSpot, Spot};
 use std::alloc::Global;
 use tss_base::Seq;
 use tss_io::glance::{is_text, keyword_of, line_of};
@@ -148,12 +150,19 @@ impl Body {
             (step (pickup_kind opening.now) self.old (words_of words.now)) }
     {
         check(is_open(self.stage) && self.has_no_player(), Cause::Shape)?;
-        let (x, words) = front(words)?;
-        let (y, words) = front(words)?;
-        let kind = kind_of(last(words)?)?;
+        let words = PickupWords::of(words)?;
         check(self.pickups.len() < MOST_PICKUPS, Cause::Many)?;
-        let x = number(0, u32::MAX, x)?;
-        let y = number(0, u32::MAX, y)?;
+        let (x, y) = words.cell()?;
+        self.add_pickup(opening, x, y, words.kind)
+    }
+
+    // Adds a pickup, where its cell is free.
+    fn add_pickup(&mut self, opening: &Opening, x: u32, y: u32, kind: Kind) -> Result<(), LineFault>
+        ensures { let pickup : PickupSpot = record { x = x; y = y; kind = kind } in
+            GivesLine (λ _. self.new) result
+            (checked ((pickup_kind opening.now).tests self.old pickup)
+            ((pickup_kind opening.now).put self.old pickup)) }
+    {
         check(opening.in_grid(x, y), Cause::Place)?;
         let pickup = PickupSpot {
             x: x as u8,
@@ -180,22 +189,28 @@ impl Body {
     {
         let is_due = is_open(self.stage) && self.commands.len() == 0;
         check(is_due, Cause::Shape)?;
-        let (name, words) = front(words)?;
-        let (x, words) = front(words)?;
-        let (y, words) = front(words)?;
-        let face = face_of(last(words)?)?;
+        let words = PlayerWords::of(words)?;
         let most = most_players(opening.version);
         check(self.players.len() < most, Cause::Many)?;
-        let x = number(0, u32::MAX, x)?;
-        let y = number(0, u32::MAX, y)?;
-        check(is_name(name), Cause::Name)?;
-        check(!has_name(name, self.players.as_slice()), Cause::Name)?;
+        let (x, y) = words.cell()?;
+        check(is_name(words.name), Cause::Name)?;
+        check(!has_name(words.name, self.players.as_slice()), Cause::Name)?;
         check(opening.in_grid(x, y), Cause::Place)?;
         let home = Spot {
             x: x as u8,
             y: y as u8,
-            face,
+            face: words.face,
         };
+        self.add_player(alloc, words.name, home)
+    }
+
+    // Adds a player, where the cell of the home, which is in the grid, is free.
+    fn add_player(&mut self, alloc: Global, name: &[u8], home: Spot) -> Result<(), LineFault>
+        ensures { let player : Player = record { name = name.now; home = home } in
+            GivesLine (λ _. self.new) result
+            (checked (home_tests self.old home)
+            (record self.old { players = self.old.players ++ player ∷ [] })) }
+    {
         let walls = self.walls.as_slice();
         let pickups = self.pickups.as_slice();
         let players = self.players.as_slice();

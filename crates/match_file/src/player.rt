@@ -5,11 +5,13 @@ ghost use Rattle.match_setup.specs.Words.{face_word};
 ghost use Rattle.match_setup.specs.declared.face.Face.TheVariants as faces;
 ghost use Rattle.tss_io.specs.Reading.{Answers};
 ghost use Rattle.tss_io.specs.Forms.{picked};
-ghost use Rattle.match_file.specs.Kinds.{has_name, has_home};
+ghost use Rattle.tss_io.specs.Lines.{words_of};
+ghost use Rattle.match_file.specs.Kinds.{has_name, has_home, player_form};
 
 use match_setup::{Face, Spot};
 use tss_base::Seq;
 use tss_io::Cause;
+use tss_io::words::{front, last, number};
 
 /// A player's name and home.
 #[derive(Drop)]
@@ -18,6 +20,42 @@ pub struct Player {
     pub name: Seq<u8>,
     /// The cell in which the player begins, and where it looks.
     pub home: Spot,
+}
+
+/// The words of a player's line behind its first, of the right shape.
+#[derive(Clone, Copy)]
+pub struct PlayerWords<'a> {
+    /// The name.
+    pub name: &'a [u8],
+    x: &'a [u8],
+    y: &'a [u8],
+    /// Where the player looks.
+    pub face: Face,
+}
+
+impl<'a> PlayerWords<'a> {
+    /// The words, where they have the shape of a player's; else `Shape`.
+    pub fn of(words: &'a [u8]) -> Result<PlayerWords<'a>, Cause>
+        ensures { Answers (λ w. (w.name.now, (w.x.now, (w.y.now, w.face)))) result
+            (player_form.see (words_of words.now)) }
+    {
+        let (name, words) = front(words)?;
+        let (x, words) = front(words)?;
+        let (y, words) = front(words)?;
+        let face = face_of(last(words)?)?;
+        Ok(PlayerWords { name, x, y, face })
+    }
+
+    /// The column and the row that the words say; `Number` where one of them isn't a number.
+    pub fn cell(&self) -> Result<(u32, u32), Cause>
+        ensures { let w = self.now in
+            Answers (λ at. (w.name.now, (at.0, (at.1, w.face)))) result
+            (player_form.value (w.name.now, (w.x.now, (w.y.now, w.face)))) }
+    {
+        let x = number(0, u32::MAX, self.x)?;
+        let y = number(0, u32::MAX, self.y)?;
+        Ok((x, y))
+    }
 }
 
 /// The facing that the word names.
