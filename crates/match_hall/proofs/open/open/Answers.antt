@@ -1,4 +1,5 @@
 use Rattle.std.proofs.Common.{◌≡◌, ℕ, get_or, ◌-◌, List, length, sym, ap, subst, ◌∙◌, arith}
+use Rattle.std.proofs.lemmas.Grind.{common_steps}
 use Rattle.std.specs.List.{AllByRecursion}
 use Rattle.game_trait.specs.Count.{times}
 use Rattle.match_data.specs.Data.{MatchData, IsMatch}
@@ -59,3 +60,30 @@ pub new-requires-clause-restaggers : goal.new-requires-clause-restaggers
 new-requires-clause-restaggers g c =
     let counted = c.of-rooms.ensures c.loop-number.number (omega (arith, c.loop-number-test.true, c.m.invariant.mirrors.1)) in
     rw c.from-in-loop-number.ensures (omega (arith, counted.3, c.m.invariant.script_count, ap length c.as_slice.ensures))
+
+pub returns-in_err-push-clause-mirrors : goal.returns-in_err-push-clause-mirrors
+returns-in_err-push-clause-mirrors g c = grind (arith, common_steps)
+
+pub returns-in_err-push-clause-count : goal.returns-in_err-push-clause-count
+returns-in_err-push-clause-count g c = grind (arith, common_steps)
+
+pub returns-in_err-push-clause-few : goal.returns-in_err-push-clause-few
+returns-in_err-push-clause-few g c = grind (arith, common_steps)
+
+pub returns-in_err-new-clause-mirrors : goal.returns-in_err-new-clause-mirrors
+returns-in_err-new-clause-mirrors g c = grind (arith, common_steps)
+
+pub returns-in_err-new-clause-count : goal.returns-in_err-new-clause-count
+returns-in_err-new-clause-count g c = grind (arith, common_steps)
+
+pub returns-in_err-new-clause-few : goal.returns-in_err-new-clause-few
+returns-in_err-new-clause-few g c = grind (arith, common_steps)
+
+pub returns-in_err-plans-clause-mirrors : goal.returns-in_err-plans-clause-mirrors
+returns-in_err-plans-clause-mirrors g c = grind (arith, common_steps)
+
+pub returns-in_err-plans-clause-count : goal.returns-in_err-plans-clause-count
+returns-in_err-plans-clause-count g c = grind (arith, common_steps)
+
+pub returns-in_err-plans-clause-few : goal.returns-in_err-plans-clause-few
+returns-in_err-plans-clause-few g c = grind (arith, common_steps)
