@@ -16,3 +16,9 @@ returns g c = λ h joined.
     c.finish_race.ensures.ends h
     (held-same h c.args.mirrors.now c.args.ends.items c.deref_mut.result.now c.deref_mut-2.result.now c.deref.result.now
     (c.deref_mut.ensures.value ∙ c.part_ends.ensures.sends) (c.deref_mut-2.ensures.value ∙ c.part_ends.ensures.rows) (c.deref.ensures.value ∙ c.part_ends.ensures.senders) joined)
+
+pub part_ends-requires-clause-empty : goal.part_ends-requires-clause-empty
+part_ends-requires-clause-empty g c = c.requires.empty
+
+pub part_ends-requires-clause-room : goal.part_ends-requires-clause-room
+part_ends-requires-clause-room g c = c.requires.room

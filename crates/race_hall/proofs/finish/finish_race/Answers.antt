@@ -8,6 +8,17 @@ use Rattle.race_hall.proofs.finish.finish_race.Goals as goal
 pub loop-number-init : goal.loop-number-init
 loop-number-init g c = record { sends = all-sends-same c.args.sends.now; mirrors = up_to-start _ _; rows = up_to-start _ _; done = λ h held i s low here. absurd (omega arith) }
 
+pub bounds-mirrors-number : goal.bounds-mirrors-number
+bounds-mirrors-number g c = (let t = c.loop-number-test.true in let a = c.loop-number.auto.mirrors in omega arith)
+
+pub bounds-rows-number : goal.bounds-rows-number
+bounds-rows-number g c =
+    (let t = c.loop-number-test.true in let a = c.loop-number.auto.rows in let b = c.requires.held.1.mirrors_count in
+    let d = c.requires.held.1.rows_count in let e = c.loop-number.auto.mirrors in omega arith)
+
+pub loop-number-smaller : goal.loop-number-smaller
+loop-number-smaller g c = (let t = c.loop-number-test.true in omega arith)
+
 pub finish_one-requires : goal.finish_one-requires
 finish_one-requires g c =
     let below : c.loop-number.number < length c.loop-number.mirrors = (let t = c.loop-number-test.true in let a = c.loop-number.auto.mirrors in omega arith) in
