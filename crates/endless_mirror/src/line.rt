@@ -204,6 +204,21 @@ impl EndlessLine {
         }
     }
 
+    // Goes on at a part of the text to which a line of the head led, where the next line has this
+    // number, and appends what is told of that line. On `NoMemory` `out` is unchanged.
+    fn go_on(&mut self, part: Part, next: u32, out: &mut Vec<u8>) -> Result<(), NoMemory>
+        requires { IsRightPart part }
+        ensures state { OnOk result
+            (self.new ≡ record { number = self.old.number; place = place_of next part }) }
+        ensures told { (line : ℕ) → OnOk result
+            (out.new.items ≡ out.old.items ++ head_told line (Ok (place_of next part))) }
+        ensures err { OnErr result (out.new.items ≡ out.old.items) }
+    {
+        self.part = part;
+        self.line = next;
+        push_taken(out, &self.part)
+    }
+
     // Answers a line of the head.
     fn answer_head(&mut self, line: &[u8], out: &mut Vec<u8>) -> Result<(), NoMemory>
         requires { IsHeading self.old.place }
@@ -217,12 +232,7 @@ impl EndlessLine {
             return Ok(());
         };
         match take_head(self.alloc, self.number, next, head, line) {
-            Ok(part) => {
-                push_taken(out, &part)?;
-                self.part = part;
-                self.line = next;
-                Ok(())
-            }
+            Ok(part) => self.go_on(part, next, out),
             Err(LineFault::Refused(cause)) => push_refusal(out, self.line, cause),
             Err(LineFault::NoMemory) => Err(NoMemory),
         }

@@ -1,15 +1,16 @@
 use Rattle.std.proofs.Common.{sym, ap, ◌∙◌}
+use Rattle.std.proofs.lemmas.Result.{on_ok_weaker}
 use Rattle.live_mirror.specs.declared.line_mirror.Part.{Part}
 use Rattle.live_mirror.specs.Live.{LiveState}
 use Rattle.live_mirror.specs.Parts.{read_of, place_of}
 use Rattle.live_mirror.proofs.HeadLaws.{head-told}
 use Rattle.live_mirror.proofs.line_mirror.LineMirror.answer_head.Goals as goal
 
-pub returns-in_ok-push_taken-in-Ok-clause-told : goal.returns-in_ok-push_taken-in-Ok-clause-told
-returns-in_ok-push_taken-in-Ok-clause-told c =
+pub returns-in-Ok-clause-told : goal.returns-in-Ok-clause-told
+returns-in-Ok-clause-told c =
     let line = c.self.inside.line in
     let next = c.saturating_add-next.result in
-    head-told c.self.inside.number c.args.self.now.number line next c.args.self.now.place (place_of next c.in-Ok.part) (read_of c.in-InHead.head) c.args.line.now _ _
+    on_ok_weaker c.go_on.result (λ put. head-told c.self.inside.number c.args.self.now.number line next c.args.self.now.place (place_of next c.in-Ok.part) (read_of c.in-InHead.head) c.args.line.now _ _
     (ap (λ (s : LiveState). s.number) c.self.view_is)
     (ap (λ (s : LiveState). s.place) (sym c.self.view_is) ∙ ap (λ (p : Part). place_of line p) (sym c.in-InHead.ensures.value)) c.saturating_add-next.ensures c.in-Ok.ensures.led
-    (c.in_ok-push_taken-in-Ok.ensures.ok line next)
+    put) (c.go_on.ensures.told line)
