@@ -57,23 +57,28 @@ of-fault : {T : Type 0} (r : Result T Stop) (stop : Stop) (P : Result T Stop →
 of-fault (Ok x) stop P is p = absurd is
 of-fault (Err s) stop P is p = subst (λ (x : Stop). P (Err x)) (sym is) p
 
-answers-as : (ws : List Behaviour) (s t : Subcommand) (old new : Seen) (r : Result Due Stop) → s ≡ t → Answers ws (Some t) old new r → Answers ws (Some s) old new r
+-- what was answered, by another name of what was asked; to whichever watchers
+pub answers-as : (ws : List Behaviour) (s t : Subcommand) (old new : Seen) (r : Result Due Stop) → s ≡ t → Answers ws (Some t) old new r → Answers ws (Some s) old new r
 answers-as ws s t old new r is answers = subst (λ (x : Subcommand). Answers ws (Some x) old new r) (sym is) answers
+
+pub answers-any :
+    (s t : Subcommand) (old new : Seen) (r : Result Due Stop) → s ≡ t → ((ws : List Behaviour) → Answers ws (Some t) old new r)
+    → (ws : List Behaviour) → Answers ws (Some s) old new r
+answers-any s t old new r is answers ws = answers-as ws s t old new r is (answers ws)
 
 -- of a match
 pub stopped-match :
-    (ws : List Behaviour) (s : Subcommand) (task : MatchTask) (old new : Seen) (r : Result Due Stop) (stop : Stop) → s ≡ OfMatch task → IsErrAnd r (λ x. x ≡ stop)
-    → WhyStopped (most_read (OfMatch task)) IsFaultyMatch old new stop → Answers ws (Some s) old new r
-stopped-match ws s task old new r stop asks is why =
-    answers-as ws s (OfMatch task) old new r asks (of-fault r stop (λ x. Answers ws (Some (OfMatch task)) old new x) is
-    (answers-stopped ws (OfMatch task) IsFaultyMatch old new stop (λ input refused lacks. refusal refused lacks refl) (omega arith) why))
+    (ws : List Behaviour) (task : MatchTask) (old new : Seen) (r : Result Due Stop) (stop : Stop) → IsErrAnd r (λ x. x ≡ stop)
+    → WhyStopped (most_read (OfMatch task)) IsFaultyMatch old new stop → Answers ws (Some (OfMatch task)) old new r
+stopped-match ws task old new r stop is why =
+    of-fault r stop (λ x. Answers ws (Some (OfMatch task)) old new x) is
+    (answers-stopped ws (OfMatch task) IsFaultyMatch old new stop (λ input refused lacks. refusal refused lacks refl) (omega arith) why)
 
 pub given-match :
-    (ws : List Behaviour) (s : Subcommand) (task : MatchTask) (m : MatchData) (old new : Seen) (r : Result Due Stop) → s ≡ OfMatch task
-    → OfInput (most_read (OfMatch task)) old new (λ input. IsMatchText m input) → Gives (λ due. IsMatchAnswer ws task m due) r → Answers ws (Some s) old new r
-given-match ws s task m old new r asks read given =
-    answers-as ws s (OfMatch task) old new r asks
-    (answers-given ws (OfMatch task) (λ input. IsMatchText m input) (λ due. IsMatchAnswer ws task m due) old new r (λ input due text is. answer m text is) read given)
+    (ws : List Behaviour) (task : MatchTask) (m : MatchData) (old new : Seen) (r : Result Due Stop)
+    → OfInput (most_read (OfMatch task)) old new (λ input. IsMatchText m input) → Gives (λ due. IsMatchAnswer ws task m due) r → Answers ws (Some (OfMatch task)) old new r
+given-match ws task m old new r read given =
+    answers-given ws (OfMatch task) (λ input. IsMatchText m input) (λ due. IsMatchAnswer ws task m due) old new r (λ input due text is. answer m text is) read given
 
 -- what was answered to a match, by another name of what was asked
 pub shown-as :
@@ -83,39 +88,38 @@ shown-as m t u r is given ws = subst (λ (x : MatchTask). Gives (λ due. IsMatch
 
 -- of a record
 pub stopped-record :
-    (ws : List Behaviour) (s : Subcommand) (old new : Seen) (r : Result Due Stop) (stop : Stop) → s ≡ Audit → IsErrAnd r (λ x. x ≡ stop)
-    → WhyStopped (most_read Audit) IsFaultyRecord old new stop → Answers ws (Some s) old new r
-stopped-record ws s old new r stop asks is why =
-    answers-as ws s Audit old new r asks (of-fault r stop (λ x. Answers ws (Some Audit) old new x) is
-    (answers-stopped ws Audit IsFaultyRecord old new stop (λ input refused lacks. refusal refused lacks refl) (omega arith) why))
+    (ws : List Behaviour) (old new : Seen) (r : Result Due Stop) (stop : Stop) → IsErrAnd r (λ x. x ≡ stop)
+    → WhyStopped (most_read Audit) IsFaultyRecord old new stop → Answers ws (Some Audit) old new r
+stopped-record ws old new r stop is why =
+    of-fault r stop (λ x. Answers ws (Some Audit) old new x) is
+    (answers-stopped ws Audit IsFaultyRecord old new stop (λ input refused lacks. refusal refused lacks refl) (omega arith) why)
 
 pub given-record :
-    (ws : List Behaviour) (s : Subcommand) (q : RaceRecord) (old new : Seen) (due : Due) → s ≡ Audit
-    → OfInput (most_read Audit) old new (λ input. IsRecordText q input) → IsAudited q due → Answers ws (Some s) old new (Ok due)
-given-record ws s q old new due asks read given =
-    answers-as ws s Audit old new (Ok due) asks (answers-given ws Audit (λ input. IsRecordText q input) (λ due. IsAudited q due) old new (Ok due) (λ input due text is. answer q text is) read given)
+    (ws : List Behaviour) (q : RaceRecord) (old new : Seen) (r : Result Due Stop)
+    → OfInput (most_read Audit) old new (λ input. IsRecordText q input) → Gives (λ due. IsAudited q due) r → Answers ws (Some Audit) old new r
+given-record ws q old new r read given =
+    answers-given ws Audit (λ input. IsRecordText q input) (λ due. IsAudited q due) old new r (λ input due text is. answer q text is) read given
 
 -- of a match over its net
 pub stopped-lossy :
-    (ws : List Behaviour) (s : Subcommand) (old new : Seen) (r : Result Due Stop) (stop : Stop) → s ≡ Lossy → IsErrAnd r (λ x. x ≡ stop)
-    → WhyStopped (most_read Lossy) IsFaultyLossy old new stop → Answers ws (Some s) old new r
-stopped-lossy ws s old new r stop asks is why =
-    answers-as ws s Lossy old new r asks (of-fault r stop (λ x. Answers ws (Some Lossy) old new x) is
-    (answers-stopped ws Lossy IsFaultyLossy old new stop (λ input refused lacks. refusal refused lacks refl) (omega arith) why))
+    (ws : List Behaviour) (old new : Seen) (r : Result Due Stop) (stop : Stop) → IsErrAnd r (λ x. x ≡ stop)
+    → WhyStopped (most_read Lossy) IsFaultyLossy old new stop → Answers ws (Some Lossy) old new r
+stopped-lossy ws old new r stop is why =
+    of-fault r stop (λ x. Answers ws (Some Lossy) old new x) is
+    (answers-stopped ws Lossy IsFaultyLossy old new stop (λ input refused lacks. refusal refused lacks refl) (omega arith) why)
 
 pub given-lossy :
-    (ws : List Behaviour) (s : Subcommand) (x : LossyData) (old new : Seen) (due : Due) → s ≡ Lossy
-    → OfInput (most_read Lossy) old new (λ input. IsLossyText x input) → due ≡ due_of_lossy x → Answers ws (Some s) old new (Ok due)
-given-lossy ws s x old new due asks read given =
-    answers-as ws s Lossy old new (Ok due) asks
-    (answers-given ws Lossy (λ input. IsLossyText x input) (λ due. due ≡ due_of_lossy x) old new (Ok due)
-    (λ input due text is. answer x text is) read given)
+    (ws : List Behaviour) (x : LossyData) (old new : Seen) (r : Result Due Stop)
+    → OfInput (most_read Lossy) old new (λ input. IsLossyText x input) → Gives (λ due. due ≡ due_of_lossy x) r → Answers ws (Some Lossy) old new r
+given-lossy ws x old new r read given =
+    answers-given ws Lossy (λ input. IsLossyText x input) (λ due. due ≡ due_of_lossy x) old new r
+    (λ input due text is. answer x text is) read given
 
 -- of a number, and of nothing
-pub given-number : (ws : List Behaviour) (s : Subcommand) (n : ℕ) (old : Seen) (due : Due) → s ≡ Soak n → due ≡ due_of_number n → Answers ws (Some s) old old (Ok due)
-given-number ws s n old due asks is =
+pub given-number : (ws : List Behaviour) (n : ℕ) (old : Seen) (due : Due) → due ≡ due_of_number n → Answers ws (Some (Soak n)) old old (Ok due)
+given-number ws n old due is =
     let input = some-input old.left in
-    answers-as ws s (Soak n) old old (Ok due) asks (record { input = input.0; told = input.1; holds = is; left = behind-none old.left; faults = refl })
+    record { input = input.0; told = input.1; holds = is; left = behind-none old.left; faults = refl }
 
 pub given-none : (ws : List Behaviour) (what : Option Subcommand) (old : Seen) → what ≡ None → Answers ws what old old (Err stops.WrongWords)
 given-none ws what old none =

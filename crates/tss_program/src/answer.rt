@@ -84,17 +84,24 @@ pub fn play<G: Game + Shown>(alloc: Global, opening: &G, m: &Match) -> Result<Du
     })
 }
 
-/// The answer of `lift` to a match: its text with version 2.
-pub fn lift_match(alloc: Global, m: Match) -> Result<Due, NoMemory>
-    ensures { IfOk result (λ due. due ≡ complete (match_text (lifted m)) []) }
+// The text of a match, as what is due.
+fn text_of(alloc: Global, m: &Match) -> Result<Due, NoMemory>
+    ensures { IfOk result (λ due. due ≡ complete (match_text m.now) []) }
 {
-    let lifted = lift(m);
-    let text = print_match(alloc, &lifted)?;
+    let text = print_match(alloc, m)?;
     Ok(Due {
         status: Status::Complete,
         text: Seq::of(text),
         kept: Seq::new(alloc),
     })
+}
+
+/// The answer of `lift` to a match: its text with version 2.
+pub fn lift_match(alloc: Global, m: Match) -> Result<Due, NoMemory>
+    ensures { IfOk result (λ due. due ≡ complete (match_text (lifted m)) []) }
+{
+    let lifted = lift(m);
+    text_of(alloc, &lifted)
 }
 
 /// The answer of `score` to a match: its scoreboard and what the watchers have to say, and its
