@@ -7,4 +7,3 @@ pub mod Beat
 pub mod World
 pub mod Block
 pub mod Worked
-pub mod Blind

@@ -17,7 +17,7 @@ use crate::returning::return_all;
 use crate::shot::{Shot, fly_shots};
 use arrayvec::ArrayVec;
 use game_trait::limits::MOST_SHOTS;
-use game_trait::{Act, Command, Game, Tick, TimeBlind};
+use game_trait::{Act, Command, Game, Tick};
 use match_setup::{Ground, Roster, Setup, Shown, copy_into};
 use std::marker::Model;
 use tss_base::NoMemory;
@@ -262,12 +262,6 @@ impl Game for Arena {
             time: self.time,
         }
     }
-}
-
-impl TimeBlind for Arena {
-    ghost use Rattle.arena_rules.specs.Blind.{time-blind};
-
-    ghost laws = { time-blind };
 }
 
 impl Shown for Arena {

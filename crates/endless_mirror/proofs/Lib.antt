@@ -1,5 +1,4 @@
-pub mod HeadLaws
-mod Own
+pub mod Own
 mod Remembered
 pub mod Steps
 pub mod Texts

@@ -6,7 +6,7 @@ use Rattle.game_trait.specs.declared.command.Command.{Command}
 use Rattle.game_trait.specs.declared.command.Item.{Item}
 use Rattle.game_trait.specs.declared.command.Item.TheVariants.{Cmd, Beat}
 use Rattle.game_trait.specs.Game.{Rules}
-use Rattle.game_trait.specs.Later.{AreTimeBlind, later, later_item}
+use Rattle.game_trait.specs.Later.{later, world_from}
 use Rattle.game_trait.specs.Ordered.{ordered}
 use Rattle.game_trait.specs.Run.{world_of}
 use Rattle.sync_model.specs.Lists.{last_of}
@@ -18,16 +18,6 @@ use Rattle.rolling_mirror.specs.Rolling.{RollState, last_tick}
 use Rattle.sync_model.proofs.Limits.{last-is}
 use Rattle.endless_mirror.specs.Stands.{Stands}
 use Rattle.endless_mirror.specs.Told.{copy_told, last_copy, remembered}
-
--- rules that look at no time make of later items what they make of these
-later-world :
-    {W : Type 0} (rules : Rules W) → AreTimeBlind rules → (n : ℕ) (w : W) (run : List Item)
-    → world_of rules w (map (later_item n) run) ≡ world_of rules w run
-unfolding world_of later_item
-later-world rules blind n w [] = refl
-later-world rules blind n w (Cmd x ∷ run) =
-    ap (λ v. world_of rules v (map (later_item n) run)) (blind w x (x.time + n)) ∙ later-world rules blind n (rules.apply w x) run
-later-world rules blind n w (Beat ∷ run) = later-world rules blind n (rules.beat w) run
 
 -- what is told so many ticks later is due no earlier
 pub later-due : (b : ℕ) (xs : List Command) → AllByRecursion (λ x. b ≤ x.time) (map (later b) xs)
@@ -46,16 +36,15 @@ last-run (run ∷ runs) some =
     let back : length (run ∷ runs) - 1 ≡ length runs = omega arith in
     ap (λ (n : ℕ). get_or (run ∷ runs) n []) back ∙ sym (last_of-at run [] runs)
 
-module _ {W : Type 0} (rules : Rules W) (blind : AreTimeBlind rules) (r : RollState W) (is : Stands r) where
+module _ {W : Type 0} (rules : Rules W) (r : RollState W) (is : Stands r) where
   -- its world is the time-ordered execution of what is told
   last-world :
-      world_of rules r.left.opening (get_or r.left.runs (last_copy r) [])
+      world_from rules r.base r.left.opening (get_or r.left.runs (last_copy r) [])
       ≡ world_of rules r.left.opening (ordered (remembered r) r.base (last_tick r))
   last-world =
       let k = last_clock r.left.runs in
       let none : r.base + 0 ≡ r.base = omega arith in
-      ap (world_of rules r.left.opening) (last-run r.left.runs is.some_copy ∙ is.trailing.last_ordered)
-      ∙ sym (later-world rules blind r.base r.left.opening (ordered r.left.accepted 0 k))
+      ap (world_from rules r.base r.left.opening) (last-run r.left.runs is.some_copy ∙ is.trailing.last_ordered)
       ∙ ap (world_of rules r.left.opening)
       (sym (ordered-left r.base (remembered r) r.left.accepted (all-later r.base r.left.accepted) 0 k)
       ∙ ap (λ (i : ℕ). ordered (remembered r) i (r.base + k)) none)
@@ -67,5 +56,5 @@ module _ {W : Type 0} (rules : Rules W) (blind : AreTimeBlind rules) (r : RollSt
       (world_of rules r.left.opening (ordered (remembered r) r.base (last_tick r)))
   last-told lines names number =
       let clock = last-is r.left.runs (length r.left.runs) refl is.some_copy in
-      ap (λ (n : ℕ). block_text lines names (copy_head number (last_copy r) (r.base + n)) (world_of rules r.left.opening (get_or r.left.runs (last_copy r) []))) clock
+      ap (λ (n : ℕ). block_text lines names (copy_head number (last_copy r) (r.base + n)) (world_from rules r.base r.left.opening (get_or r.left.runs (last_copy r) []))) clock
       ∙ ap (block_text lines names (copy_head number (last_copy r) (last_tick r))) last-world

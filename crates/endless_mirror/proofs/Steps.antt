@@ -73,14 +73,14 @@ module _ {W : Type 0} where
       ap (λ (u : RollState W). u.left.plans) same ∙ events-plans (steps_of_each (ticked rules r)) (ticked rules r) ∙ ticked-plans rules r
 
 -- the mirror as a session begins
-pub opened : {W : Type 0} (opening : W) (m : MatchData) (number line : ℕ) (mirror : RollState W) (ps : List Schedule) (names : List (List ℕ)) (version mirrors room keep : ℕ)
+pub opened : {W : Type 0} (opening : W) (m : MatchData) (number : ℕ) (mirror : RollState W) (ps : List Schedule) (names : List (List ℕ)) (version mirrors room keep : ℕ)
     → mirror ≡ record { base = 0; left = opening_state opening (ticks_of_first ps) (delays_of_each ps) 0 0; spare = room; keep = keep }
     → ps ≡ schedules m → names ≡ m.names → version ≡ m.version → mirrors ≡ m.mirrors → room ≡ most_commands m.version → keep ≡ (opening_roll opening m).keep
-    → record { mirror = mirror; names = names; number = number; version = version; mirrors = mirrors; next = 0; line = line; is_over = false } ≡ opening_session opening m number line
-opened {W} opening m number line mirror ps names version mirrors room keep made plans names_is version_is mirrors_is room_is keep_is =
+    → record { mirror = mirror; names = names; number = number; version = version; mirrors = mirrors; next = 0 } ≡ opening_session opening m number
+opened {W} opening m number mirror ps names version mirrors room keep made plans names_is version_is mirrors_is room_is keep_is =
     let mirror_is : mirror ≡ opening_roll opening m =
     made ∙ ap (λ (qs : List Schedule). record { base = 0; left = opening_state opening (ticks_of_first qs) (delays_of_each qs) 0 0; spare = room; keep = keep }) plans
     ∙ ap (λ (ds : List (List ℕ)). record { base = 0; left = opening_state opening m.length ds 0 0; spare = room; keep = keep }) (delays-of_schedules m)
     ∙ ap (λ (n : ℕ). record { base = 0; left = opening_state opening m.length (all_plans m) 0 0; spare = n; keep = keep }) room_is
     ∙ ap (λ (k : ℕ). record { base = 0; left = opening_state opening m.length (all_plans m) 0 0; spare = most_commands m.version; keep = k }) keep_is in
-    λ i. record { mirror = mirror_is i; names = names_is i; number = number; version = version_is i; mirrors = mirrors_is i; next = 0; line = line; is_over = false }
+    λ i. record { mirror = mirror_is i; names = names_is i; number = number; version = version_is i; mirrors = mirrors_is i; next = 0 }

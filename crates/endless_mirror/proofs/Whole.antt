@@ -7,7 +7,7 @@ use Rattle.game_trait.specs.declared.event.Event.TheVariants as events
 use Rattle.game_trait.specs.declared.event.Ticked.TheVariants.{Moved, Over}
 use Rattle.game_trait.specs.declared.event.Reply.TheVariants.{Arrive as ToArrive}
 use Rattle.game_trait.specs.Game.{Rules}
-use Rattle.game_trait.specs.Later.{AreTimeBlind, later_event}
+use Rattle.game_trait.specs.Later.{later_event}
 use Rattle.game_trait.specs.Run.{beats}
 use Rattle.sync_model.specs.State.{MirrorState, last_clock}
 use Rattle.sync_model.specs.Change.{next, said, after}
@@ -21,10 +21,11 @@ use Rattle.rolling_mirror.specs.declared.arrival.Arrival.{Arrival}
 use Rattle.rolling_mirror.specs.declared.arrival.Arrival.TheVariants.{Taken, Repeat, Late, Far, Full}
 use Rattle.rolling_mirror.specs.Rolling.{RollState, IsWindowOf, left_after, rolled, forgets, ready, is_held, ticked, turned, said_to_turn, said_to_tick, said_to_arrival, arrived, as_arrived}
 use Rattle.rolling_mirror.proofs.Windows.{after-tick, event-window, tick-window, restagger-window, rolled-window}
-use Rattle.rolling_mirror.proofs.Arrivals.{arrival-window, passed-window}
+use Rattle.sync_model.specs.Forgetting.{arrive_from, said_from}
+use Rattle.rolling_mirror.proofs.Arrivals.{arrival-window, passed-window, exact-window}
 use Rattle.rolling_mirror.proofs.Turns.{turn-window, over-window}
 use Rattle.endless_mirror.specs.Session.{SessionState, terms_of, is_past, own_command, arrive, mirror_after, after_request}
-use Rattle.endless_mirror.specs.Stands.{Stands, arrival_made, events_made, IsKnown, BringsKnown}
+use Rattle.endless_mirror.specs.Stands.{Stands, arrival_made, events_made, IsKnown, BringsKnown, arrived_from, whole_after}
 
 -- a clock that isn't held, after and without forgetting
 rolled-room :
@@ -38,7 +39,7 @@ still-room :
     → clock + 1 < window
 still-room clock window k keep last behind within e held = grind (arith, nat_tests)
 
-module _ {W : Type 0} (rules : Rules W) (blind : AreTimeBlind rules) (r : RollState W) (is : Stands r) (whole : MirrorState W)
+module _ {W : Type 0} (rules : Rules W) (r : RollState W) (is : Stands r) (whole : MirrorState W)
     (h : IsWindowOf rules whole r) (before : whole.clock + 1 < whole.length) where
   behind : last_clock r.left.runs ≤ r.left.clock
   behind = last-all (λ run. beats run ≤ r.left.clock) r.left.runs is.some_copy is.behind_clock
@@ -46,7 +47,7 @@ module _ {W : Type 0} (rules : Rules W) (blind : AreTimeBlind rules) (r : RollSt
   ready-window : IsWindowOf rules whole (ready rules r)
   ready-window =
       elim (forgets r) as (λ v. IsWindowOf rules whole (cond v (rolled rules r) r)) [
-        | true ↦ rolled-window rules r (rolled rules r) blind is.trailing behind refl whole h
+        | true ↦ rolled-window rules r (rolled rules r) is.trailing behind refl whole h
         | false ↦ h
       ]
 
@@ -134,6 +135,23 @@ module _ {W : Type 0} (rules : Rules W) (blind : AreTimeBlind rules) (r : RollSt
     gone-window (Far end) k = h
     gone-window Full k = h
 
+    abbrev AnswersFrom : Arrival → Type 0
+    AnswersFrom a =
+        IfSome (as_arrived a)
+        (λ answer. IsWindowOf rules (arrive_from r.base whole x) (arrived r x a) × (said_from r.base whole x ≡ ToArrive answer))
+
+    from-window : (a : Arrival) → AnswersFrom a → IsWindowOf rules (arrived_from r.base whole x a) (arrived r x a)
+    from-window (Taken repaired) k = k.0
+    from-window Repeat k = k.0
+    from-window (Late bound) k = k.0
+    from-window (Far end) k = h
+    from-window Full k = h
+
+    arrive-from : IsWindowOf rules (arrived_from r.base whole x (said_to_arrival r x)) (arrive r x)
+    arrive-from =
+        let a = said_to_arrival r x in
+        from-window a (exact-window rules r x is.within_window whole h (omega arith) (arrived r x a) a refl refl)
+
     arrive-window : IsKnown whole r x → IsWindowOf rules (after whole (arrival_made x (said_to_arrival r x))) (arrive r x)
     arrive-window known =
         let a = said_to_arrival r x in
@@ -141,23 +159,46 @@ module _ {W : Type 0} (rules : Rules W) (blind : AreTimeBlind rules) (r : RollSt
         (λ past. gone-window a (passed-window rules r x whole h past (arrived r x a) a refl refl)) known
 
 pub request-window :
-    {W : Type 0} (rules : Rules W) → AreTimeBlind rules → (whole : MirrorState W) (s : SessionState W) (r : Request)
+    {W : Type 0} (rules : Rules W) (whole : MirrorState W) (s : SessionState W) (r : Request)
     → Stands s.mirror → IsWindowOf rules whole s.mirror → whole.clock + 1 < whole.length → FitsTerms (terms_of s) r → BringsKnown whole s r
     → IsWindowOf rules (after whole (events_made (length whole.runs) s r)) (after_request rules s r).mirror
 unfolding mirror_after after
-request-window rules blind whole s (Own player act) is h before fits known =
+request-window rules whole s (Own player act) is h before fits known =
     let x = own_command s player act in
     elim (is_past s) as (λ v. IsWindowOf rules (after whole (cond v [] (arrival_made x (said_to_arrival s.mirror x)))) (cond v s.mirror (arrive s.mirror x))) [
       | true ↦ h
-      | false ↦ arrive-window rules blind s.mirror is whole h before x known
+      | false ↦ arrive-window rules s.mirror is whole h before x known
     ]
-request-window rules blind whole s (Cmd x) is h before fits known = arrive-window rules blind s.mirror is whole h before x known
-request-window rules blind whole s Tick is h before fits known = ticked-window rules blind s.mirror is whole h before
-request-window rules blind whole s Turn is h before fits known = turned-window rules blind s.mirror is whole h before
-request-window rules blind whole s (Step copy) is h before fits known = stepped-window rules blind s.mirror is whole h before copy fits
-request-window rules blind whole s (Restagger plan) is h before fits known =
+request-window rules whole s (Cmd x) is h before fits known = arrive-window rules s.mirror is whole h before x known
+request-window rules whole s Tick is h before fits known = ticked-window rules s.mirror is whole h before
+request-window rules whole s Turn is h before fits known = turned-window rules s.mirror is whole h before
+request-window rules whole s (Step copy) is h before fits known = stepped-window rules s.mirror is whole h before copy fits
+request-window rules whole s (Restagger plan) is h before fits known =
     restagger-window rules s.mirror (left_after s.mirror (events.Restagger plan)) plan refl whole h
-request-window rules blind whole s (World copy) is h before fits known = h
-request-window rules blind whole s (Run copy) is h before fits known = h
-request-window rules blind whole s Commands is h before fits known = h
-request-window rules blind whole s End is h before fits known = h
+request-window rules whole s (World copy) is h before fits known = h
+request-window rules whole s (Run copy) is h before fits known = h
+request-window rules whole s Commands is h before fits known = h
+request-window rules whole s End is h before fits known = h
+
+-- whatever its name
+pub request-exact :
+    {W : Type 0} (rules : Rules W) (whole : MirrorState W) (s : SessionState W) (r : Request)
+    → Stands s.mirror → IsWindowOf rules whole s.mirror → whole.clock + 1 < whole.length → FitsTerms (terms_of s) r
+    → IsWindowOf rules (whole_after whole s r) (after_request rules s r).mirror
+unfolding mirror_after whole_after after
+request-exact rules whole s (Own player act) is h before fits =
+    let x = own_command s player act in
+    elim (is_past s) as (λ v. IsWindowOf rules (cond v whole (arrived_from s.mirror.base whole x (said_to_arrival s.mirror x))) (cond v s.mirror (arrive s.mirror x))) [
+      | true ↦ h
+      | false ↦ arrive-from rules s.mirror is whole h before x
+    ]
+request-exact rules whole s (Cmd x) is h before fits = arrive-from rules s.mirror is whole h before x
+request-exact rules whole s Tick is h before fits = ticked-window rules s.mirror is whole h before
+request-exact rules whole s Turn is h before fits = turned-window rules s.mirror is whole h before
+request-exact rules whole s (Step copy) is h before fits = stepped-window rules s.mirror is whole h before copy fits
+request-exact rules whole s (Restagger plan) is h before fits =
+    restagger-window rules s.mirror (left_after s.mirror (events.Restagger plan)) plan refl whole h
+request-exact rules whole s (World copy) is h before fits = h
+request-exact rules whole s (Run copy) is h before fits = h
+request-exact rules whole s Commands is h before fits = h
+request-exact rules whole s End is h before fits = h

@@ -1,6 +1,6 @@
 -- What a mirror of a session without an end is that is asked line by line, and what a request makes of
 -- it. Nothing is told here.
-use Rattle.std.specs.Prelude.{◌≡◌, ℕ, ◌+◌, ◌-◌, ◌/◌, ◌^◌, ◌==◌, ◌&&◌, ◌≤◌, Bool, true, false, not, nat_lt, nat_le, if◌then◌else◌, List, length}
+use Rattle.std.specs.Prelude.{◌≡◌, ℕ, ◌+◌, ◌-◌, ◌/◌, ◌^◌, ◌==◌, ◌&&◌, ◌≤◌, Bool, true, not, nat_lt, nat_le, if◌then◌else◌, List, length}
 use Rattle.game_trait.specs.declared.command.Act.{Act}
 use Rattle.game_trait.specs.declared.command.Command.{Command}
 use Rattle.game_trait.specs.declared.event.Event.TheVariants as events
@@ -13,11 +13,9 @@ use Rattle.rolling_mirror.specs.Rolling.{RollState, left_after, ticked, turned, 
 use Rattle.live_text.specs.declared.request.Terms.{Terms}
 use Rattle.live_text.specs.declared.request.Request.{Request}
 use Rattle.live_text.specs.declared.request.Request.TheVariants.{Own, Cmd, Tick, Turn, Step, Restagger, World, Run, Commands, End}
-use Rattle.live_mirror.specs.Session.{is_end, next_line}
 
 -- a mirror that is asked line by line: its state, the players' names, its number, the version of its
--- match's text and how many mirrors play it, the number that its own next command has, the number of
--- the next line, and whether no further line is taken
+-- match's text and how many mirrors play it, and the number that its own next command has
 pub record SessionState (W : Type 0) : Type 0 where
   pub mirror : RollState W
   pub names : List (List ℕ)
@@ -25,8 +23,6 @@ pub record SessionState (W : Type 0) : Type 0 where
   pub version : ℕ
   pub mirrors : ℕ
   pub next : ℕ
-  pub line : ℕ
-  pub is_over : Bool
 
 -- its clock, in ticks of the session
 abbrev pub clock_of : {W : Type 0} → SessionState W → ℕ
@@ -106,17 +102,9 @@ next_after s (Run copy) = s.next
 next_after s Commands = s.next
 next_after s End = s.next
 
--- what a request does, before its answer ends
-abbrev pub played : {W : Type 0} → Rules W → SessionState W → Request → SessionState W
-played rules s r = record s { mirror = mirror_after rules s r; next = next_after s r }
-
--- after a request that was read, and after a line that was refused
+-- after a request
 abbrev pub after_request : {W : Type 0} → Rules W → SessionState W → Request → SessionState W
-after_request rules s r =
-    record (played rules s r) { line = next_line s.line; is_over = is_end r }
-
-abbrev pub after_refused : {W : Type 0} → SessionState W → SessionState W
-after_refused s = record s { line = next_line s.line }
+after_request rules s r = record s { mirror = mirror_after rules s r; next = next_after s r }
 
 -- what is always true of it, beside what is always true of a mirror: how many plans there are, as it is
 -- kept; few players; and a number that isn't past the last
@@ -135,15 +123,13 @@ opening_roll opening m = record {
   keep = m.length / 4;
 }
 
--- the mirror of this number; the next line has this number
-abbrev pub opening_session : {W : Type 0} → W → MatchData → ℕ → ℕ → SessionState W
-opening_session opening m number line = record {
+-- the mirror of this number
+abbrev pub opening_session : {W : Type 0} → W → MatchData → ℕ → SessionState W
+opening_session opening m number = record {
   mirror = opening_roll opening m;
   names = m.names;
   number = number;
   version = m.version;
   mirrors = m.mirrors;
   next = 0;
-  line = line;
-  is_over = false;
 }

@@ -8,7 +8,8 @@ use Rattle.game_trait.specs.declared.event.Event.TheVariants as events
 use Rattle.game_trait.specs.Run.{beats}
 use Rattle.sync_model.specs.State.{MirrorState}
 use Rattle.sync_model.specs.Staggered.{IsTrailing}
-use Rattle.sync_model.specs.Forgetting.{IsRemembered}
+use Rattle.sync_model.specs.Change.{after}
+use Rattle.sync_model.specs.Forgetting.{IsRemembered, arrive_from}
 use Rattle.sync_model.specs.Turns.{steps_from, turn_events}
 use Rattle.rolling_mirror.specs.declared.arrival.Arrival.{Arrival}
 use Rattle.rolling_mirror.specs.declared.arrival.Arrival.TheVariants.{Taken, Repeat, Late, Far, Full}
@@ -66,3 +67,28 @@ BringsKnown whole s (World copy) = Unit {0}
 BringsKnown whole s (Run copy) = Unit {0}
 BringsKnown whole s Commands = Unit {0}
 BringsKnown whole s End = Unit {0}
+
+-- the mirror that remembers all, and asks of names what is due from tick b on, after a command that was answered
+-- so: one that may come again didn't come
+abbrev pub arrived_from : {W : Type 0} → ℕ → MirrorState W → Command → Arrival → MirrorState W
+arrived_from b whole x (Taken repaired) = arrive_from b whole x
+arrived_from b whole x Repeat = arrive_from b whole x
+arrived_from b whole x (Late bound) = arrive_from b whole x
+arrived_from b whole x (Far end) = whole
+arrived_from b whole x Full = whole
+
+-- and after a request
+unfoldable pub whole_after : {W : Type 0} → MirrorState W → SessionState W → Request → MirrorState W
+whole_after whole s (Own player act) =
+    if is_past s then whole
+    else arrived_from s.mirror.base whole (own_command s player act)
+    (said_to_arrival s.mirror (own_command s player act))
+whole_after whole s (Cmd x) = arrived_from s.mirror.base whole x (said_to_arrival s.mirror x)
+whole_after whole s Tick = after whole (events_made (length whole.runs) s Tick)
+whole_after whole s Turn = after whole (events_made (length whole.runs) s Turn)
+whole_after whole s (Step copy) = after whole (events_made (length whole.runs) s (Step copy))
+whole_after whole s (Restagger plan) = after whole (events_made (length whole.runs) s (Restagger plan))
+whole_after whole s (World copy) = whole
+whole_after whole s (Run copy) = whole
+whole_after whole s Commands = whole
+whole_after whole s End = whole

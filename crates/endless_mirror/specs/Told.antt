@@ -7,8 +7,7 @@ use Rattle.game_trait.specs.declared.event.Reply.{Reply}
 use Rattle.game_trait.specs.declared.event.Reply.TheVariants.{Tick as ToTick, Step as ToStep}
 use Rattle.game_trait.specs.declared.event.Stepped.TheVariants.{Ran}
 use Rattle.game_trait.specs.declared.event.Ticked.TheVariants.{Over}
-use Rattle.game_trait.specs.Later.{later}
-use Rattle.game_trait.specs.Run.{world_of}
+use Rattle.game_trait.specs.Later.{later, world_from}
 use Rattle.command_lines.specs.CommandLine.{command_line}
 use Rattle.tss_io.specs.Lines.{as_line, spaced, lines_text}
 use Rattle.sync_model.specs.State.{copy_clock}
@@ -57,7 +56,7 @@ abbrev pub copy_told : {W : Type 0} → Showing W → ℕ → RollState W → �
 copy_told show number r copy =
     block_text show.lines show.names
     (copy_head number copy (r.base + copy_clock r.left.runs copy))
-    (world_of show.rules r.left.opening (run_of r.left copy))
+    (world_from show.rules r.base r.left.opening (run_of r.left copy))
 
 -- the commands that are remembered, at ticks of the session
 abbrev pub remembered : {W : Type 0} → RollState W → List Command

@@ -1,30 +1,25 @@
--- To what a line leads a mirror of a session without an end, behind its head, and what it tells of it.
-use Rattle.std.specs.Prelude.{ℕ, true, List, ◌++◌, Result, Ok, Err, if◌then◌else◌}
+-- A mirror of a session without an end as what is asked line by line, and all that it is told and tells.
+use Rattle.std.specs.Prelude.{ℕ, ◌+◌, Bool, nat_le, nat_lt, ◌&&◌, List, Result, Ok, Err, codes, if◌then◌else◌}
+use Rattle.std.specs.List.{list_all}
 use Rattle.game_trait.specs.Game.{Rules}
+use Rattle.sync_model.specs.Schedule.{Schedule, longest_delay}
 use Rattle.tss_io.specs.declared.cause.Cause.{Cause}
-use Rattle.tss_io.specs.declared.cause.Cause.TheVariants.{Long, Shape}
-use Rattle.tss_io.specs.Kinds.{is_long}
-use Rattle.tss_io.specs.Reading.{refused_at}
-use Rattle.report_text.specs.Worlds.{Showing}
-use Rattle.report_text.specs.Ends.{refused_text}
-use Rattle.line_talk.specs.Hearing.{Answering}
+use Rattle.tss_io.specs.declared.cause.Cause.TheVariants.{Number, Shape}
+use Rattle.line_talk.specs.Hearing.{Answering, Hearing}
+use Rattle.match_data.specs.Data.{MatchData, schedules}
 use Rattle.live_text.specs.declared.request.Request.{Request}
 use Rattle.live_text.specs.declared.request.Request.TheVariants.{Own, Cmd, Tick, Turn, Step, Restagger, World, Run, Commands, End}
 use Rattle.live_text.specs.Requests.{request_at}
-use Rattle.live_mirror.specs.Told.{last_line}
-use Rattle.live_mirror.specs.Way.{torn_told}
-use Rattle.endless_mirror.specs.Session.{SessionState, terms_of, after_request, after_refused}
+use Rattle.live_talk.specs.Staging.{Staging}
+use Rattle.live_talk.specs.Talked.{Asking, AskedState, asked_way, asked_due, asked_heard}
+use Rattle.endless_mirror.specs.Session.{SessionState, terms_of, after_request, opening_session}
 use Rattle.endless_mirror.specs.Told.{answer_text}
-
--- how a game's worlds are shown with a mirror's names
-abbrev pub show_of : {W : Type 0} → Rules W → (W → List (List ℕ) → List ℕ) → SessionState W
-    → Showing W
-show_of rules lines s = record { rules = rules; lines = lines; names = s.names }
 
 -- what is told of a request there, before the line that ends the answer
 abbrev pub answer_by : {W : Type 0} → Rules W → (W → List (List ℕ) → List ℕ) → SessionState W
     → Request → List ℕ
-answer_by rules lines s r = answer_text (show_of rules lines s) s r
+answer_by rules lines s r =
+    answer_text (record { rules = rules; lines = lines; names = s.names }) s r
 
 -- the run of a copy can't be told, of which only the end is remembered: such a request has no form here
 unfoldable pub but_for_runs : Request → Result Request Cause
@@ -43,28 +38,41 @@ abbrev pub without_runs : Result Request Cause → Result Request Cause
 without_runs (Ok r) = but_for_runs r
 without_runs (Err cause) = Err cause
 
--- what a line asks, or why it is refused: a line that is too long is so before all else
-abbrev pub asked_by : {W : Type 0} → SessionState W → List ℕ → Result Request Cause
-asked_by s l = if is_long l then Err Long else without_runs (request_at (terms_of s) l)
+-- the window lets the last copy run: it is longer by two ticks than the delay of each plan's last copy
+abbrev pub lets_run : Schedule → Bool
+lets_run plan = nat_le (longest_delay plan.delays + 2) plan.length
 
--- the state after what was asked
-abbrev pub led_by : {W : Type 0} → Rules W → SessionState W → Result Request Cause
-    → SessionState W
-led_by rules s (Ok r) = after_request rules s r
-led_by rules s (Err cause) = after_refused s
+-- a match has this mirror, and a window for each of its plans
+abbrev pub may_open : MatchData → ℕ → Bool
+may_open m number = nat_lt number m.mirrors && list_all lets_run (schedules m)
 
--- what is told of what was asked
-abbrev pub told_by : {W : Type 0} → Showing W → SessionState W → Result Request Cause → List ℕ
-told_by show s (Ok r) = answer_text show s r ++ last_line r
-told_by show s (Err cause) = refused_text (refused_at s.line cause)
+-- the first line of such a text
+abbrev pub first_line : List ℕ
+first_line = codes "tss live 2"
 
--- a mirror behind its head as what answers lines
-abbrev pub session_way : {W : Type 0} → Rules W → (W → List (List ℕ) → List ℕ)
-    → Answering (SessionState W)
-session_way rules lines = record {
-  led = λ s l. led_by rules s (asked_by s l);
-  told = λ s l. told_by (show_of rules lines s) s (asked_by s l);
-  is_over = λ s. s.is_over;
-  closed = λ s begun. record s { is_over = true };
-  told_at_end = λ s begun. torn_told s.line begun;
+-- a mirror of a session of this game, as what is asked
+abbrev pub session_asking : {W : Type 0} → Staging W → Asking (SessionState W)
+session_asking g = record {
+  first_line = first_line;
+  begun = λ m number.
+      if may_open m number then Ok (opening_session (g.opening m.layout) m number)
+      else Err Number;
+  terms = λ s. terms_of s;
+  asked = λ s l. without_runs (request_at (terms_of s) l);
+  played = λ s r. after_request g.rules s r;
+  answer = λ s r. answer_by g.rules g.lines s r;
 }
+
+-- a mirror without an end, and as what answers lines
+abbrev pub EndlessState : Type 0 → Type 0
+EndlessState W = AskedState (SessionState W)
+
+abbrev pub endless_way : {W : Type 0} → Staging W → Answering (EndlessState W)
+endless_way g = asked_way (session_asking g)
+
+-- what is due of the whole lines of a text, of the mirror of this number, and what was heard by then
+abbrev pub endless_due : {W : Type 0} → Staging W → ℕ → List ℕ → List ℕ
+endless_due g number bytes = asked_due (session_asking g) number bytes
+
+abbrev pub endless_heard : {W : Type 0} → Staging W → ℕ → List ℕ → Hearing (EndlessState W)
+endless_heard g number bytes = asked_heard (session_asking g) number bytes

@@ -1,21 +1,27 @@
 //! What a mirror of a session without an end does that is asked.
 
-ghost use Rattle.std.specs.Prelude.{◌≡◌, ◌≤◌, ◌++◌, length, take, OnOk};
+ghost use Rattle.std.specs.Prelude.{◌≡◌, ◌≤◌, IfOk};
+ghost use Rattle.std.specs.List.{list_all};
 ghost use Rattle.game_trait.specs.declared.limits.TheConstants.{GREATEST_NUMBER};
-ghost use Rattle.live_text.specs.Requests.{FitsTerms};
-ghost use Rattle.live_text.specs.declared.request.Request.TheVariants as requests;
-ghost use Rattle.endless_mirror.specs.Session.{terms_of, is_past, number_behind, next_behind, played};
-ghost use Rattle.endless_mirror.specs.Way.{answer_by};
+ghost use Rattle.tss_io.specs.Reading.{Answers};
+ghost use Rattle.match_data.specs.Data.{schedules};
+ghost use Rattle.endless_mirror.specs.Session.{is_past, number_behind, next_behind};
+ghost use Rattle.endless_mirror.specs.Way.{but_for_runs, lets_run, may_open};
 
 use crate::session::EndlessSession;
 use crate::show::{push_arrival, push_copy, push_end, push_remembered, push_replies};
 use command_lines::push_command;
 use game_trait::limits::GREATEST_NUMBER;
-use game_trait::{Act, Command, MirrorId, Number, Tick, Ticked, TimeBlind};
-use live_text::Request;
+use game_trait::{Act, Command, Game, MirrorId, Number, Tick, Ticked};
+use live_talk::{Asked, Begins};
+use live_text::{Request, read_request};
+use match_data::{Match, plans_of};
 use match_setup::Shown;
 use report_text::{step_line, tick_line};
+use stagger_clock::Stagger;
+use std::alloc::Global;
 use tss_base::NoMemory;
+use tss_io::{Cause, LineFault, check};
 
 // The number that follows a number: 0 behind the greatest.
 fn number_behind(number: Number) -> Number
@@ -40,22 +46,73 @@ fn next_behind(own: MirrorId, next: Number, x: &Command) -> Number
     }
 }
 
-impl<G: TimeBlind + Shown> EndlessSession<G> {
+// The request, unless it asks for a run, which isn't remembered.
+#[tactic(auto, unfolding(crate::specs::Way::but_for_runs))]
+fn but_for_runs(request: Request) -> Result<Request, Cause>
+    ensures asked { Answers (λ x. x) result (but_for_runs request) }
+    ensures same { IfOk result (λ r. r ≡ request) }
+{
+    match request {
+        Request::Run(_) => Err(Cause::Shape),
+        _ => Ok(request),
+    }
+}
+
+// Whether the window lets the last copy run.
+fn lets_run(plan: &Stagger) -> bool
+    ensures { result ≡ lets_run plan.now }
+{
+    plan.longest() + 2 <= plan.length()
+}
+
+// The same of each plan.
+fn let_run(plans: &[Stagger]) -> bool
+    ensures { result ≡ list_all lets_run plans.now }
+{
+    plans.iter().all(|plan| lets_run(plan))
+}
+
+// Whether the match has this mirror, and a window for each of its plans.
+fn may_open(alloc: Global, m: &Match, number: MirrorId) -> Result<bool, NoMemory>
+    ensures { IfOk result (λ may. may ≡ may_open m.now number) }
+{
+    let plans = plans_of(alloc, m)?;
+    let let_run = let_run(plans.as_slice());
+    Ok(number < m.mirrors && let_run)
+}
+
+impl<G: Game + Shown> EndlessSession<G> {
     // Whether the clock stands at the session's last tick.
     fn is_past(&self) -> bool
         ensures { result ≡ is_past self.now }
     {
         self.mirror.clock() == Tick::MAX
     }
+}
+
+impl<G: Begins> Asked for EndlessSession<G> {
+    ghost use Rattle.endless_mirror.specs.Way.{session_asking};
+    ghost use Rattle.live_talk.specs.Staging.{staging};
+
+    ghost asking = { session_asking (staging G.rules G.lines G.opening) };
+
+    fn is_first(line: &[u8]) -> bool {
+        line == b"tss live 2".as_slice()
+    }
+
+    fn begin(alloc: Global, m: Match, number: MirrorId) -> Result<EndlessSession<G>, LineFault> {
+        check(may_open(alloc, &m, number)?, Cause::Number)?;
+        let opening = G::at_start(&m.setup);
+        let session = EndlessSession::open(alloc, &opening, m, number)?;
+        Ok(session)
+    }
+
+    fn read(&self, line: &[u8]) -> Result<Request, Cause> {
+        but_for_runs(read_request(&self.terms(), line)?)
+    }
 
     #[tactic(auto, unfolding(crate::specs::Session::mirror_after, crate::specs::Session::next_after, crate::specs::Told::answer_text))]
-    fn play_own(&mut self, player: u8, act: Act, out: &mut Vec<u8>) -> Result<(), NoMemory>
-        requires fits { FitsTerms (terms_of self.old) (requests.Own player act) }
-        ensures state { OnOk result (self.new ≡ played G.rules self.old (requests.Own player act)) }
-        ensures told { OnOk result (out.new.items
-            ≡ out.old.items ++ answer_by G.rules G.lines self.old (requests.Own player act)) }
-        ensures front { take (length out.old.items) out.new.items ≡ out.old.items }
-    {
+    fn own(&mut self, player: u8, act: Act, out: &mut Vec<u8>) -> Result<(), NoMemory> {
         if self.is_past() {
             return tick_line(out, self.number, Ticked::Over);
         }
@@ -72,118 +129,57 @@ impl<G: TimeBlind + Shown> EndlessSession<G> {
     }
 
     #[tactic(auto, unfolding(crate::specs::Session::mirror_after, crate::specs::Session::next_after, crate::specs::Told::answer_text))]
-    fn play_cmd(&mut self, command: Command, out: &mut Vec<u8>) -> Result<(), NoMemory>
-        ensures state { OnOk result (self.new ≡ played G.rules self.old (requests.Cmd command)) }
-        ensures told { OnOk result (out.new.items
-            ≡ out.old.items ++ answer_by G.rules G.lines self.old (requests.Cmd command)) }
-        ensures front { take (length out.old.items) out.new.items ≡ out.old.items }
-    {
+    fn cmd(&mut self, command: Command, out: &mut Vec<u8>) -> Result<(), NoMemory> {
         let arrival = self.mirror.arrive(&command);
         self.next = next_behind(self.number, self.next, &command);
         push_arrival(out, self.number, &command, arrival)
     }
 
     #[tactic(auto, unfolding(crate::specs::Session::mirror_after, crate::specs::Session::next_after, crate::specs::Told::answer_text))]
-    fn play_tick(&mut self, out: &mut Vec<u8>) -> Result<(), NoMemory>
-        ensures state { OnOk result (self.new ≡ played G.rules self.old requests.Tick) }
-        ensures told { OnOk result (out.new.items
-            ≡ out.old.items ++ answer_by G.rules G.lines self.old requests.Tick) }
-        ensures front { take (length out.old.items) out.new.items ≡ out.old.items }
-    {
+    fn tick(&mut self, out: &mut Vec<u8>) -> Result<(), NoMemory> {
         let ticked = self.mirror.tick();
         tick_line(out, self.number, ticked)
     }
 
     #[tactic(auto, unfolding(crate::specs::Session::mirror_after, crate::specs::Session::next_after, crate::specs::Told::answer_text))]
-    fn play_turn(&mut self, out: &mut Vec<u8>) -> Result<(), NoMemory>
-        ensures state { OnOk result (self.new ≡ played G.rules self.old requests.Turn) }
-        ensures told { OnOk result (out.new.items
-            ≡ out.old.items ++ answer_by G.rules G.lines self.old requests.Turn) }
-        ensures front { take (length out.old.items) out.new.items ≡ out.old.items }
-    {
+    fn turn(&mut self, out: &mut Vec<u8>) -> Result<(), NoMemory> {
         let replies = self.mirror.turn();
         push_replies(out, self.number, replies.as_slice())
     }
 
     #[tactic(auto, unfolding(crate::specs::Session::mirror_after, crate::specs::Session::next_after, crate::specs::Told::answer_text, crate::specs::Told::step_told))]
-    fn play_step(&mut self, copy: u8, out: &mut Vec<u8>) -> Result<(), NoMemory>
-        requires fits { FitsTerms (terms_of self.old) (requests.Step copy) }
-        ensures state { OnOk result (self.new ≡ played G.rules self.old (requests.Step copy)) }
-        ensures told { OnOk result (out.new.items
-            ≡ out.old.items ++ answer_by G.rules G.lines self.old (requests.Step copy)) }
-        ensures front { take (length out.old.items) out.new.items ≡ out.old.items }
-    {
+    fn step(&mut self, copy: u8, out: &mut Vec<u8>) -> Result<(), NoMemory> {
         self.always();
         let stepped = self.mirror.step(copy);
         step_line(out, self.number, copy, stepped)
     }
 
     #[tactic(auto, unfolding(crate::specs::Session::mirror_after, crate::specs::Session::next_after, crate::specs::Told::answer_text))]
-    fn play_restagger(&mut self, plan: u8, out: &mut Vec<u8>) -> Result<(), NoMemory>
-        requires fits { FitsTerms (terms_of self.old) (requests.Restagger plan) }
-        ensures state { OnOk result
-            (self.new ≡ played G.rules self.old (requests.Restagger plan)) }
-        ensures told { OnOk result (out.new.items
-            ≡ out.old.items ++ answer_by G.rules G.lines self.old (requests.Restagger plan)) }
-        ensures front { take (length out.old.items) out.new.items ≡ out.old.items }
-    {
+    fn restagger(&mut self, plan: u8, out: &mut Vec<u8>) -> Result<(), NoMemory> {
         self.always();
         self.mirror.restagger(plan);
         Ok(())
     }
 
     #[tactic(auto, unfolding(crate::specs::Session::mirror_after, crate::specs::Session::next_after, crate::specs::Told::answer_text))]
-    fn play_world(&mut self, copy: u8, out: &mut Vec<u8>) -> Result<(), NoMemory>
-        requires fits { FitsTerms (terms_of self.old) (requests.World copy) }
-        ensures state { OnOk result (self.new ≡ played G.rules self.old (requests.World copy)) }
-        ensures told { OnOk result (out.new.items
-            ≡ out.old.items ++ answer_by G.rules G.lines self.old (requests.World copy)) }
-        ensures front { take (length out.old.items) out.new.items ≡ out.old.items }
-    {
+    fn world(&mut self, copy: u8, out: &mut Vec<u8>) -> Result<(), NoMemory> {
         self.always();
         push_copy(out, self.number, &self.mirror, copy, &self.roster)
     }
 
+    // No line asks it.
     #[tactic(auto, unfolding(crate::specs::Session::mirror_after, crate::specs::Session::next_after, crate::specs::Told::answer_text))]
-    fn play_commands(&mut self, out: &mut Vec<u8>) -> Result<(), NoMemory>
-        ensures state { OnOk result (self.new ≡ played G.rules self.old requests.Commands) }
-        ensures told { OnOk result (out.new.items
-            ≡ out.old.items ++ answer_by G.rules G.lines self.old requests.Commands) }
-        ensures front { take (length out.old.items) out.new.items ≡ out.old.items }
-    {
+    fn run(&mut self, _copy: u8, _out: &mut Vec<u8>) -> Result<(), NoMemory> {
+        Ok(())
+    }
+
+    #[tactic(auto, unfolding(crate::specs::Session::mirror_after, crate::specs::Session::next_after, crate::specs::Told::answer_text))]
+    fn commands(&mut self, out: &mut Vec<u8>) -> Result<(), NoMemory> {
         push_remembered(out, &self.mirror)
     }
 
     #[tactic(auto, unfolding(crate::specs::Session::mirror_after, crate::specs::Session::next_after, crate::specs::Told::answer_text))]
-    fn play_end(&mut self, out: &mut Vec<u8>) -> Result<(), NoMemory>
-        ensures state { OnOk result (self.new ≡ played G.rules self.old requests.End) }
-        ensures told { OnOk result (out.new.items
-            ≡ out.old.items ++ answer_by G.rules G.lines self.old requests.End) }
-        ensures front { take (length out.old.items) out.new.items ≡ out.old.items }
-    {
+    fn end(&mut self, out: &mut Vec<u8>) -> Result<(), NoMemory> {
         push_end(out, self.number, &self.mirror, &self.roster)
-    }
-
-    /// Does what is asked, and appends what is told of it. On `NoMemory` some may have been appended.
-    #[tactic(auto, unfolding(crate::specs::Session::mirror_after, crate::specs::Session::next_after, crate::specs::Told::answer_text))]
-    pub(crate) fn play(&mut self, request: Request, out: &mut Vec<u8>) -> Result<(), NoMemory>
-        requires fits { FitsTerms (terms_of self.old) (request) }
-        ensures state { OnOk result (self.new ≡ played G.rules self.old request) }
-        ensures told { OnOk result (out.new.items
-            ≡ out.old.items ++ answer_by G.rules G.lines self.old request) }
-        ensures front { take (length out.old.items) out.new.items ≡ out.old.items }
-    {
-        match request {
-            Request::Own { player, act } => self.play_own(player, act, out),
-            Request::Cmd(command) => self.play_cmd(command, out),
-            Request::Tick => self.play_tick(out),
-            Request::Turn => self.play_turn(out),
-            Request::Step(copy) => self.play_step(copy, out),
-            Request::Restagger(plan) => self.play_restagger(plan, out),
-            Request::World(copy) => self.play_world(copy, out),
-            Request::Run(_) => Ok(()),
-            Request::Commands => self.play_commands(out),
-            Request::End => self.play_end(out),
-        }
     }
 }

@@ -18,13 +18,13 @@ ghost use Rattle.live_text.specs.Requests.{FitsTerms};
 ghost use Rattle.live_text.specs.declared.request.Request.{Request};
 ghost use Rattle.live_text.specs.declared.request.Request.TheVariants as requests;
 ghost use Rattle.endless_mirror.specs.Session.{SessionState, terms_of, own_command, after_request};
-ghost use Rattle.endless_mirror.specs.Stands.{Stands, events_made, BringsKnown};
+ghost use Rattle.endless_mirror.specs.Stands.{Stands, events_made, BringsKnown, whole_after};
 ghost use Rattle.endless_mirror.specs.Told.{answer_text, far_line, copy_told, last_copy, remembered};
 
-use game_trait::TimeBlind;
+use game_trait::Game;
 
 /// A mirror's own command that isn't refused is never turned away: it is taken and repairs nothing.
-pub fn own_commands_are_taken<G: TimeBlind>()
+pub fn own_commands_are_taken<G: Game>()
     ensures { (s : SessionState G) (player : ℕ) (act : Act) → Stands s.mirror
         → FitsTerms (terms_of s) (requests.Own player act)
         → said_to_arrival s.mirror (own_command s player act) ≡ Taken 0 }
@@ -32,7 +32,7 @@ pub fn own_commands_are_taken<G: TimeBlind>()
 
 /// A `cmd` is answered `late` exactly where its name isn't remembered and it is older than the last
 /// copy's clock, which is its bound.
-pub fn late_exactly<G: TimeBlind>()
+pub fn late_exactly<G: Game>()
     ensures answer { (s : SessionState G) (x : Command) (bound : ℕ)
         → (said_to_arrival s.mirror x ≡ Late bound)
         ↔ ((is_repeat s.mirror.left x ≡ false) × (x.time < last_tick s.mirror)
@@ -45,7 +45,7 @@ pub fn late_exactly<G: TimeBlind>()
 
 /// A `cmd` is answered `far` exactly where its name isn't remembered, it isn't late, and it is due at the
 /// window's end or later, told in ticks of the session. Then the mirror is as before.
-pub fn far_exactly<G: TimeBlind>()
+pub fn far_exactly<G: Game>()
     ensures answer { (s : SessionState G) (x : Command) (end : ℕ)
         → (said_to_arrival s.mirror x ≡ Far end)
         ↔ ((is_repeat s.mirror.left x ≡ false) × (last_tick s.mirror ≤ x.time)
@@ -61,7 +61,7 @@ pub fn far_exactly<G: TimeBlind>()
 /// What `end` tells fits together: the world of the last copy is what comes of the world at the base
 /// where the commands that are told are executed in time order, from the base to that copy's clock. None
 /// of them is due before the base.
-pub fn the_end_tells_what_is_remembered<G: TimeBlind>()
+pub fn the_end_tells_what_is_remembered<G: Game>()
     ensures world { (lines : G → List (List ℕ) → List ℕ) (names : List (List ℕ))
         (s : SessionState G) → Stands s.mirror
         → copy_told (showing G.rules lines names) s.number s.mirror (last_copy s.mirror)
@@ -76,11 +76,20 @@ pub fn the_end_tells_what_is_remembered<G: TimeBlind>()
 /// that mirror after the events that the request is: so whatever is told of copies, worlds and clocks is
 /// what that mirror has. Commands that come again after their names were forgotten are late there too;
 /// one of a forgotten name that isn't late is left out.
-pub fn requests_are_those_of_a_whole<G: TimeBlind>()
+pub fn requests_are_those_of_a_whole<G: Game>()
     ensures { (whole : MirrorState G) (s : SessionState G) (r : Request)
         → Stands s.mirror → IsWindowOf G.rules whole s.mirror
         → whole.clock + 1 < whole.length
         → FitsTerms (terms_of s) r → BringsKnown whole s r
         → IsWindowOf G.rules (after whole (events_made (length whole.runs) s r))
         (after_request G.rules s r).mirror }
+{}
+
+/// The same of every request, whatever names its commands have: the mirror that remembers all asks of names only
+/// what is due from the base on.
+pub fn every_request_is_one_of_a_whole<G: Game>()
+    ensures { (whole : MirrorState G) (s : SessionState G) (r : Request)
+        → Stands s.mirror → IsWindowOf G.rules whole s.mirror
+        → whole.clock + 1 < whole.length → FitsTerms (terms_of s) r
+        → IsWindowOf G.rules (whole_after whole s r) (after_request G.rules s r).mirror }
 {}

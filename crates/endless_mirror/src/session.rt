@@ -4,8 +4,8 @@ ghost use Rattle.std.specs.Prelude.{◌≡◌, ◌<◌, ◌≤◌, IfOk, length}
 ghost use Rattle.endless_mirror.specs.Session.{terms_of, opening_session};
 ghost use Rattle.endless_mirror.specs.Stands.{Stands};
 
-use game_trait::{MirrorId, Number, Tick, TimeBlind};
-use live_mirror::room_of;
+use game_trait::{Game, MirrorId, Number, Tick};
+use live_talk::room_of;
 use live_text::Terms;
 use match_data::{Match, plans_of};
 use match_setup::Roster;
@@ -16,7 +16,7 @@ use tss_base::NoMemory;
 
 /// A mirror of a session without an end that is asked line by line, behind the lines of its match.
 #[derive(Drop)]
-pub struct EndlessSession<G: TimeBlind> {
+pub struct EndlessSession<G: Game> {
     pub(crate) mirror: RollingMirror<G>,
     pub(crate) roster: Roster,
     plans: u8,
@@ -24,11 +24,9 @@ pub struct EndlessSession<G: TimeBlind> {
     version: u8,
     mirrors: u8,
     pub(crate) next: Number,
-    pub(crate) line: u32,
-    pub(crate) is_over: bool,
 }
 
-impl<G: TimeBlind> Model for EndlessSession<G> {
+impl<G: Game> Model for EndlessSession<G> {
     ghost use Rattle.endless_mirror.specs.Session.{SessionState, IsSession};
 
     ghost Value = { SessionState G };
@@ -40,8 +38,6 @@ impl<G: TimeBlind> Model for EndlessSession<G> {
       version = s.version;
       mirrors = s.mirrors;
       next = s.next;
-      line = s.line;
-      is_over = s.is_over;
     } };
 
     ghost invariant = { λ s. IsSession (record {
@@ -51,23 +47,20 @@ impl<G: TimeBlind> Model for EndlessSession<G> {
       version = s.version;
       mirrors = s.mirrors;
       next = s.next;
-      line = s.line;
-      is_over = s.is_over;
     }) s.plans };
 }
 
-impl<G: TimeBlind> EndlessSession<G> {
+impl<G: Game> EndlessSession<G> {
     /// The mirror of this number, which the match has, as the session begins: its window is as long as
-    /// the match. The next line has this number.
+    /// the match.
     pub fn open(
         alloc: Global,
         opening: &G,
         m: Match,
         number: MirrorId,
-        line: u32,
     ) -> Result<EndlessSession<G>, NoMemory>
         requires { number < m.mirrors }
-        ensures { IfOk result (λ s. s ≡ opening_session opening.now m number line) }
+        ensures { IfOk result (λ s. s ≡ opening_session opening.now m number) }
     {
         let plans = plans_of(alloc, &m)?;
         let room = room_of(m.version);
@@ -81,8 +74,6 @@ impl<G: TimeBlind> EndlessSession<G> {
             mirrors: m.mirrors,
             roster: m.roster,
             next: 0,
-            line,
-            is_over: false,
         })
     }
 

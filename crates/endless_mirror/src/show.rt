@@ -9,7 +9,7 @@ ghost use Rattle.report_text.specs.Worlds.{Showing};
 ghost use Rattle.endless_mirror.specs.Told.{far_line, arrival_told, turn_reply_text, replies_told, copy_told, commands_text, base_line, base_block, log_line, last_copy, end_text};
 
 use command_lines::push_command;
-use game_trait::{Arrived, Command, MirrorId, Reply, Stepped, Tick, TimeBlind};
+use game_trait::{Arrived, Command, Game, MirrorId, Reply, Stepped, Tick};
 use match_setup::{Roster, Shown};
 use report_text::{arrival_line, copy_block, repair_line, tick_line};
 use rolling_mirror::{Arrival, RollingMirror};
@@ -82,7 +82,7 @@ pub fn push_replies(out: &mut Vec<u8>, number: MirrorId, replies: &[Reply]) -> R
 }
 
 /// Appends the block of a copy, which is there. On `NoMemory` `out` is unchanged.
-pub fn push_copy<G: TimeBlind + Shown>(
+pub fn push_copy<G: Game + Shown>(
     out: &mut Vec<u8>,
     number: MirrorId,
     mirror: &RollingMirror<G>,
@@ -118,7 +118,7 @@ fn push_later(out: &mut Vec<u8>, by: Tick, commands: &[Command]) -> Result<(), N
 }
 
 /// Appends the line of each command that is remembered. On `NoMemory` some may have been appended.
-pub fn push_remembered<G: TimeBlind>(
+pub fn push_remembered<G: Game>(
     out: &mut Vec<u8>,
     mirror: &RollingMirror<G>,
 ) -> Result<(), NoMemory>
@@ -132,7 +132,7 @@ pub fn push_remembered<G: TimeBlind>(
 // Appends the tick from which on all is told, and the block of the world there, as one of the last
 // copy. On `NoMemory` some may have been appended.
 #[tactic(auto, unfolding(tss_io::specs::Lines::spaced))]
-fn push_base<G: TimeBlind + Shown>(
+fn push_base<G: Game + Shown>(
     out: &mut Vec<u8>,
     number: MirrorId,
     mirror: &RollingMirror<G>,
@@ -160,7 +160,7 @@ fn push_base<G: TimeBlind + Shown>(
 // Appends the commands that are remembered: a line that counts them, and a line for each. On `NoMemory`
 // some may have been appended.
 #[tactic(auto, unfolding(tss_io::specs::Lines::spaced))]
-fn push_log<G: TimeBlind>(
+fn push_log<G: Game>(
     out: &mut Vec<u8>,
     number: MirrorId,
     mirror: &RollingMirror<G>,
@@ -182,7 +182,7 @@ fn push_log<G: TimeBlind>(
 
 /// Appends a mirror's lines at its end: the world at its base, the commands that are remembered, and
 /// the block of the last copy. On `NoMemory` some may have been appended.
-pub fn push_end<G: TimeBlind + Shown>(
+pub fn push_end<G: Game + Shown>(
     out: &mut Vec<u8>,
     number: MirrorId,
     mirror: &RollingMirror<G>,

@@ -15,3 +15,4 @@ mod NamesHeld
 mod BlockTrees
 mod BlockWalks
 pub mod Later
+pub mod Shifts

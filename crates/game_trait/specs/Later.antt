@@ -1,5 +1,5 @@
 -- Commands, items, events and answers whose times are told from an earlier start.
-use Rattle.std.specs.Prelude.{◌≡◌, ℕ, ◌+◌, ◌-◌, nat_le, List, map, filter}
+use Rattle.std.specs.Prelude.{ℕ, ◌+◌, ◌-◌, nat_le, List, map, filter}
 use Rattle.game_trait.specs.declared.command.Command.{Command}
 use Rattle.game_trait.specs.declared.command.Item.{Item}
 use Rattle.game_trait.specs.declared.command.Item.TheVariants.{Cmd, Beat}
@@ -9,6 +9,7 @@ use Rattle.game_trait.specs.declared.event.Reply.{Reply}
 use Rattle.game_trait.specs.declared.event.Reply.TheVariants.{Tick as ToTick, Arrive as ToArrive, Step as ToStep, Restaggered}
 use Rattle.game_trait.specs.declared.event.Arrived.TheVariants.{Taken, Repeat, Late}
 use Rattle.game_trait.specs.Game.{Rules}
+use Rattle.game_trait.specs.Run.{world_of}
 
 -- a command n ticks later, and one n ticks earlier
 abbrev pub later : ℕ → Command → Command
@@ -46,7 +47,6 @@ later_reply n (ToTick ticked) = ToTick ticked
 later_reply n (ToStep stepped) = ToStep stepped
 later_reply n Restaggered = Restaggered
 
--- no rule looks at a command's time
-abbrev pub AreTimeBlind : {W : Type 0} → Rules W → Type 0
-AreTimeBlind {W} rules =
-    (w : W) (x : Command) (t : ℕ) → rules.apply w (record x { time = t }) ≡ rules.apply w x
+-- the world after a run whose times are told from so many ticks on
+abbrev pub world_from : {W : Type 0} → Rules W → ℕ → W → List Item → W
+world_from rules n opening run = world_of rules opening (map (later_item n) run)

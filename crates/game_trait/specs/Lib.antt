@@ -10,3 +10,4 @@ pub mod CommandList
 pub mod NameTree
 pub mod BlockTree
 pub mod Later
+pub mod Shifted

@@ -2,7 +2,6 @@
 
 ghost use Rattle.std.specs.Prelude.{◌≡◌};
 ghost use Rattle.game_trait.specs.Game.{Rules};
-ghost use Rattle.game_trait.specs.Later.{AreTimeBlind};
 
 use crate::command::Command;
 
@@ -27,10 +26,4 @@ pub trait Game: Drop {
     /// An equal world.
     fn twin(&self) -> Self
         ensures { result ≡ self.now };
-}
-
-/// A game none of whose rules looks at a command's time: its worlds are the same wherever the times
-/// of its commands are told from.
-pub trait TimeBlind: Game {
-    ghost laws: { AreTimeBlind Self.rules };
 }

@@ -10,10 +10,12 @@ pub mod laws;
 pub mod limits;
 mod name_tree;
 mod order;
+mod shifted;
 
 pub use command::{Act, Command, Item, Key, MirrorId, Number, Tick, order_by_key};
 pub use command_list::CommandList;
 pub use event::{Arrived, Event, Note, Reply, Stepped, Ticked};
-pub use game::{Game, TimeBlind};
+pub use game::Game;
 pub use name_tree::NameTree;
 pub use order::execute_in_order;
+pub use shifted::Shifted;

@@ -12,7 +12,7 @@ use Rattle.sync_model.specs.Change.{next, after, turned_away}
 use Rattle.sync_model.specs.History.{HasRoom}
 use Rattle.sync_model.proofs.Cases.{tick-cases, arrive-cases, step-cases, restagger-cases, next-fixed, after-fixed}
 use Rattle.late_joiner.specs.declared.handed.Snapshot.{Snapshot}
-use Rattle.late_joiner.specs.Shifted.{ShiftedWorld, from_start}
+use Rattle.game_trait.specs.Shifted.{ShiftedWorld, from_start}
 use Rattle.late_joiner.specs.Plans.{lasting_each}
 use Rattle.late_joiner.specs.Joiner.{JoinerState, arrival_from, opened, IsInRoom}
 

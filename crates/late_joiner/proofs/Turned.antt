@@ -5,7 +5,7 @@ use Rattle.game_trait.specs.Game.{Rules}
 use Rattle.sync_model.specs.State.{MirrorState}
 use Rattle.sync_model.specs.Change.{next, after}
 use Rattle.sync_model.specs.Turns.{steps_from, turn_events, turn, is_drained, drain_within, drain_bound, drain}
-use Rattle.late_joiner.specs.Shifted.{ShiftedWorld}
+use Rattle.game_trait.specs.Shifted.{ShiftedWorld}
 use Rattle.late_joiner.specs.Joiner.{JoinerState, inner_next, joiner_next, joiner_after, IsJoined, IsInRoom}
 use Rattle.late_joiner.proofs.Joining.{keeps}
 

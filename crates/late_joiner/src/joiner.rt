@@ -11,9 +11,10 @@ ghost use Rattle.sync_model.specs.Turns.{turn_events, is_drained, drain, drain_b
 ghost use Rattle.late_joiner.specs.Joiner.{full_length, accepted_at, all_accepted, joined, told_from, joiner_next, joiner_after, FitsJoiner, world_of_run, IsShort};
 
 use crate::joined::Joined;
-use crate::shifted::Shifted;
 use arrayvec::ArrayVec;
-use game_trait::{Arrived, Command, CommandList, Event, Game, Reply, Stepped, Tick, Ticked};
+use game_trait::{
+    Arrived, Command, CommandList, Event, Game, Reply, Shifted, Stepped, Tick, Ticked,
+};
 use mirror_core::{DeferredMirror, Mirrored};
 use std::marker::Model;
 

@@ -7,7 +7,8 @@ use Rattle.tss_io.specs.Lines.{Lines, torn, line, lines_of, as_line}
 use Rattle.tss_io.proofs.Streams.{Yields-none}
 use Rattle.line_talk.specs.declared.said.Said.{Said}
 use Rattle.line_talk.specs.declared.said.Said.TheVariants.{Heard}
-use Rattle.line_talk.specs.Hearing.{Answering, Hearing, hear, told_of, IsFrontOf}
+use Rattle.game_trait.specs.Run.{IsPrefix}
+use Rattle.line_talk.specs.Hearing.{Answering, Hearing, hear, told_of}
 use Rattle.line_talk.specs.Talk.{Notes, Course, silence, course, AnswersAtOnce, Shown, TellsAll, TellsFront, IsTorn, HeardFront, IsOpening, HearsOne, dues, IsWholeTalk, IsBrokenTalk, IsUnheard, IsTalkOn}
 use Rattle.line_talk.proofs.TalkLaws.{Notes-none, course-append, at_once-append, joined}
 use Rattle.line_talk.proofs.HearingLaws.{join, lines_of-append}
@@ -83,7 +84,7 @@ pub front-broken : {S : Type 0} (a : Answering S) (h : Hearing S) (old here new 
 front-broken a h old here new front left told f =
     (record { bytes = front; talk = whole-broken (dues a h) old here new front [] (dues a h front) (front-whole a h old here front f) left told }, refl)
 
-front-of_itself : (front : List ℕ) → IsFrontOf front front
+front-of_itself : (front : List ℕ) → IsPrefix front front
 front-of_itself front = ([], sym (append-nil front))
 
 pub talk-front : {S : Type 0} (a : Answering S) (h i : Hearing S) (here new old : Shown) (front : List ℕ) → i ≡ hear a h (lines_of front) → new.left ≡ here.left
@@ -93,7 +94,7 @@ talk-front a h i here new old front led left told f =
     (record { bytes = front; talk = t.talk; passed = t.passed; counted = refl; led = led; at_once = t.at_once; all_told = t.all_told }, front-of_itself front)
 
 pub broken-front : {S : Type 0} (a : Answering S) (h : Hearing S) (here new old : Shown) (front : List ℕ) → new.left ≡ here.left → TellsFront (dues a h front) here.said new.said
-    → HeardFront old here front → (t : IsBrokenTalk a h old new) × IsFrontOf front t.bytes
+    → HeardFront old here front → (t : IsBrokenTalk a h old new) × IsPrefix front t.bytes
 broken-front a h here new old front left told f =
     let t = front-broken a h old here new front left told f in
     (t.0, ([], t.1 ∙ sym (append-nil front)))
@@ -135,17 +136,17 @@ torn-on : (bytes more l : List ℕ) → IsTorn bytes → first-line (lines_of (b
 torn-on bytes more l is first = torn-first bytes (lines_of more) l (ap (λ (ls : Lines). first-line (join ls (lines_of more))) (sym is) ∙ ap first-line (sym (lines_of-append bytes more)) ∙ first)
 
 -- a text that begins with this line begins with it
-head-first : (head bytes : List ℕ) → IsTorn head → IsFrontOf (as_line head) bytes → first-line (lines_of bytes) ≡ Some head
+head-first : (head bytes : List ℕ) → IsTorn head → IsPrefix (as_line head) bytes → first-line (lines_of bytes) ≡ Some head
 head-first head bytes one front = ap (λ (l : List ℕ). first-line (lines_of l)) front.1 ∙ line-first head front.0 one
 
-pub torn-no_head : (head bytes : List ℕ) → IsTorn head → IsTorn bytes → IsFrontOf (as_line head) bytes → ⊥
+pub torn-no_head : (head bytes : List ℕ) → IsTorn head → IsTorn bytes → IsPrefix (as_line head) bytes → ⊥
 unfolding first-line
 torn-no_head head bytes one is front =
     let none : first-line (lines_of bytes) ≡ None = ap first-line is in
     let some = head-first head bytes one front in
     absurd cc
 
-pub front-is_head : (head front bytes : List ℕ) → IsTorn head → length head ≤ LONGEST_LINE → IsOpening front → IsFrontOf front bytes → IsFrontOf (as_line head) bytes → front ≡ as_line head
+pub front-is_head : (head front bytes : List ℕ) → IsTorn head → length head ≤ LONGEST_LINE → IsOpening front → IsPrefix front bytes → IsPrefix (as_line head) bytes → front ≡ as_line head
 front-is_head head front bytes one short (inl opening) is begins =
     let there = ap (λ (l : List ℕ). first-line (lines_of l)) (is.1 ∙ ap (λ (l : List ℕ). l ++ is.0) opening.1) ∙ line-first opening.0 is.0 opening.2 in
     let same : opening.0 ≡ head = some-same (sym there ∙ head-first head bytes one begins) in

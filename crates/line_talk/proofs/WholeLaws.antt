@@ -6,8 +6,9 @@ use Rattle.tss_io.specs.Lines.{lines_of}
 use Rattle.tss_io.specs.Streams.{Yields}
 use Rattle.line_talk.specs.declared.said.Said.{Said}
 use Rattle.line_talk.specs.declared.said.Said.TheVariants.{Heard}
-use Rattle.line_talk.specs.Hearing.{Answering, Hearing, hear, close, told_at_close, IsFrontOf}
-use Rattle.line_talk.specs.Talk.{Notes, Course, silence, course, AnswersAtOnce, Shown, TellsAll, TellsFront, dues, IsTalk, IsTalkOn, IsBrokenTalk, IsWholeTalk, IsFrontOfTalk, IsAnswered, IsPast, at_end, past, IsBrokenWhole, IsUnheard, HearsOne}
+use Rattle.game_trait.specs.Run.{IsPrefix}
+use Rattle.line_talk.specs.Hearing.{Answering, Hearing, hear, close, told_at_close}
+use Rattle.line_talk.specs.Talk.{Notes, Course, silence, course, AnswersAtOnce, Shown, TellsAll, TellsFront, dues, IsTalk, IsTalkOn, IsBrokenTalk, IsWholeTalk, IsPrefixTalk, IsAnswered, IsPast, at_end, past, IsBrokenWhole, IsUnheard, HearsOne}
 use Rattle.line_talk.proofs.TalkLaws.{course-append, at_once-append, joined, told_on, front-longer}
 
 -- where two facts hold on Ok, what follows from them holds of what is there
@@ -40,7 +41,7 @@ whole-told due old mid new bytes text more t left told = record {
 
 -- or so much of it
 pub whole-broken : (due : List ℕ → List ℕ) (old mid new : Shown) (bytes text more : List ℕ) → IsWholeTalk due old mid bytes text → new.left ≡ mid.left
-    → TellsFront more mid.said new.said → IsFrontOfTalk due old new bytes (text ++ more)
+    → TellsFront more mid.said new.said → IsPrefixTalk due old new bytes (text ++ more)
 whole-broken due old mid new bytes text more t left told = record {
   talk = t.talk ++ told.talk;
   passed = told_on old mid new bytes t.talk told.talk t.passed left told.said;
@@ -75,7 +76,7 @@ whole-heard_none due old mid new bytes more t yields said none =
     subst (λ (l : List ℕ). IsWholeTalk due old new l (due bytes)) (ap (λ (l : List ℕ). bytes ++ l) none ∙ append-nil bytes) (whole-heard due old mid new bytes more t yields said)
 
 -- a whole talk is a front of one of which more is due
-pub whole-front : (due : List ℕ → List ℕ) (old new : Shown) (bytes text more : List ℕ) → IsWholeTalk due old new bytes text → IsFrontOfTalk due old new bytes (text ++ more)
+pub whole-front : (due : List ℕ → List ℕ) (old new : Shown) (bytes text more : List ℕ) → IsWholeTalk due old new bytes text → IsPrefixTalk due old new bytes (text ++ more)
 whole-front due old new bytes text more t = record {
   talk = t.talk;
   passed = t.passed;
@@ -98,7 +99,7 @@ close-over a h over = rw over (refl, refl)
 
 -- no further line is taken
 pub answered-over : {S : Type 0} (front : List ℕ) (a : Answering S) (h i : Hearing S) (old new : Shown) (limit : ℕ) → (n : ℕ) × (n ≤ limit) × IsTalkOn front a h i old new n → a.is_over i.state ≡ true
-    → (t : IsAnswered a h i old new limit) × IsFrontOf front t.bytes
+    → (t : IsAnswered a h i old new limit) × IsPrefix front t.bytes
 answered-over {S = S} front a h i old new limit t over =
     let here = t.2.0 in
     let bytes = here.bytes in
@@ -139,26 +140,26 @@ broken-end {S = S} a h i old mid new limit too_long bytes led t left told = (
     bytes = bytes;
     text = dues a h bytes ++ told_at_close a (hear a h (lines_of bytes));
     due = at_end refl;
-    talk = subst (λ (k : Hearing S). IsFrontOfTalk (dues a h) old new bytes (dues a h bytes ++ told_at_close a k)) led
+    talk = subst (λ (k : Hearing S). IsPrefixTalk (dues a h) old new bytes (dues a h bytes ++ told_at_close a k)) led
         (whole-broken (dues a h) old mid new bytes (dues a h bytes) (told_at_close a i) t left told);
   },
   refl,
 )
 
 -- what holds of the bytes that were heard
-behind : {T : Type 0} (bytes_of : T → List ℕ) (front bytes : List ℕ) → IsFrontOf front bytes → (t : T) × (bytes_of t ≡ bytes) → (t : T) × IsFrontOf front (bytes_of t)
+behind : {T : Type 0} (bytes_of : T → List ℕ) (front bytes : List ℕ) → IsPrefix front bytes → (t : T) × (bytes_of t ≡ bytes) → (t : T) × IsPrefix front (bytes_of t)
 behind bytes_of front bytes f t = (t.0, (f.0, t.1 ∙ f.1))
 
 pub answered-ended : {S : Type 0} (front : List ℕ) (a : Answering S) (h i j : Hearing S) (old mid new : Shown) (limit : ℕ) → (n : ℕ) × (n ≤ limit) × IsTalkOn front a h i old mid n
     → IfSome mid.left (λ rest. rest ≡ []) → new.left ≡ mid.left → j ≡ close a i → (talk : List Said) × Notes mid.said talk new.said × TellsAll (told_at_close a i) talk
-    → (t : IsAnswered a h j old new limit) × IsFrontOf front t.bytes
+    → (t : IsAnswered a h j old new limit) × IsPrefix front t.bytes
 answered-ended front a h i j old mid new limit t none left shut told =
     let here = t.2.0 in
     behind (λ (u : IsAnswered a h j old new limit). u.bytes) front here.bytes t.2.1
     (answered-end a h i j old mid new limit here.bytes (omega (arith, t.1, here.counted)) here.led (talk-whole a h i old mid t.0 here) none left shut told)
 
 pub broken-ended : {S : Type 0} (front : List ℕ) (a : Answering S) (h i : Hearing S) (old mid new : Shown) (limit : ℕ) (too_long : List ℕ) → (n : ℕ) × (n ≤ limit) × IsTalkOn front a h i old mid n
-    → new.left ≡ mid.left → TellsFront (told_at_close a i) mid.said new.said → (t : IsBrokenWhole a h old new limit too_long) × IsFrontOf front t.bytes
+    → new.left ≡ mid.left → TellsFront (told_at_close a i) mid.said new.said → (t : IsBrokenWhole a h old new limit too_long) × IsPrefix front t.bytes
 broken-ended front a h i old mid new limit too_long t left told =
     let here = t.2.0 in
     behind (λ (u : IsBrokenWhole a h old new limit too_long). u.bytes) front here.bytes t.2.1
@@ -174,7 +175,7 @@ still-whole a h i old mid new n one t more none =
 
 pub answered-full : {S : Type 0} (front : List ℕ) (a : Answering S) (h i j : Hearing S) (old mid next new : Shown) (limit : ℕ) (one : Option ℕ) → (n : ℕ) × (n ≡ limit) × IsTalkOn front a h i old mid n
     → HearsOne mid next one → one ≡ None → IfSome next.left (λ rest. rest ≡ []) → new.left ≡ next.left → j ≡ close a i
-    → (talk : List Said) × Notes next.said talk new.said × TellsAll (told_at_close a i) talk → (t : IsAnswered a h j old new limit) × IsFrontOf front t.bytes
+    → (talk : List Said) × Notes next.said talk new.said × TellsAll (told_at_close a i) talk → (t : IsAnswered a h j old new limit) × IsPrefix front t.bytes
 answered-full front a h i j old mid next new limit one t more none_more none left shut told =
     let here = t.2.0 in
     behind (λ (u : IsAnswered a h j old new limit). u.bytes) front here.bytes t.2.1
@@ -182,7 +183,7 @@ answered-full front a h i j old mid next new limit one t more none_more none lef
 
 pub broken-full : {S : Type 0} (front : List ℕ) (a : Answering S) (h i : Hearing S) (old mid next new : Shown) (limit : ℕ) (one : Option ℕ) (too_long : List ℕ)
     → (n : ℕ) × (n ≡ limit) × IsTalkOn front a h i old mid n → HearsOne mid next one → one ≡ None → new.left ≡ next.left → TellsFront (told_at_close a i) next.said new.said
-    → (t : IsBrokenWhole a h old new limit too_long) × IsFrontOf front t.bytes
+    → (t : IsBrokenWhole a h old new limit too_long) × IsPrefix front t.bytes
 broken-full front a h i old mid next new limit one too_long t more none_more left told =
     let here = t.2.0 in
     behind (λ (u : IsBrokenWhole a h old new limit too_long). u.bytes) front here.bytes t.2.1
@@ -201,7 +202,7 @@ some-one one b some = ap (λ (o : Option ℕ). length (option_to_list o)) some
 
 pub past-told : {S : Type 0} (front : List ℕ) (a : Answering S) (h i : Hearing S) (old mid next new : Shown) (limit : ℕ) (one : Option ℕ) (b : ℕ) (too_long : List ℕ)
     → (n : ℕ) × (n ≡ limit) × IsTalkOn front a h i old mid n → a.is_over i.state ≡ false → HearsOne mid next one → one ≡ Some b → new.left ≡ next.left
-    → (talk : List Said) × Notes next.said talk new.said × TellsAll too_long talk → (t : IsPast a h old new limit too_long) × IsFrontOf front (t.front ++ t.one)
+    → (talk : List Said) × Notes next.said talk new.said × TellsAll too_long talk → (t : IsPast a h old new limit too_long) × IsPrefix front (t.front ++ t.one)
 past-told front a h i old mid next new limit one b too_long t goes more some left told =
     let here = t.2.0 in (
       record {
@@ -217,7 +218,7 @@ past-told front a h i old mid next new limit one b too_long t goes more some lef
 
 pub broken-past : {S : Type 0} (front : List ℕ) (a : Answering S) (h i : Hearing S) (old mid next new : Shown) (limit : ℕ) (one : Option ℕ) (b : ℕ) (too_long : List ℕ)
     → (n : ℕ) × (n ≡ limit) × IsTalkOn front a h i old mid n → a.is_over i.state ≡ false → HearsOne mid next one → one ≡ Some b → new.left ≡ next.left
-    → TellsFront too_long next.said new.said → (t : IsBrokenWhole a h old new limit too_long) × IsFrontOf front t.bytes
+    → TellsFront too_long next.said new.said → (t : IsBrokenWhole a h old new limit too_long) × IsPrefix front t.bytes
 broken-past front a h i old mid next new limit one b too_long t goes more some left told =
     let here = t.2.0 in (
       record {
@@ -231,17 +232,17 @@ broken-past front a h i old mid next new limit one b too_long t goes more some l
 
 -- ---- a talk that is broken off
 
-pub unheard-talk : {S : Type 0} (front : List ℕ) (a : Answering S) (h i : Hearing S) (old new : Shown) → (n : ℕ) × IsTalkOn front a h i old new n → (t : IsUnheard a h old new) × IsFrontOf front t.bytes
+pub unheard-talk : {S : Type 0} (front : List ℕ) (a : Answering S) (h i : Hearing S) (old new : Shown) → (n : ℕ) × IsTalkOn front a h i old new n → (t : IsUnheard a h old new) × IsPrefix front t.bytes
 unheard-talk front a h i old new t = (record { bytes = t.1.0.bytes; talk = talk-whole a h i old new t.0 t.1.0 }, t.1.1)
 
 pub unheard-full : {S : Type 0} (front : List ℕ) (a : Answering S) (h i : Hearing S) (old mid new : Shown) (limit : ℕ) → (n : ℕ) × (n ≡ limit) × IsTalkOn front a h i old mid n → new.left ≡ mid.left
-    → new.said ≡ mid.said → (t : IsUnheard a h old new) × IsFrontOf front t.bytes
+    → new.said ≡ mid.said → (t : IsUnheard a h old new) × IsPrefix front t.bytes
 unheard-full front a h i old mid new limit t left said =
     let here = t.2.0 in
     (record { bytes = here.bytes; talk = whole-still (dues a h) old mid new here.bytes (dues a h here.bytes) (talk-whole a h i old mid t.0 here) left said }, t.2.1)
 
-pub broken-unheard : {S : Type 0} (front : List ℕ) (a : Answering S) (h : Hearing S) (old new : Shown) (limit : ℕ) (too_long : List ℕ) → (t : IsUnheard a h old new) × IsFrontOf front t.bytes
-    → (t : IsBrokenWhole a h old new limit too_long) × IsFrontOf front t.bytes
+pub broken-unheard : {S : Type 0} (front : List ℕ) (a : Answering S) (h : Hearing S) (old new : Shown) (limit : ℕ) (too_long : List ℕ) → (t : IsUnheard a h old new) × IsPrefix front t.bytes
+    → (t : IsBrokenWhole a h old new limit too_long) × IsPrefix front t.bytes
 broken-unheard front a h old new limit too_long u =
     let t = u.0 in (
       record {
@@ -274,8 +275,8 @@ broken-talk a h old new limit too_long bytes t same =
       same,
     )
 
-pub broken-talk_on : {S : Type 0} (front : List ℕ) (a : Answering S) (h : Hearing S) (old new : Shown) (limit : ℕ) (too_long : List ℕ) → (t : IsBrokenTalk a h old new) × IsFrontOf front t.bytes
-    → (u : IsBrokenWhole a h old new limit too_long) × IsFrontOf front u.bytes
+pub broken-talk_on : {S : Type 0} (front : List ℕ) (a : Answering S) (h : Hearing S) (old new : Shown) (limit : ℕ) (too_long : List ℕ) → (t : IsBrokenTalk a h old new) × IsPrefix front t.bytes
+    → (u : IsBrokenWhole a h old new limit too_long) × IsPrefix front u.bytes
 broken-talk_on front a h old new limit too_long t =
     behind (λ (u : IsBrokenWhole a h old new limit too_long). u.bytes) front t.0.bytes t.1 (broken-talk a h old new limit too_long t.0.bytes t.0 refl)
 

@@ -3,7 +3,8 @@
 ghost use Rattle.std.specs.Prelude.{◌≡◌, ◌≤◌, ◌<◌, ◌++◌, List, ℕ, [], length, IfOk, IfErr, IfSome, OnOk, OnErr, IsErrOf};
 ghost use Rattle.tss_io.specs.Lines.{lines_of};
 ghost use Rattle.tss_io.specs.Streams.{Rose};
-ghost use Rattle.line_talk.specs.Hearing.{hear, close, told_at_close, IsFrontOf};
+ghost use Rattle.game_trait.specs.Run.{IsPrefix};
+ghost use Rattle.line_talk.specs.Hearing.{hear, close, told_at_close};
 ghost use Rattle.line_talk.specs.declared.said.Said.{Said};
 ghost use Rattle.line_talk.specs.Talk.{Notes, TellsAll, TellsFront, dues, shown, Behind, IsAnswered, IsPast, IsBrokenWhole, IsUnheard};
 
@@ -92,18 +93,18 @@ pub fn talk_whole<A: Answerer, P: Peer>(
     ensures answered { IfOk result (λ end. end ≡ WholeEnd.Answered
         → Behind front.now (shown P.left P.said peer.old) (λ old.
         (t : IsAnswered A.way ear.old ear.new old (shown P.left P.said peer.new) limit)
-        × IsFrontOf front.now t.bytes)) }
+        × IsPrefix front.now t.bytes)) }
     ensures past { IfOk result (λ end. end ≡ WholeEnd.TooLong
         → Behind front.now (shown P.left P.said peer.old) (λ old.
         (t : IsPast A.way ear.old old (shown P.left P.said peer.new) limit too_long.now)
-        × IsFrontOf front.now (t.front ++ t.one))) }
+        × IsPrefix front.now (t.front ++ t.one))) }
     ensures broken { OnErr result (Behind front.now (shown P.left P.said peer.old) (λ old.
         (t : IsBrokenWhole A.way ear.old old (shown P.left P.said peer.new) limit too_long.now)
-        × IsFrontOf front.now t.bytes)) }
+        × IsPrefix front.now t.bytes)) }
     ensures unheard { IfErr result (λ fault. fault ≡ TalkFault.NotHeard
         → Behind front.now (shown P.left P.said peer.old) (λ old.
         (t : IsUnheard A.way ear.old old (shown P.left P.said peer.new))
-        × IsFrontOf front.now t.bytes)) }
+        × IsPrefix front.now t.bytes)) }
     ensures steady { OnOk result (P.faults peer.new ≡ P.faults peer.old) }
     ensures not_heard { IsErrOf result TalkFault.NotHeard
         → Rose (P.faults peer.old) (P.faults peer.new) }

@@ -8,7 +8,7 @@ use Rattle.game_trait.specs.declared.command.Command.{Command}
 use Rattle.game_trait.specs.declared.event.Event.{Event}
 use Rattle.game_trait.specs.declared.event.Event.TheVariants as events
 use Rattle.game_trait.specs.declared.limits.TheConstants.{GREATEST_NUMBER}
-use Rattle.arena_rules.specs.World.{World, opening_world}
+use Rattle.match_setup.specs.Setup.{Layout}
 use Rattle.game_trait.specs.Acts.{has_act}
 use Rattle.sync_model.specs.History.{changing}
 use Rattle.sync_model.specs.Turns.{turn_events, turns_of}
@@ -26,28 +26,28 @@ use Rattle.live_mirror.proofs.Made.{IsTurning, turn-turning, turns-turning, is-m
 
 -- ---- the mirror is one of its match's setup
 
-pub of_setup : (number : ℕ) (s : SessionState World) (is : IsLed number s) → IsOfSetup is.game s
-of_setup number s is =
-    let kept = session_kept is.asked (begun is.game number is.line) in
-    let parts = same-parts (opening_world is.game.layout) is.game number is.line is.asked is.is_match is.fit in
+pub of_setup : {W : Type 0} (start : Layout → W) (number : ℕ) (s : SessionState W) (is : IsLed start number s) → IsOfSetup start is.game s
+of_setup {W} start number s is =
+    let kept = session_kept is.asked (begun start is.game number) in
+    let parts = same-parts (start is.game.layout) is.game number is.asked is.is_match is.fit in
     record {
-      version = ap (λ (u : SessionState World). u.version) is.led ∙ kept.version;
-      mirrors = ap (λ (u : SessionState World). u.mirrors) is.led ∙ kept.mirrors;
-      names = ap (λ (u : SessionState World). u.names) is.led ∙ kept.names;
-      opening = ap (λ (u : SessionState World). u.mirror.opening) is.led ∙ parts.opening;
-      length = ap (λ (u : SessionState World). u.mirror.length) is.led ∙ parts.length;
-      plans = ap (λ (u : SessionState World). u.mirror.plans) is.led ∙ parts.plans;
+      version = ap (λ (u : SessionState W). u.version) is.led ∙ kept.version;
+      mirrors = ap (λ (u : SessionState W). u.mirrors) is.led ∙ kept.mirrors;
+      names = ap (λ (u : SessionState W). u.names) is.led ∙ kept.names;
+      opening = ap (λ (u : SessionState W). u.mirror.opening) is.led ∙ parts.opening;
+      length = ap (λ (u : SessionState W). u.mirror.length) is.led ∙ parts.length;
+      plans = ap (λ (u : SessionState W). u.mirror.plans) is.led ∙ parts.plans;
     }
 
-pub of_number : (number : ℕ) (s : SessionState World) → IsLed number s → s.number ≡ number
-of_number number s is = ap (λ (u : SessionState World). u.number) is.led ∙ (session_kept is.asked (begun is.game number is.line)).number
+pub of_number : {W : Type 0} (start : Layout → W) (number : ℕ) (s : SessionState W) → IsLed start number s → s.number ≡ number
+of_number {W} start number s is = ap (λ (u : SessionState W). u.number) is.led ∙ (session_kept is.asked (begun start is.game number)).number
 
-pub are_terms : (number : ℕ) (s : SessionState World) → IsLed number s → AreTerms (terms_of s)
-are_terms number s is =
-    let of = of_setup number s is in
+pub are_terms : {W : Type 0} (start : Layout → W) (number : ℕ) (s : SessionState W) → IsLed start number s → AreTerms (terms_of s)
+are_terms {W} start number s is =
+    let of = of_setup start number s is in
     let game = is.is_match in
     let copies : length s.mirror.runs ≡ length is.game.delays =
-    ap (λ (u : SessionState World). length u.mirror.runs) is.led ∙ copies-are (opening_world is.game.layout) is.game number is.line is.asked is.is_match is.fit in
+    ap (λ (u : SessionState W). length u.mirror.runs) is.led ∙ copies-are (start is.game.layout) is.game number is.asked is.is_match is.fit in
     record {
       length = omega (arith, of.length, game.ticks.1);
       mirrors = omega (arith, of.mirrors, game.mirrors.1);
@@ -64,8 +64,8 @@ turning-of m copies (events.Step c ∷ es) h = (tt, turning-of m copies es h.1)
 turning-of m copies (events.Arrive x ∷ es) h = absurd h.0
 turning-of m copies (events.Restagger p ∷ es) h = absurd h.0
 
-cmd-of : (m : MatchData) (s : SessionState World) (x : Command) → IsMatch m → IsOfSetup m s → MayAsk (terms_of s) (Cmd x) → IsCommand m x
-cmd-of m s x is of may =
+cmd-of : {W : Type 0} (start : Layout → W) (m : MatchData) (s : SessionState W) (x : Command) → IsMatch m → IsOfSetup start m s → MayAsk (terms_of s) (Cmd x) → IsCommand m x
+cmd-of start m s x is of may =
     let fits = may.1 in
     record {
       time = omega (arith, fits.0.1, of.length, is.ticks.0);
@@ -76,10 +76,10 @@ cmd-of m s x is of may =
     }
 
 own-of :
-    (m : MatchData) (s : SessionState World) (player : ℕ) (act : Act) (es : List Event) (past : Bool) → is_past s ≡ past → IsOfSetup m s → s.number < m.mirrors
+    {W : Type 0} (start : Layout → W) (m : MatchData) (s : SessionState W) (player : ℕ) (act : Act) (es : List Event) (past : Bool) → is_past s ≡ past → IsOfSetup start m s → s.number < m.mirrors
     → MayAsk (terms_of s) (Own player act) → es ≡ cond past [] (events.Arrive (own_command s player act) ∷ []) → AllByRecursion (IsOfMatch m) es
-own-of m s player act es true e of there may same = subst (AllByRecursion (IsOfMatch m)) (sym same) tt
-own-of m s player act es false e of there may same =
+own-of start m s player act es true e of there may same = subst (AllByRecursion (IsOfMatch m)) (sym same) tt
+own-of start m s player act es false e of there may same =
     let x : IsCommand m (own_command s player act) = record {
       time = omega (arith, leb-false s.mirror.length s.mirror.clock e, of.length);
       from = there;
@@ -89,25 +89,25 @@ own-of m s player act es false e of there may same =
     } in
     subst (AllByRecursion (IsOfMatch m)) (sym same) (x, tt)
 
-made-of : (m : MatchData) (s : SessionState World) (r : Request) (es : List Event) → IsMatch m → IsOfSetup m s → s.number < m.mirrors → MayAsk (terms_of s) r → Makes s r es
+made-of : {W : Type 0} (start : Layout → W) (m : MatchData) (s : SessionState W) (r : Request) (es : List Event) → IsMatch m → IsOfSetup start m s → s.number < m.mirrors → MayAsk (terms_of s) r → Makes s r es
     → AllByRecursion (IsOfMatch m) es
-made-of m s (Own player act) es is of there may makes = own-of m s player act es (is_past s) refl of there may makes
-made-of m s (Cmd x) es is of there may makes = subst (AllByRecursion (IsOfMatch m)) (sym makes) (cmd-of m s x is of may, tt)
-made-of m s Tick es is of there may makes = subst (AllByRecursion (IsOfMatch m)) (sym makes) (tt, tt)
-made-of m s Turn es is of there may makes =
+made-of start m s (Own player act) es is of there may makes = own-of start m s player act es (is_past s) refl of there may makes
+made-of start m s (Cmd x) es is of there may makes = subst (AllByRecursion (IsOfMatch m)) (sym makes) (cmd-of start m s x is of may, tt)
+made-of start m s Tick es is of there may makes = subst (AllByRecursion (IsOfMatch m)) (sym makes) (tt, tt)
+made-of start m s Turn es is of there may makes =
     subst (AllByRecursion (IsOfMatch m)) (sym makes) (turning-of m (length s.mirror.runs) (turn_events (length s.mirror.runs)) (turn-turning (length s.mirror.runs)))
-made-of m s (Step copy) es is of there may makes = subst (AllByRecursion (IsOfMatch m)) (sym makes) (tt, tt)
-made-of m s (Restagger plan) es is of there may makes = subst (AllByRecursion (IsOfMatch m)) (sym makes) (tt, tt)
-made-of m s (AskWorld copy) es is of there may makes = subst (AllByRecursion (IsOfMatch m)) (sym makes) tt
-made-of m s (Run copy) es is of there may makes = subst (AllByRecursion (IsOfMatch m)) (sym makes) tt
-made-of m s Commands es is of there may makes = subst (AllByRecursion (IsOfMatch m)) (sym makes) tt
-made-of m s End es is of there may makes =
+made-of start m s (Step copy) es is of there may makes = subst (AllByRecursion (IsOfMatch m)) (sym makes) (tt, tt)
+made-of start m s (Restagger plan) es is of there may makes = subst (AllByRecursion (IsOfMatch m)) (sym makes) (tt, tt)
+made-of start m s (AskWorld copy) es is of there may makes = subst (AllByRecursion (IsOfMatch m)) (sym makes) tt
+made-of start m s (Run copy) es is of there may makes = subst (AllByRecursion (IsOfMatch m)) (sym makes) tt
+made-of start m s Commands es is of there may makes = subst (AllByRecursion (IsOfMatch m)) (sym makes) tt
+made-of start m s End es is of there may makes =
     subst (AllByRecursion (IsOfMatch m)) (sym makes.1) (turning-of m (length s.mirror.runs) (turns_of (length s.mirror.runs) makes.0) (turns-turning (length s.mirror.runs) makes.0))
 
-pub arrived-next : (number : ℕ) (s : SessionState World) (r : Request) (is : IsLed number s) → MayAsk (terms_of s) r → AllByRecursion (IsOfMatch is.game) (after_request s r).mirror.history
-arrived-next number s r is may =
+pub arrived-next : {W : Type 0} (start : Layout → W) (number : ℕ) (s : SessionState W) (r : Request) (is : IsLed start number s) → MayAsk (terms_of s) r → AllByRecursion (IsOfMatch is.game) (after_request s r).mirror.history
+arrived-next start number s r is may =
     let made = is-made s r in
-    let there : s.number < is.game.mirrors = omega (arith, of_number number s is, is.there) in
-    let new = made-of is.game s r made.0 is.is_match (of_setup number s is) there may made.1.makes in
+    let there : s.number < is.game.mirrors = omega (arith, of_number start number s is, is.there) in
+    let new = made-of start is.game s r made.0 is.is_match (of_setup start number s is) there may made.1.makes in
     subst (AllByRecursion (IsOfMatch is.game)) (sym made.1.history)
     (all-append (IsOfMatch is.game) s.mirror.history (changing s.mirror made.0) is.arrived (all-changing (IsOfMatch is.game) s.mirror made.0 new))

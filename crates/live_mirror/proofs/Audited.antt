@@ -64,13 +64,13 @@ named-of commands s (events.Arrive x ∷ es) fits among = (among.0, named-of com
 named-of commands s (events.Step c ∷ es) fits among = (fits.0, named-of commands s es fits.1 among.1)
 named-of commands s (events.Restagger p ∷ es) fits among = (fits.0, named-of commands s es fits.1 among.1)
 
-pub audited : {W : Type 0} (opening : W) (m : MatchData) (number line : ℕ) (rs : List Request) (commands : List Command) → IsMatch m → FitAlong (opening_session opening m number line) rs
-    → AllByRecursion (IsAmong commands) (after_requests (opening_session opening m number line) rs).mirror.history
-    → IsLegal commands (audited_from opening m) (after_requests (opening_session opening m number line) rs).mirror.history
-    × (without_room (after (audited_from opening m) (after_requests (opening_session opening m number line) rs).mirror.history)
-    ≡ without_room (after_requests (opening_session opening m number line) rs).mirror)
-audited {W} opening m number line rs commands is fit among =
-    let start = opening_session opening m number line in
+pub audited : {W : Type 0} (opening : W) (m : MatchData) (number : ℕ) (rs : List Request) (commands : List Command) → IsMatch m → FitAlong (opening_session opening m number) rs
+    → AllByRecursion (IsAmong commands) (after_requests (opening_session opening m number) rs).mirror.history
+    → IsLegal commands (audited_from opening m) (after_requests (opening_session opening m number) rs).mirror.history
+    × (without_room (after (audited_from opening m) (after_requests (opening_session opening m number) rs).mirror.history)
+    ≡ without_room (after_requests (opening_session opening m number) rs).mirror)
+audited {W} opening m number rs commands is fit among =
+    let start = opening_session opening m number in
     let first = start.mirror in
     let ended = (after_requests start rs).mirror in
     let es = are-made rs start in

@@ -70,15 +70,15 @@ few-commands version = elim (version == 1) as (λ v. (if v then MOST_COMMANDS_IN
   | false ↦ omega arith
 ]
 
-opening-spent : {W : Type 0} (opening : W) (m : MatchData) (number line : ℕ) → HasSpent (most_commands m.version) 1024 (opening_session opening m number line).mirror
+opening-spent : {W : Type 0} (opening : W) (m : MatchData) (number : ℕ) → HasSpent (most_commands m.version) 1024 (opening_session opening m number).mirror
 unfolding times
-opening-spent opening m number line = (omega arith, omega arith)
+opening-spent opening m number = (omega arith, omega arith)
 
 module _
-    {W : Type 0} (opening : W) (m : MatchData) (number line : ℕ) (rs : List Request) (is : IsMatch m)
-    (fit : FitAlong (opening_session opening m number line) rs) where
+    {W : Type 0} (opening : W) (m : MatchData) (number : ℕ) (rs : List Request) (is : IsMatch m)
+    (fit : FitAlong (opening_session opening m number) rs) where
   abbrev start : SessionState W
-  start = opening_session opening m number line
+  start = opening_session opening m number
 
   begun : IsConsistent start.mirror
   begun = opening-consistent opening m start.mirror.spare start.mirror.plan_spare is
@@ -100,5 +100,5 @@ module _
   pub few-events : length (after_requests start rs).mirror.history ≤ MOST_LOGGED_EVENTS
   few-events =
       let most = history-most m (after_requests start rs).mirror is same-parts.length same-parts.plans copies-are counted (requests-keep rs start begun fit).staggered in
-      let spent = spent-requests (most_commands m.version) 1024 rs start begun fit (opening-spent opening m number line) in
+      let spent = spent-requests (most_commands m.version) 1024 rs start begun fit (opening-spent opening m number) in
       omega (arith, most, spent.0, spent.1, few-commands m.version)

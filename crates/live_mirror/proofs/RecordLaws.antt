@@ -107,14 +107,14 @@ end_right : {W : Type 0} (show : Showing W) (opening : W) (m : MatchData) (comma
     → IsMatch (with_commands m commands) → IsEnd opening m commands n s → IsRightEnd show opening (with_commands m commands) n s
 end_right {W} show opening m commands n s is end =
     let rs = end.asked ++ requests.End ∷ [] in
-    let ended = after_requests (opening_session opening m n end.line) rs in
+    let ended = after_requests (opening_session opening m n) rs in
     let among = subst (λ (t : SessionState W). AllByRecursion (IsAmong commands) t.mirror.history) end.ended end.among in
-    let found = audited opening (with_commands m commands) n end.line rs commands is end.fit among in
+    let found = audited opening (with_commands m commands) n rs commands is end.fit among in
     let begun = start opening (with_commands m commands) in
     let walked = after begun ended.mirror.history in
     let blocks : EachNumbered (IsStated show n walked) 0 (each_block show n ended.mirror.opening 0 ended.mirror.runs) =
     blocks_stated show n walked ended.mirror.opening [] ended.mirror.runs 0 (ap (λ (t : MirrorState W). t.opening) found.1) (ap (λ (t : MirrorState W). t.runs) found.1) refl in
-    let numbered = (session_kept rs (opening_session opening m n end.line)).number in
+    let numbered = (session_kept rs (opening_session opening m n)).number in
     let right : IsRightEnd show opening (with_commands m commands) n ended = record {
       legal = found.0;
       worlds = subst (λ (number : ℕ). EachNumbered (IsStated show n walked) 0 (each_block show number ended.mirror.opening 0 ended.mirror.runs)) (sym numbered) blocks;

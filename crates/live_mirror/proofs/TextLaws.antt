@@ -32,13 +32,13 @@ blocks_count show number opening copy (run ∷ runs) = omega (arith, blocks_coun
 end_sized : {W : Type 0} (show : Showing W) (opening : W) (m : MatchData) (commands : List Command) (n : ℕ) (s : SessionState W)
     → IsMatch m → IsEnd opening m commands n s → IsSized (with_commands m commands) n (log_of s) (worlds_of show s)
 end_sized {W} show opening m commands n s is end =
-    let start = opening_session opening m n end.line in
+    let start = opening_session opening m n in
     let rs = end.asked ++ requests.End ∷ [] in
     let t = after_requests start rs in
     let sized : IsSized (with_commands m commands) n (log_of t) (worlds_of show t) = record {
       mirror = (session_kept rs start).number;
-      few = few-events opening m n end.line rs is end.fit;
-      copies = blocks_count show t.number t.mirror.opening 0 t.mirror.runs ∙ copies-are opening m n end.line rs is end.fit;
+      few = few-events opening m n rs is end.fit;
+      copies = blocks_count show t.number t.mirror.opening 0 t.mirror.runs ∙ copies-are opening m n rs is end.fit;
     } in
     subst (λ (u : SessionState W). IsSized (with_commands m commands) n (log_of u) (worlds_of show u)) (sym end.ended) sized
 
@@ -48,7 +48,7 @@ unfolding AreEnds AreSized
 ends_sized show opening m commands n [] is each = tt
 ends_sized show opening m commands n (s ∷ ss) is each = (end_sized show opening m commands n s is each.0, ends_sized show opening m commands (n + 1) ss is each.1)
 
-pub ends_of_text : (m : MatchData) (commands : List Command) (ends : List (SessionState World)) → IsMatch m → MayBeCommands m commands → AreAllEnds m commands ends
+pub ends_of_text : (m : MatchData) (commands : List Command) (ends : List (SessionState World)) → IsMatch m → MayBeCommands m commands → AreAllEnds opening_world m commands ends
     → IsRecord (record_of (arena_shown m) (with_commands m commands) ends)
 ends_of_text m commands ends is may all =
     let opening = opening_world m.layout in
@@ -56,14 +56,14 @@ ends_of_text m commands ends is may all =
     record_of_text (record_of show (with_commands m commands) ends) (still_a_match m commands is may) (length-map ends log_of ∙ all.0) (ends_sized show opening m commands 0 ends is all.1)
     (record_legal show opening m commands ends is may all.1)
 
-pub ends_read : (m : MatchData) (commands : List Command) (ends : List (SessionState World)) → IsMatch m → MayBeCommands m commands → AreAllEnds m commands ends
+pub ends_read : (m : MatchData) (commands : List Command) (ends : List (SessionState World)) → IsMatch m → MayBeCommands m commands → AreAllEnds opening_world m commands ends
     → read_record (put_together (arena_shown m) (with_commands m commands) ends) ≡ Ok (record_of (arena_shown m) (with_commands m commands) ends)
 ends_read m commands ends is may all =
     let game = with_commands m commands in
     ap read_record (text_same (arena_shown m) game ends) ∙ whole_read (record_of (arena_shown m) game ends) (ends_of_text m commands ends is may all)
 
 -- the one verdict on it
-pub ends_verdict : (m : MatchData) (commands : List Command) (ends : List (SessionState World)) (v : Verdict) → IsMatch m → MayBeCommands m commands → AreAllEnds m commands ends
+pub ends_verdict : (m : MatchData) (commands : List Command) (ends : List (SessionState World)) (v : Verdict) → IsMatch m → MayBeCommands m commands → AreAllEnds opening_world m commands ends
     → Tells (arena_shown m) (opening_world m.layout) (record_of (arena_shown m) (with_commands m commands) ends) v
     ↔ (v ≡ Legal (event_count (map log_of ends)))
 ends_verdict m commands ends v is may all =

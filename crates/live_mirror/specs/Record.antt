@@ -4,8 +4,8 @@ use Rattle.std.specs.List.{AllByRecursion}
 use Rattle.game_trait.specs.declared.command.Command.{Command}
 use Rattle.game_trait.specs.declared.command.Item.{Item}
 use Rattle.game_trait.specs.Keys.{NamesDiffer}
-use Rattle.arena_rules.specs.World.{World, opening_world}
 use Rattle.tss_io.specs.Lines.{as_line}
+use Rattle.match_setup.specs.Setup.{Layout}
 use Rattle.match_data.specs.Data.{MatchData, IsCommand, most_commands}
 use Rattle.match_file.specs.Text.{match_text}
 use Rattle.report_text.specs.Worlds.{Showing, copy_block}
@@ -15,7 +15,6 @@ use Rattle.run_recorder.specs.Text.{record_head, last_line}
 use Rattle.live_text.specs.declared.request.Request.{Request}
 use Rattle.live_text.specs.declared.request.Request.TheVariants.{End}
 use Rattle.live_mirror.specs.Events.{after_requests, FitAlong, IsAmong}
-use Rattle.live_mirror.specs.Led.{SameButLine}
 use Rattle.live_mirror.specs.Session.{SessionState, opening_session}
 use Rattle.live_mirror.specs.Told.{record_part}
 
@@ -31,15 +30,12 @@ pub record MayBeCommands (m : MatchData) (commands : List Command) : Type 0 wher
   pub each : AllByRecursion (IsCommand m) commands
 
 -- the mirror of this number, behind the `end` of the requests that it was asked; each of them could be
--- done when it was asked, lines that were refused were counted alone, and the commands that arrived
--- are among these
+-- done when it was asked, and the commands that arrived are among these
 pub record IsEnd {W : Type 0} (opening : W) (m : MatchData) (commands : List Command)
     (number : ℕ) (s : SessionState W) : Type 0 where
-  pub line : ℕ
   pub asked : List Request
-  pub fit : FitAlong (opening_session opening m number line) (asked ++ End ∷ [])
-  pub ended : SameButLine s
-      (after_requests (opening_session opening m number line) (asked ++ End ∷ []))
+  pub fit : FitAlong (opening_session opening m number) (asked ++ End ∷ [])
+  pub ended : s ≡ after_requests (opening_session opening m number) (asked ++ End ∷ [])
   pub among : AllByRecursion (IsAmong commands) s.mirror.history
 
 -- mirrors behind their ends, of which the first has this number
@@ -49,10 +45,11 @@ AreEnds opening m commands n [] = Unit {0}
 AreEnds opening m commands n (s ∷ ss) =
     IsEnd opening m commands n s × AreEnds opening m commands (n + 1) ss
 
--- the mirrors of a match in the arena behind their ends, one for each number from 0 on
-abbrev pub AreAllEnds : MatchData → List Command → List (SessionState World) → Type 0
-AreAllEnds m commands ends =
-    (length ends ≡ m.mirrors) × AreEnds (opening_world m.layout) m commands 0 ends
+-- the mirrors of a match behind their ends, one for each number from 0 on
+abbrev pub AreAllEnds : {W : Type 0} → (Layout → W) → MatchData → List Command
+    → List (SessionState W) → Type 0
+AreAllEnds opening m commands ends =
+    (length ends ≡ m.mirrors) × AreEnds (opening m.layout) m commands 0 ends
 
 -- the blocks of a mirror's copies, of which the first has this number, each by itself
 unfoldable pub each_block : {W : Type 0} → Showing W → ℕ → W → ℕ → List (List Item)

@@ -10,7 +10,7 @@ use Rattle.sync_model.specs.State.{MirrorState}
 use Rattle.sync_model.specs.Change.{after}
 use Rattle.late_joiner.specs.declared.handed.Snapshot.{Snapshot}
 use Rattle.game_trait.specs.Later.{later}
-use Rattle.late_joiner.specs.Shifted.{ShiftedWorld, shifted}
+use Rattle.game_trait.specs.Shifted.{ShiftedWorld, shifted}
 use Rattle.late_joiner.specs.Joiner.{JoinerState, opened}
 
 -- a mirror of the ticks that are left, opened from a snapshot, after events

@@ -6,4 +6,3 @@ pub mod World
 pub mod Block
 pub mod Kept
 pub mod Worked
-pub mod Blind

@@ -18,7 +18,7 @@ use crate::painting::{paint_ahead, settle};
 use crate::players::{is_held, put};
 use arrayvec::ArrayVec;
 use game_trait::limits::MOST_PLAYERS;
-use game_trait::{Act, Command, Game, Tick, TimeBlind};
+use game_trait::{Act, Command, Game, Tick};
 use match_setup::{Ground, Roster, Setup, Shown, Spot, copied, copy_into};
 use std::marker::Model;
 use tss_base::NoMemory;
@@ -223,12 +223,6 @@ impl Game for Paint {
             time: self.time,
         }
     }
-}
-
-impl TimeBlind for Paint {
-    ghost use Rattle.paint_rules.specs.Blind.{time-blind};
-
-    ghost laws = { time-blind };
 }
 
 impl Shown for Paint {

@@ -14,18 +14,19 @@ use Rattle.game_trait.specs.CommandList.{name_of, has_command}
 use Rattle.game_trait.specs.NameTree.{has_name}
 use Rattle.game_trait.proofs.CommandLists.{has-named}
 use Rattle.game_trait.specs.Keys.{same_name}
-use Rattle.game_trait.specs.Later.{earlier, later_event, later_reply}
+use Rattle.game_trait.specs.Later.{later, earlier, later_event, later_reply}
 use Rattle.game_trait.proofs.Later.{command-later-earlier}
 use Rattle.sync_model.specs.State.{MirrorState, last_clock}
 use Rattle.sync_model.specs.Settle.{settle, repaired}
 use Rattle.sync_model.specs.Change.{next, said, is_repeat, is_late, proposed_by_arrival}
 use Rattle.sync_model.proofs.Cases.{away, arrive-cases}
 use Rattle.sync_model.proofs.Answered.{arrive_repeat, arrive_late, arrive_taken}
-use Rattle.sync_model.proofs.Forgetting.{any-split, named-later, last-clocks}
+use Rattle.sync_model.specs.Forgetting.{is_repeat_from, arrive_from, said_from}
+use Rattle.sync_model.proofs.Forgetting.{any-split, named-later, last-clocks, from_repeat, from_late, arrival-exact}
 use Rattle.rolling_mirror.specs.declared.arrival.Arrival.{Arrival}
 use Rattle.rolling_mirror.specs.declared.arrival.Arrival.TheVariants.{Taken, Repeat, Late, Far, Full}
 use Rattle.rolling_mirror.specs.Rolling.{RollState, IsWindowOf, without_lists, left_after, last_tick, window_end, in_window, said_to_arrival, arrived, as_arrived}
-use Rattle.rolling_mirror.proofs.Windows.{event-window}
+use Rattle.rolling_mirror.proofs.Windows.{event-window, left-bare}
 
 -- ---- names
 
@@ -214,6 +215,52 @@ module _ {W : Type 0} (rules : Rules W) (r : RollState W) (x : Command) (within 
   arrival-window t a answer state =
       subst (λ (u : RollState W). IfSome (as_arrived a) (λ answer. IsWindowOf rules (next whole (Arrive x)) u × (said whole (Arrive x) ≡ ToArrive answer))) (sym state)
       (subst Holds (sym answer) (said-cases r x Holds repeat-window late-window tt tt taken-window))
+
+-- the same of any command, where the whole asks of names only what is remembered
+module _ {W : Type 0} (rules : Rules W) (r : RollState W) (x : Command) (within : r.left.clock < r.left.length)
+    (whole : MirrorState W) (h : IsWindowOf rules whole r) (before : whole.clock < whole.length) where
+  repeat-from : is_repeat_from r.base whole x ≡ is_repeat r.left x
+  unfolding same_name
+  repeat-from = ap (list_any (same_name x)) h.accepted ∙ named-later r.base x r.left.accepted
+
+  late-from : is_late whole x ≡ ltb x.time (last_tick r)
+  late-from = ap (ltb x.time) (last-clocks rules r.base whole r.left h)
+
+  abbrev HoldsFrom : Arrival → Type 0
+  HoldsFrom a =
+      IfSome (as_arrived a)
+      (λ answer. IsWindowOf rules (arrive_from r.base whole x) (arrived r x a) × (said_from r.base whole x ≡ ToArrive answer))
+
+  repeat-exact : is_repeat r.left x ≡ true → HoldsFrom Repeat
+  repeat-exact e = (let w = from_repeat r.base whole x (repeat-from ∙ e) in (rw w.0 h, w.1))
+
+  late-exact : is_repeat r.left x ≡ false → ltb x.time (last_tick r) ≡ true → HoldsFrom (Late (last_tick r))
+  late-exact e l =
+      let w = from_late r.base whole x (repeat-from ∙ e) (late-from ∙ l) in
+      (rw w.0 (away-window rules r x whole h), w.1 ∙ ap (λ (n : ℕ). ToArrive (AsLate n)) (last-clocks rules r.base whole r.left h))
+
+  taken-exact :
+      is_repeat r.left x ≡ false → ltb x.time (last_tick r) ≡ false
+      → HoldsFrom (Taken (repaired (r.left.accepted ++ in_window r x ∷ []) (proposed_by_arrival (in_window r x) r.left.runs)))
+  unfolding later_reply same_name
+  taken-exact e l =
+      let due : r.base + last_clock r.left.runs ≤ x.time = grind (arith, nat_tests) in
+      let y = in_window r x in
+      let back = command-later-earlier r.base x (omega arith) in
+      let on_time : is_late r.left y ≡ false = grind (arith, nat_tests) in
+      let here = arrive_taken r.left y e on_time in
+      let both = arrival-exact rules r.base whole r.left h y in (
+        subst (λ (z : Command). IsWindowOf rules (arrive_from r.base whole z) (left_after r (Arrive y))) back
+            (left-bare rules r.base (arrive_from r.base whole (later r.base y)) (next r.left (Arrive y)) (next r.left (Arrive y)).length both.0),
+        ap (λ (z : Command). said_from r.base whole z) (sym back) ∙ both.1 ∙ ap (later_reply r.base) here.1,
+      )
+
+  pub exact-window :
+      (t : RollState W) (a : Arrival) → a ≡ said_to_arrival r x → t ≡ arrived r x a
+      → IfSome (as_arrived a) (λ answer. IsWindowOf rules (arrive_from r.base whole x) t × (said_from r.base whole x ≡ ToArrive answer))
+  exact-window t a answer state =
+      subst (λ (u : RollState W). IfSome (as_arrived a) (λ answer. IsWindowOf rules (arrive_from r.base whole x) u × (said_from r.base whole x ≡ ToArrive answer))) (sym state)
+      (subst HoldsFrom (sym answer) (said-cases r x HoldsFrom repeat-exact late-exact tt tt taken-exact))
 
 -- a command that the last copy has run past changes no copy of either, also where its name was forgotten
 module _ {W : Type 0} (rules : Rules W) (r : RollState W) (x : Command) (whole : MirrorState W) (h : IsWindowOf rules whole r)

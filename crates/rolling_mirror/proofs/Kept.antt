@@ -76,13 +76,13 @@ still-room :
     → (clock + 1 < window) × (b + (clock + 1) < 2 ^ 32)
 still-room b clock window k keep behind within fits e held = (grind (arith, nat_tests), grind (arith, nat_tests))
 
-module _ {W : Type 0} {r : RollState W} {plans : List Schedule} {names : NamesOfTree} (h : IsRolling r plans names) where
+module _ {W : Type 0} {r : RollState W} {plans : List Schedule} {names : NamesOfTree} {start : ℕ} (h : IsRolling r plans names start) where
   -- the last copy isn't ahead of the clock
   pub last-behind : last_clock r.left.runs ≤ r.left.clock
   last-behind = last-all (λ run. beats run ≤ r.left.clock) r.left.runs h.some_copy h.behind_clock
 
   -- a tick
-  pub rolling-moved : r.left.clock + 1 < r.left.length → r.base + (r.left.clock + 1) < 2 ^ 32 → IsRolling (record r { left = record r.left { clock = r.left.clock + 1 } }) plans names
+  pub rolling-moved : r.left.clock + 1 < r.left.length → r.base + (r.left.clock + 1) < 2 ^ 32 → IsRolling (record r { left = record r.left { clock = r.left.clock + 1 } }) plans names start
   rolling-moved within fits = record {
     plans_are = same-plans r.left (record r.left { clock = r.left.clock + 1 }) plans h.plans_are refl refl h.plans_are.in_force;
     some_copy = h.some_copy;
@@ -90,6 +90,7 @@ module _ {W : Type 0} {r : RollState W} {plans : List Schedule} {names : NamesOf
     behind_clock = all-weaker (λ run. beats run ≤ r.left.clock) (λ run. beats run ≤ r.left.clock + 1) r.left.runs (λ run b. omega arith) h.behind_clock;
     within_session = fits;
     due_in_session = h.due_in_session;
+    told_from = h.told_from;
     names_are = h.names_are;
     names_room = h.names_room;
     first_room = h.first_room;
@@ -115,7 +116,7 @@ module _ {W : Type 0} {r : RollState W} {plans : List Schedule} {names : NamesOf
   -- a step that runs
   pub rolling-ran :
       (c : ℕ) → IsTrailing r.left.accepted r.left.runs → is_idle r.left c ≡ false
-      → IsRolling (record r { left = record r.left { runs = settle r.left.accepted (proposed_by_step r.left.accepted r.left.runs c) } }) plans names
+      → IsRolling (record r { left = record r.left { runs = settle r.left.accepted (proposed_by_step r.left.accepted r.left.runs c) } }) plans names start
   rolling-ran c trailing more =
       let new = settle r.left.accepted (proposed_by_step r.left.accepted r.left.runs c) in
       let room = below_limit r.left c more in
@@ -132,6 +133,7 @@ module _ {W : Type 0} {r : RollState W} {plans : List Schedule} {names : NamesOf
             one-clock r.left.clock r.left.runs new c (copy_clock r.left.runs c + 1) (beats-step trailing c room.0) (omega arith) h.behind_clock;
         within_session = h.within_session;
         due_in_session = h.due_in_session;
+        told_from = h.told_from;
         names_are = h.names_are;
         names_room = h.names_room;
         first_room = h.first_room;
@@ -151,7 +153,7 @@ module _ {W : Type 0} {r : RollState W} {plans : List Schedule} {names : NamesOf
       → IsRolling (rolled rules r) plans (record names {
         items = map name_of (left_commands (last_clock r.left.runs) r.left.accepted);
         room = names.first_room;
-      })
+      }) (r.base + last_clock r.left.runs)
   rolling-rolled rules trailing =
       let last = last_of [] r.left.runs in
       let k = beats last in
@@ -167,7 +169,7 @@ module _ {W : Type 0} {r : RollState W} {plans : List Schedule} {names : NamesOf
       let fewer = left-fewer k r.left.accepted in
       let room = h.first_room in
       record {
-        plans_are = same-plans r.left (forgotten rules r.left) plans h.plans_are refl many h.plans_are.in_force;
+        plans_are = same-plans r.left (forgotten rules r.base r.left) plans h.plans_are refl many h.plans_are.in_force;
         some_copy = omega arith;
         within_window = omega arith;
         behind_clock =
@@ -177,13 +179,14 @@ module _ {W : Type 0} {r : RollState W} {plans : List Schedule} {names : NamesOf
             (all-begin r.left.runs h.some_copy trailing.chained));
         within_session = omega arith;
         due_in_session = due-later r.base k r.left.accepted h.due_in_session;
+        told_from = refl;
         names_are = refl;
         names_room = omega arith;
         first_room = omega arith;
       }
 
   -- another plan
-  pub rolling-restaggered : (p : ℕ) → p < length plans → IsRolling (record r { left = record r.left { plan = p } }) plans names
+  pub rolling-restaggered : (p : ℕ) → p < length plans → IsRolling (record r { left = record r.left { plan = p } }) plans names start
   rolling-restaggered p there = record {
     plans_are = same-plans r.left (record r.left { plan = p }) plans h.plans_are refl refl there;
     some_copy = h.some_copy;
@@ -191,6 +194,7 @@ module _ {W : Type 0} {r : RollState W} {plans : List Schedule} {names : NamesOf
     behind_clock = h.behind_clock;
     within_session = h.within_session;
     due_in_session = h.due_in_session;
+    told_from = h.told_from;
     names_are = h.names_are;
     names_room = h.names_room;
     first_room = h.first_room;
@@ -205,7 +209,7 @@ module _ {W : Type 0} {r : RollState W} {plans : List Schedule} {names : NamesOf
           runs = settle (r.left.accepted ++ x ∷ []) (proposed_by_arrival x r.left.runs);
         };
         spare = r.spare - 1;
-      }) plans (record names { items = names.items ++ name_of x ∷ [] })
+      }) plans (record names { items = names.items ++ name_of x ∷ [] }) start
   rolling-taken x trailing spare fits =
       let all = r.left.accepted ++ x ∷ [] in
       let new = settle all (proposed_by_arrival x r.left.runs) in
@@ -222,6 +226,7 @@ module _ {W : Type 0} {r : RollState W} {plans : List Schedule} {names : NamesOf
         behind_clock = same-clocks r.left.clock r.left.runs new (beats-arrival trailing x) h.behind_clock;
         within_session = h.within_session;
         due_in_session = all-push (λ y. r.base + y.time < 2 ^ 32) r.left.accepted x h.due_in_session fits;
+        told_from = h.told_from;
         names_are = ap (λ (l : List _). l ++ name_of x ∷ []) h.names_are ∙ sym (map-append name_of r.left.accepted (x ∷ []));
         names_room = omega arith;
         first_room = omega arith;
@@ -229,9 +234,9 @@ module _ {W : Type 0} {r : RollState W} {plans : List Schedule} {names : NamesOf
 
 -- the same where the value is known by its parts
 pub room-of :
-    {W : Type 0} {i r v : RollState W} {plans : List Schedule} {names : NamesOfTree} → IsRolling i plans names → (rules : Rules W)
+    {W : Type 0} {i r v : RollState W} {plans : List Schedule} {names : NamesOfTree} {start : ℕ} → IsRolling i plans names start → (rules : Rules W)
     → i ≡ r → is_held r ≡ false → v ≡ ready rules r
     → (v.left.clock + 1 < v.left.length) × (v.base + (v.left.clock + 1) < 2 ^ 32)
-room-of {W} {plans = plans} {names = names} h rules view held is =
+room-of {W} {plans = plans} {names = names} {start = start} h rules view held is =
     subst (λ (s : RollState W). (s.left.clock + 1 < s.left.length) × (s.base + (s.left.clock + 1) < 2 ^ 32)) (sym is)
-    (ready-room (subst (λ (s : RollState W). IsRolling s plans names) view h) rules held)
+    (ready-room (subst (λ (s : RollState W). IsRolling s plans names start) view h) rules held)

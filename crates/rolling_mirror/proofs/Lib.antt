@@ -4,3 +4,6 @@ mod Kept
 pub mod Arrivals
 pub mod Turns
 mod Opened
+mod Joined
+mod Followed
+mod Told

@@ -54,7 +54,7 @@ pub rolling-opened :
     → 0 < length plans → 0 < copies_of_first plans → 0 < ticks_of_first plans
     → AllByRecursion (λ plan. plan.length ≡ ticks_of_first plans) plans
     → AllByRecursion (λ plan. length plan.delays ≡ copies_of_first plans) plans
-    → IsRolling (opened opening plans room keep) plans (record { items = []; room = room; first_room = room })
+    → IsRolling (opened opening plans room keep) plans (record { items = []; room = room; first_room = room }) 0
 rolling-opened opening plans room keep some some_copy some_tick same each =
     let many = length-replicate {A = List Item} (copies_of_first plans) [] in
     record {
@@ -68,6 +68,7 @@ rolling-opened opening plans room keep some some_copy some_tick same each =
       behind_clock = none-ahead (copies_of_first plans);
       within_session = omega arith;
       due_in_session = tt;
+      told_from = refl;
       names_are = refl;
       names_room = omega arith;
       first_room = omega arith;

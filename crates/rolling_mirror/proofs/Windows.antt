@@ -10,7 +10,7 @@ use Rattle.game_trait.specs.declared.event.Ticked.TheVariants.{Moved}
 use Rattle.game_trait.specs.declared.event.Stepped.{Stepped}
 use Rattle.game_trait.specs.declared.event.Stepped.TheVariants.{Ran, Idle}
 use Rattle.game_trait.specs.Game.{Rules}
-use Rattle.game_trait.specs.Later.{AreTimeBlind, later_item, later_event, later_reply}
+use Rattle.game_trait.specs.Later.{later_item, later_event, later_reply}
 use Rattle.game_trait.specs.Ordered.{ordered}
 use Rattle.game_trait.proofs.OrderedParts.{ordered-join}
 use Rattle.sync_model.specs.Lists.{last_of}
@@ -25,7 +25,7 @@ use Rattle.sync_model.proofs.Forgotten.{whole-yet, forgotten-left}
 use Rattle.rolling_mirror.specs.Rolling.{RollState, IsWindowOf, without_lists, left_after, rolled, ready, is_held, ticked}
 
 -- what is left has no part of the lists, and may be of any length
-left-bare :
+pub left-bare :
     {W : Type 0} (rules : Rules W) (b : ℕ) (whole s : MirrorState W) (window : ℕ) → IsLeft rules b whole s
     → IsLeft rules b whole (record (without_lists s) { length = window })
 left-bare rules b whole s window h = record {
@@ -142,17 +142,17 @@ restagger-window rules r t p is whole h =
 
 -- what lies behind the last copy is forgotten
 pub rolled-window :
-    {W : Type 0} (rules : Rules W) (r t : RollState W) → AreTimeBlind rules → IsTrailing r.left.accepted r.left.runs
+    {W : Type 0} (rules : Rules W) (r t : RollState W) → IsTrailing r.left.accepted r.left.runs
     → last_clock r.left.runs ≤ r.left.clock → t ≡ rolled rules r
     → (whole : MirrorState W) → IsWindowOf rules whole r → IsWindowOf rules whole t
-rolled-window rules r t blind trailing behind is whole h =
+rolled-window rules r t trailing behind is whole h =
     subst (IsWindowOf rules whole) (sym is)
-    (forgotten-left rules r.base whole r.left blind trailing behind h)
+    (forgotten-left rules r.base whole r.left trailing behind h)
 
 -- ---- what is told of the whole
 
 -- the last run that is whole again
-last-of-whole :
+pub last-of-whole :
     (front : List Item) (b : ℕ) (runs : List (List Item)) → 0 < length runs
     → last_of [] (map (whole_run front b) runs) ≡ whole_run front b (last_of [] runs)
 unfolding last_of

@@ -1,2 +1,4 @@
 pub mod Rolling
 pub mod Kept
+pub mod Snapshot
+pub mod Moves

@@ -11,6 +11,7 @@ use Rattle.game_trait.specs.declared.event.Ticked.{Ticked}
 use Rattle.game_trait.specs.declared.event.Ticked.TheVariants.{Moved, Over}
 use Rattle.game_trait.specs.Game.{Rules}
 use Rattle.game_trait.specs.Later.{earlier, left_commands}
+use Rattle.game_trait.specs.Shifted.{ShiftedWorld}
 use Rattle.sync_model.specs.Schedule.{Schedule, delays_of_each}
 use Rattle.sync_model.specs.State.{MirrorState, last_clock}
 use Rattle.sync_model.specs.Settle.{repaired}
@@ -36,11 +37,11 @@ pub record RollState (W : Type 0) : Type 0 where
 -- a mirror of these parts: its base, its copies, its plans and which is in force, its clock, and how
 -- many ticks it keeps
 abbrev pub rolling_view :
-    {W : Type 0} → ℕ → LazyCopies W → List Schedule → ℕ → ℕ → ℕ → RollState W
+    {W : Type 0} → ℕ → LazyCopies (ShiftedWorld W) → List Schedule → ℕ → ℕ → ℕ → RollState W
 rolling_view base stack plans plan clock keep = record {
   base = base;
   left = record {
-    opening = stack.opening;
+    opening = stack.opening.world;
     length = stack.ticks;
     plans = delays_of_each plans;
     plan = plan;
@@ -87,7 +88,7 @@ passed_commands s = length s.accepted - length (left_commands (last_clock s.runs
 abbrev pub rolled : {W : Type 0} → Rules W → RollState W → RollState W
 rolled rules r = record r {
   base = last_tick r;
-  left = forgotten rules r.left;
+  left = forgotten rules r.base r.left;
   spare = r.spare + passed_commands r.left;
 }
 

@@ -6,7 +6,7 @@ ghost use Rattle.sync_model.specs.State.{MirrorState, last_clock};
 ghost use Rattle.sync_model.specs.Settle.{repaired};
 ghost use Rattle.sync_model.specs.Change.{next, said, after, answers, is_repeat, proposed_by_arrival};
 ghost use Rattle.sync_model.specs.Turns.{turn, turn_events, steps_from};
-ghost use Rattle.sync_model.specs.Forgetting.{IsRemembered};
+ghost use Rattle.sync_model.specs.Forgetting.{IsRemembered, arrive_from, said_from};
 ghost use Rattle.rolling_mirror.specs.Rolling.{IsWindowOf, left_after, last_tick, is_held, ticked, said_to_tick};
 ghost use Rattle.rolling_mirror.specs.Rolling.{said_to_arrival, arrived, as_arrived};
 ghost use Rattle.rolling_mirror.specs.Rolling.{turned, said_to_turn};
@@ -14,9 +14,9 @@ ghost use Rattle.rolling_mirror.specs.Rolling.{turned, said_to_turn};
 use crate::arrival::Arrival;
 use crate::rolling::RollingMirror;
 use arrayvec::ArrayVec;
-use game_trait::{Command, Event, Reply, Stepped, Tick, Ticked, TimeBlind};
+use game_trait::{Command, Event, Game, Reply, Stepped, Tick, Ticked};
 
-impl<G: TimeBlind> RollingMirror<G> {
+impl<G: Game> RollingMirror<G> {
     /// The clock goes on by one tick, after the mirror forgot what lies behind its last copy, where
     /// that has run as many ticks of the window as are kept, or the window is full. `Over` comes where
     /// the last copy is a whole window behind the clock, until steps take it on, and where the clock
@@ -85,6 +85,12 @@ impl<G: TimeBlind> RollingMirror<G> {
             → IfSome (as_arrived result)
             (λ answer. IsWindowOf G.rules (next whole (Event.Arrive x.now)) self.new
             × (said whole (Event.Arrive x.now) ≡ Reply.Arrive answer)) }
+        ensures exact { (whole : MirrorState G)
+            → IsWindowOf G.rules whole self.old
+            → whole.clock < whole.length
+            → IfSome (as_arrived result)
+            (λ answer. IsWindowOf G.rules (arrive_from self.old.base whole x.now) self.new
+            × (said_from self.old.base whole x.now ≡ Reply.Arrive answer)) }
         ensures passed { (whole : MirrorState G)
             → IsWindowOf G.rules whole self.old
             → x.now.time < last_tick self.old
@@ -112,7 +118,7 @@ impl<G: TimeBlind> RollingMirror<G> {
 
     // Accepts a command of a new name, its time told from the base, for which there is room, that is
     // due within the window and not before the last copy's clock.
-    fn accept(&mut self, x: &Command) -> Arrival
+    pub(crate) fn accept(&mut self, x: &Command) -> Arrival
         requires room { 0 < self.old.spare }
         requires within { x.now.time < self.old.left.length }
         requires in_session { self.old.base + x.now.time < 2 ^ 32 }

@@ -6,9 +6,9 @@ ghost use Rattle.rolling_mirror.specs.Rolling.{IsWindowOf, rolled, forgets, is_f
 
 use crate::names::rename;
 use crate::rolling::RollingMirror;
-use game_trait::TimeBlind;
+use game_trait::Game;
 
-impl<G: TimeBlind> RollingMirror<G> {
+impl<G: Game> RollingMirror<G> {
     /// Forgets all that lies behind the last copy: the window begins at its clock, with its world.
     /// There is room for as many more commands as were forgotten. Nothing that is seen changes.
     pub fn forget(&mut self)

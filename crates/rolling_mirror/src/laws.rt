@@ -1,18 +1,23 @@
 //! What the promises of a mirror of a session without an end are made of. Each is the contract of a
 //! function without parameters that does nothing.
 
-ghost use Rattle.std.specs.Prelude.{◌≡◌, ℕ, Some};
+ghost use Rattle.std.specs.Prelude.{◌≡◌, ℕ, ◌+◌, ◌<◌, List, Some, length};
+ghost use Rattle.std.specs.List.{AllByRecursion};
 ghost use Rattle.game_trait.specs.declared.event.Arrived.{Arrived};
 ghost use Rattle.sync_model.specs.State.{MirrorState};
 ghost use Rattle.sync_model.specs.Forgetting.{IsLeft};
+ghost use Rattle.sync_model.specs.Schedule.{DelaysRise};
+ghost use Rattle.sync_model.specs.Staggered.{IsTrailing};
 ghost use Rattle.rolling_mirror.specs.declared.arrival.Arrival.{Arrival};
 ghost use Rattle.rolling_mirror.specs.Rolling.{RollState, IsWindowOf, as_arrived};
+ghost use Rattle.rolling_mirror.specs.Snapshot.{rolled_back};
+ghost use Rattle.rolling_mirror.specs.Moves.{Move, after_moves, said_to_moves, stepped, AreAtOne};
 
-use game_trait::TimeBlind;
+use game_trait::Game;
 
 /// A mirror is the window of one that remembers all where it is what is left of that, its first
 /// ticks forgotten, as `sync_model` says.
-pub fn a_window_is_what_is_left<G: TimeBlind>()
+pub fn a_window_is_what_is_left<G: Game>()
     ensures { (whole : MirrorState G) (r : RollState G)
         → IsWindowOf G.rules whole r
         → IsLeft G.rules r.base whole r.left }
@@ -24,4 +29,25 @@ pub fn the_same_is_answered()
         → as_arrived (Arrival.Taken repaired) ≡ Some (Arrived.Taken repaired) }
     ensures repeat { as_arrived Arrival.Repeat ≡ Some Arrived.Repeat }
     ensures late { (bound : ℕ) → as_arrived (Arrival.Late bound) ≡ Some (Arrived.Late bound) }
+{}
+
+/// A mirror that is opened from another's snapshot follows it. It is the window of the mirror that
+/// remembers all, its copies gone back to the last one. Its copies but the last may be taken on by steps
+/// of its own; and whatever moves come after, the same at both, both take and turn away the same
+/// commands, with the same answers but for how many copies were repaired, and their last copies have the
+/// same run, clock and world.
+pub fn a_joiner_follows<G: Game>()
+    ensures at_one { (whole : MirrorState G) (copies : List ℕ) (moves : List Move)
+        → IsTrailing whole.accepted whole.runs → 0 < length whole.runs
+        → AllByRecursion DelaysRise whole.plans
+        → AllByRecursion (λ delays. length delays ≡ length whole.runs) whole.plans
+        → AllByRecursion (λ copy. copy + 1 < length whole.runs) copies
+        → AreAtOne G.rules (after_moves whole moves)
+        (after_moves (stepped copies (rolled_back whole)) moves) }
+    ensures answers { (whole : MirrorState G) (copies : List ℕ) (moves : List Move)
+        → IsTrailing whole.accepted whole.runs → 0 < length whole.runs
+        → AllByRecursion DelaysRise whole.plans
+        → AllByRecursion (λ delays. length delays ≡ length whole.runs) whole.plans
+        → AllByRecursion (λ copy. copy + 1 < length whole.runs) copies
+        → said_to_moves whole moves ≡ said_to_moves (stepped copies (rolled_back whole)) moves }
 {}

@@ -5,6 +5,8 @@
 mod arrival;
 mod events;
 mod forget;
+mod handed;
+mod joining;
 pub mod laws;
 mod names;
 mod rolling;
@@ -12,4 +14,5 @@ mod rolling;
 mod tests;
 
 pub use arrival::Arrival;
+pub use handed::SessionSnapshot;
 pub use rolling::RollingMirror;

@@ -5,6 +5,7 @@ ghost use Rattle.std.specs.List.{AllByRecursion};
 ghost use Rattle.game_trait.specs.declared.limits.TheConstants.{MOST_COPIES, MOST_ROOM};
 ghost use Rattle.game_trait.specs.Ordered.{ordered};
 ghost use Rattle.game_trait.specs.CommandList.{has_command};
+ghost use Rattle.game_trait.specs.Later.{world_from};
 ghost use Rattle.game_trait.specs.Run.{beats, world_of};
 ghost use Rattle.sync_model.specs.Lists.{last_of};
 ghost use Rattle.sync_model.specs.Schedule.{delays_of_each, ticks_of_first, copies_of_first};
@@ -13,7 +14,7 @@ ghost use Rattle.sync_model.specs.State.{copy_clock as copy_clock_of, last_clock
 ghost use Rattle.sync_model.specs.Staggered.{IsTrailing};
 ghost use Rattle.rolling_mirror.specs.Rolling.{IsWindowOf};
 
-use game_trait::{Command, MirrorId, NameTree, Number, Tick, TimeBlind};
+use game_trait::{Command, Game, MirrorId, NameTree, Number, Shifted, Tick};
 use stagger_clock::Stagger;
 use std::alloc::Global;
 use std::marker::Model;
@@ -27,11 +28,11 @@ use tss_base::NoMemory;
 /// told from there, for how many more commands there is room, and how many ticks it keeps. Only `new`
 /// takes memory.
 #[derive(Drop)]
-pub struct RollingMirror<G: TimeBlind> {
+pub struct RollingMirror<G: Game> {
     // the world where the window begins, its length, and of the accepted commands and of the runs
-    // what comes from there on
-    pub(crate) stack: LazyStack<G>,
-    plans: Vec<Stagger>,
+    // what comes from there on; the worlds know the base
+    pub(crate) stack: LazyStack<Shifted<G>>,
+    pub(crate) plans: Vec<Stagger>,
     // the number of the plan in force
     pub(crate) plan: u8,
     // from the base on
@@ -44,7 +45,7 @@ pub struct RollingMirror<G: TimeBlind> {
     pub(crate) keep: Tick,
 }
 
-impl<G: TimeBlind> Model for RollingMirror<G> {
+impl<G: Game> Model for RollingMirror<G> {
     ghost use Rattle.rolling_mirror.specs.Rolling.{RollState, rolling_view};
     ghost use Rattle.rolling_mirror.specs.Kept.{IsRolling};
 
@@ -54,10 +55,10 @@ impl<G: TimeBlind> Model for RollingMirror<G> {
 
     ghost invariant = { λ m.
         IsRolling (rolling_view m.base m.stack m.plans.items m.plan m.clock m.keep) m.plans.items
-        m.names };
+        m.names m.stack.opening.start };
 }
 
-impl<G: TimeBlind> RollingMirror<G> {
+impl<G: Game> RollingMirror<G> {
     /// A mirror before any event. Its plans, the first of which is in force, are of as many copies, and
     /// of as many ticks, which are its window's. It remembers at most `room` commands at once, at most
     /// 1,048,576. A tick forgets once the last copy has run `keep` ticks of the window, so that what
@@ -91,7 +92,7 @@ impl<G: TimeBlind> RollingMirror<G> {
         let window = plans[0].length();
         let copies = plans[0].copies();
         Ok(RollingMirror {
-            stack: LazyStack::new(alloc, opening, copies, window, room)?,
+            stack: LazyStack::new(alloc, &Shifted::of(opening.twin(), 0), copies, window, room)?,
             plans: Vec::from_slice(alloc, plans)?,
             plan: 0,
             clock: 0,
@@ -172,7 +173,7 @@ impl<G: TimeBlind> RollingMirror<G> {
     pub fn opening(&self) -> &G
         ensures { result.now ≡ self.now.left.opening }
     {
-        self.stack.opening()
+        self.stack.opening().world()
     }
 
     /// The commands that are remembered, in order of acceptance, their times told from the base.
@@ -202,14 +203,15 @@ impl<G: TimeBlind> RollingMirror<G> {
     pub fn world(&self, copy: u8) -> G
         requires { copy < length self.now.left.runs }
         ensures world { result
-            ≡ world_of G.rules self.now.left.opening
+            ≡ world_from G.rules self.now.base self.now.left.opening
             (slice_index_or self.now.left.runs copy []) }
         ensures window { (whole : MirrorState G)
             → IsWindowOf G.rules whole self.now
             → result
             ≡ world_of G.rules whole.opening (slice_index_or whole.runs copy []) }
     {
-        self.stack.made_world(copy)
+        self.stack.always();
+        self.stack.made_world(copy).into_world()
     }
 
     /// Makes the worlds of repaired copies anew, each once: what follows looks at them without

@@ -2,10 +2,9 @@
 //! edges of the window.
 
 ghost use Rattle.std.specs.Prelude.{◌+◌, ◌*◌, ◌%◌, ◌^◌};
-ghost use Rattle.std.proofs.Common.{refl};
 
 use crate::{Arrival, RollingMirror};
-use game_trait::{Act, Command, Game, MirrorId, Number, Tick, TimeBlind};
+use game_trait::{Act, Command, Game, MirrorId, Number, Tick};
 use stagger_clock::Stagger;
 use std::alloc::Global;
 use std::process::Abort;
@@ -37,10 +36,6 @@ impl Game for Sum {
     fn twin(&self) -> Sum {
         *self
     }
-}
-
-impl TimeBlind for Sum {
-    ghost laws = { λ w x t. refl };
 }
 
 // The delays of the copies, the window, and how many ticks a mirror keeps behind its base.

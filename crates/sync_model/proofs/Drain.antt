@@ -90,7 +90,7 @@ unfolding last_of
 last-above n d [] here h = here
 last-above n d (e ∷ es) here h = last-above n e es (omega arith) h.1
 
-delay-longest : (ds : List ℕ) (c : ℕ) → DelaysRise ds → get_or ds c 0 ≤ last_of 0 ds
+pub delay-longest : (ds : List ℕ) (c : ℕ) → DelaysRise ds → get_or ds c 0 ≤ last_of 0 ds
 unfolding last_of DelaysRise
 delay-longest [] c rise = omega arith
 delay-longest (d ∷ ds) zero rise = last-above d d ds (omega arith) rise.0

@@ -1,6 +1,6 @@
 -- What was forgotten changes nothing: an event leaves of a mirror what it would leave of the whole.
 use Rattle.std.proofs.Common.{◌≡◌, refl, ◌∙◌, ap, sym, ℕ, zero, suc, ◌+◌, ◌-◌, ◌<◌, min, Bool, true, false, cond, ◌&&◌, ◌||◌, not, eqb, leb, ltb}
-use Rattle.std.proofs.Common.{List, [], ◌∷◌, ◌++◌, map, filter, length, get_or, set, append_assoc, arith}
+use Rattle.std.proofs.Common.{List, [], ◌∷◌, ◌++◌, map, filter, length, get_or, set, append_assoc, append-nil, arith}
 use Rattle.std.specs.Bool.{Decides}
 use Rattle.std.specs.List.{list_any}
 use Rattle.std.proofs.lemmas.Bool.Decides.{nat_tests}
@@ -13,7 +13,7 @@ use Rattle.game_trait.specs.declared.command.Item.TheVariants.{Cmd}
 use Rattle.game_trait.specs.declared.event.Event.{Event}
 use Rattle.game_trait.specs.declared.event.Event.TheVariants.{Tick, Arrive, Step, Restagger}
 use Rattle.game_trait.specs.declared.event.Reply.TheVariants.{Arrive as ToArrive, Step as ToStep}
-use Rattle.game_trait.specs.declared.event.Arrived.TheVariants.{Taken, Late}
+use Rattle.game_trait.specs.declared.event.Arrived.TheVariants.{Taken, Repeat, Late}
 use Rattle.game_trait.specs.declared.event.Stepped.TheVariants.{Ran}
 use Rattle.game_trait.specs.Count.{times}
 use Rattle.game_trait.specs.Game.{Rules}
@@ -28,9 +28,9 @@ use Rattle.sync_model.specs.State.{MirrorState, delays_of, copy_clock, last_cloc
 use Rattle.sync_model.specs.Settle.{begins_with, rebuilt, settle_one, settle, is_repaired, which_repaired, repaired}
 use Rattle.sync_model.specs.Change.{next, said, is_over, is_repeat, is_late, is_idle, with_late, with_tick, proposed_by_arrival, proposed_by_step}
 use Rattle.game_trait.specs.Later.{later, later_item, earlier_item, later_event, later_reply}
-use Rattle.sync_model.specs.Forgetting.{whole_run, IsLeft, IsRemembered}
-use Rattle.sync_model.proofs.Cases.{taken}
-use Rattle.sync_model.proofs.Answered.{tick_moved, arrive_repeat, arrive_late, arrive_taken, step_idle, step_ran}
+use Rattle.sync_model.specs.Forgetting.{whole_run, IsLeft, IsRemembered, is_repeat_from, arrive_from, said_from, at_base, left_at_base}
+use Rattle.sync_model.proofs.Cases.{taken, away, said_taken}
+use Rattle.sync_model.proofs.Answered.{tick_over, tick_moved, arrive_repeat, arrive_late, arrive_taken, step_idle, step_ran}
 use Rattle.game_trait.proofs.Later.{due_at-later, tick-later, beats-later, earlier-later}
 use Rattle.sync_model.proofs.Lists.{last-map}
 use Rattle.sync_model.proofs.Proposals.{ticks-later}
@@ -250,6 +250,24 @@ named-later b x (y ∷ ys) = ap (λ (v : Bool). same_name x y || v) (named-later
 
 -- ---- events
 
+pub from_repeat :
+    {W : Type 0} (b : ℕ) (s : MirrorState W) (x : Command) → is_repeat_from b s x ≡ true
+    → (arrive_from b s x ≡ s) × (said_from b s x ≡ ToArrive Repeat)
+unfolding arrive_from said_from
+from_repeat b s x again = (rw again refl, rw again refl)
+
+pub from_late :
+    {W : Type 0} (b : ℕ) (s : MirrorState W) (x : Command) → is_repeat_from b s x ≡ false → is_late s x ≡ true
+    → (arrive_from b s x ≡ away s x) × (said_from b s x ≡ ToArrive (Late (last_clock s.runs)))
+unfolding arrive_from said_from
+from_late b s x new late = (rw (new, late) refl, rw (new, late) refl)
+
+pub from_taken :
+    {W : Type 0} (b : ℕ) (s : MirrorState W) (x : Command) → is_repeat_from b s x ≡ false → is_late s x ≡ false
+    → (arrive_from b s x ≡ taken s x) × (said_from b s x ≡ said_taken s x)
+unfolding arrive_from said_from
+from_taken b s x new due = (rw (new, due) refl, rw (new, due) refl)
+
 -- a clock that stands before the match's end isn't over
 not-over : {W : Type 0} (s : MirrorState W) → s.clock < s.length → is_over s ≡ false
 not-over s before = grind (arith, nat_tests)
@@ -283,25 +301,85 @@ module _ {W : Type 0} (rules : Rules W) (b : ℕ) (whole left : MirrorState W) (
   pub last-clocks : last_clock whole.runs ≡ b + last_clock left.runs
   last-clocks = ap last_clock h.runs ∙ last-whole b whole.accepted left.accepted h.accepted (ordered whole.accepted 0 b) long left.runs h.some_copy
 
+-- a tick and a step are answered alike: neither clock is at the match's end, or both clocks and copies
+-- come to it at once
+pub record EndAlike {W : Type 0} (whole left : MirrorState W) : Type 0 where
+  pub over : is_over whole ≡ is_over left
+  pub idle : (c : ℕ) → c < length left.runs → is_idle whole c ≡ is_idle left c
+
+-- where neither clock is at the match's end
 module _ {W : Type 0} (rules : Rules W) (b : ℕ) (whole left : MirrorState W) (h : IsLeft rules b whole left)
     (before : whole.clock < whole.length) (before_left : left.clock < left.length) where
+  same-idle : (c : ℕ) → c < length left.runs → is_idle whole c ≡ is_idle left c
+  unfolding step_limit limit_at
+  same-idle zero there =
+      rw (copy-clocks rules b whole left h zero there, same-delays rules b whole left h)
+      (first-limit whole.length left.length whole.clock left.clock (get_or (delays_of left) zero 0) b (copy_clock left.runs zero) h.clock before before_left)
+  same-idle (suc c) there =
+      rw (copy-clocks rules b whole left h (suc c) there, copy-clocks rules b whole left h c (omega arith), same-delays rules b whole left h)
+      (other-limit whole.length left.length whole.clock left.clock (get_or (delays_of left) (suc c) 0) b (copy_clock left.runs c) (copy_clock left.runs (suc c)) h.clock before before_left)
+
+  pub before-alike : EndAlike whole left
+  before-alike = record { over = not-over whole before ∙ sym (not-over left before_left); idle = same-idle }
+
+-- where what is left ends where the whole does
+first-end :
+    (long short clock left d b k : ℕ) → clock ≡ left + b → long ≡ short + b
+    → leb (min long (clock - d)) (b + k) ≡ leb (min short (left - d)) k
+first-end long short clock left d b k at ends = grind (arith, nat_tests)
+
+other-end :
+    (long short clock left d b ahead k : ℕ) → clock ≡ left + b → long ≡ short + b
+    → leb (min (min long (clock - d)) (b + ahead)) (b + k) ≡ leb (min (min short (left - d)) ahead) k
+other-end long short clock left d b ahead k at ends = grind (arith, nat_tests)
+
+over-end : (long short clock left d b : ℕ) → clock ≡ left + b → long ≡ short + b → leb (long + d) clock ≡ leb (short + d) left
+over-end long short clock left d b at ends = grind (arith, nat_tests)
+
+module _ {W : Type 0} (rules : Rules W) (b : ℕ) (whole left : MirrorState W) (h : IsLeft rules b whole left) (ends : whole.length ≡ left.length + b) where
+  end-over : is_over whole ≡ is_over left
+  end-over =
+      ap (λ (ds : List ℕ). leb (whole.length + last_of 0 ds) whole.clock) (same-delays rules b whole left h)
+      ∙ over-end whole.length left.length whole.clock left.clock (last_of 0 (delays_of left)) b h.clock ends
+
+  end-idle : (c : ℕ) → c < length left.runs → is_idle whole c ≡ is_idle left c
+  unfolding step_limit limit_at
+  end-idle zero there =
+      rw (copy-clocks rules b whole left h zero there, same-delays rules b whole left h)
+      (first-end whole.length left.length whole.clock left.clock (get_or (delays_of left) zero 0) b (copy_clock left.runs zero) h.clock ends)
+  end-idle (suc c) there =
+      rw (copy-clocks rules b whole left h (suc c) there, copy-clocks rules b whole left h c (omega arith), same-delays rules b whole left h)
+      (other-end whole.length left.length whole.clock left.clock (get_or (delays_of left) (suc c) 0) b (copy_clock left.runs c) (copy_clock left.runs (suc c)) h.clock ends)
+
+  pub end-alike : EndAlike whole left
+  end-alike = record { over = end-over; idle = end-idle }
+
+module _ {W : Type 0} (rules : Rules W) (b : ℕ) (whole left : MirrorState W) (h : IsLeft rules b whole left) (alike : EndAlike whole left) where
   tick-left-over :
       IsLeft rules b (next whole Tick) (next left Tick) × (said whole Tick ≡ later_reply b (said left Tick))
   unfolding later_reply
   tick-left-over =
-      let w = tick_moved whole (not-over whole before) in
-      let l = tick_moved left (not-over left before_left) in (
-        rw (w.0, l.0) (record {
-          some_copy = h.some_copy;
-          opening = h.opening;
-          plans = h.plans;
-          plan = h.plan;
-          clock = (let clock = h.clock in omega arith);
-          accepted = h.accepted;
-          runs = h.runs;
-        }),
-        rw (w.1, l.1) refl,
-      )
+      elim (is_over left) as (λ v. is_over left ≡ v → IsLeft rules b (next whole Tick) (next left Tick) × (said whole Tick ≡ later_reply b (said left Tick))) [
+        | true ↦ λ e.
+            let w = tick_over whole (alike.over ∙ e) in
+            let l = tick_over left e in
+            (rw (w.0, l.0) h, rw (w.1, l.1) refl)
+        | false ↦ λ e.
+            let w = tick_moved whole (alike.over ∙ e) in
+            let l = tick_moved left e in (
+              rw (w.0, l.0) (record {
+                some_copy = h.some_copy;
+                opening = h.opening;
+                plans = h.plans;
+                plan = h.plan;
+                clock = (let clock = h.clock in omega arith);
+                accepted = h.accepted;
+                runs = h.runs;
+              }),
+              rw (w.1, l.1) refl,
+            )
+      ]
+      refl
 
   restagger-left-over :
       (p : ℕ) → IsLeft rules b (next whole (Restagger p)) (next left (Restagger p)) × (said whole (Restagger p) ≡ later_reply b (said left (Restagger p)))
@@ -319,15 +397,6 @@ module _ {W : Type 0} (rules : Rules W) (b : ℕ) (whole left : MirrorState W) (
     refl,
   )
 
-  same-idle : (c : ℕ) → c < length left.runs → is_idle whole c ≡ is_idle left c
-  unfolding step_limit limit_at
-  same-idle zero there =
-      rw (copy-clocks rules b whole left h zero there, same-delays rules b whole left h)
-      (first-limit whole.length left.length whole.clock left.clock (get_or (delays_of left) zero 0) b (copy_clock left.runs zero) h.clock before before_left)
-  same-idle (suc c) there =
-      rw (copy-clocks rules b whole left h (suc c) there, copy-clocks rules b whole left h c (omega arith), same-delays rules b whole left h)
-      (other-limit whole.length left.length whole.clock left.clock (get_or (delays_of left) (suc c) 0) b (copy_clock left.runs c) (copy_clock left.runs (suc c)) h.clock before before_left)
-
   steps-whole : (c : ℕ) → c < length left.runs
       → proposed_by_step whole.accepted whole.runs c ≡ map (whole_run (ordered whole.accepted 0 b) b) (proposed_by_step left.accepted left.runs c)
   steps-whole c there =
@@ -341,11 +410,11 @@ module _ {W : Type 0} (rules : Rules W) (b : ℕ) (whole left : MirrorState W) (
   step-left-over c there =
       elim (is_idle left c) as (λ v. is_idle left c ≡ v → IsLeft rules b (next whole (Step c)) (next left (Step c)) × (said whole (Step c) ≡ later_reply b (said left (Step c)))) [
         | true ↦ λ e.
-            let w = step_idle whole c (same-idle c there ∙ e) in
+            let w = step_idle whole c (alike.idle c there ∙ e) in
             let l = step_idle left c e in
             (rw (w.0, l.0) h, rw (w.1, l.1) refl)
         | false ↦ λ e.
-            let w = step_ran whole c (same-idle c there ∙ e) in
+            let w = step_ran whole c (alike.idle c there ∙ e) in
             let l = step_ran left c e in
             let settled =
             ap (settle whole.accepted) (steps-whole c there)
@@ -373,9 +442,11 @@ module _ {W : Type 0} (rules : Rules W) (b : ℕ) (whole left : MirrorState W) (
       ]
       refl
 
-  module _ (x : Command) (new : list_any (same_name (later b x)) (filter (λ y. ltb y.time b) whole.accepted) ≡ false) where
-    same-repeat : is_repeat whole (later b x) ≡ is_repeat left x
-    same-repeat =
+-- a command is answered so wherever the clocks are
+module _ {W : Type 0} (rules : Rules W) (b : ℕ) (whole left : MirrorState W) (h : IsLeft rules b whole left) where
+  module _ (x : Command) where
+    same-repeat : list_any (same_name (later b x)) (filter (λ y. ltb y.time b) whole.accepted) ≡ false → is_repeat whole (later b x) ≡ is_repeat left x
+    same-repeat new =
         any-split b (same_name (later b x)) whole.accepted
         ∙ ap (λ (v : Bool). v || list_any (same_name (later b x)) (filter (λ y. leb b y.time) whole.accepted)) new
         ∙ ap (list_any (same_name (later b x))) h.accepted
@@ -422,21 +493,22 @@ module _ {W : Type 0} (rules : Rules W) (b : ℕ) (whole left : MirrorState W) (
     })
 
     arrival-left-over :
-        IsLeft rules b (next whole (Arrive (later b x))) (next left (Arrive x))
+        list_any (same_name (later b x)) (filter (λ y. ltb y.time b) whole.accepted) ≡ false
+        → IsLeft rules b (next whole (Arrive (later b x))) (next left (Arrive x))
         × (said whole (Arrive (later b x)) ≡ later_reply b (said left (Arrive x)))
     unfolding later_reply
-    arrival-left-over =
+    arrival-left-over new =
         elim (is_repeat left x) as (λ v. is_repeat left x ≡ v
         → IsLeft rules b (next whole (Arrive (later b x))) (next left (Arrive x)) × (said whole (Arrive (later b x)) ≡ later_reply b (said left (Arrive x)))) [
           | true ↦ λ e.
-              let w = arrive_repeat whole (later b x) (same-repeat ∙ e) in
+              let w = arrive_repeat whole (later b x) (same-repeat new ∙ e) in
               let l = arrive_repeat left x e in
               (rw (w.0, l.0) h, rw (w.1, l.1) refl)
           | false ↦ λ e.
               elim (is_late left x) as (λ v. is_late left x ≡ v
               → IsLeft rules b (next whole (Arrive (later b x))) (next left (Arrive x)) × (said whole (Arrive (later b x)) ≡ later_reply b (said left (Arrive x)))) [
                 | true ↦ λ old.
-                    let w = arrive_late whole (later b x) (same-repeat ∙ e) (same-late ∙ old) in
+                    let w = arrive_late whole (later b x) (same-repeat new ∙ e) (same-late ∙ old) in
                     let l = arrive_late left x e old in
                     let bound : last_clock whole.runs ≡ last_clock left.runs + b = (last-clocks rules b whole left h) ∙ omega arith in (
                       rw (w.0, l.0) (record {
@@ -451,7 +523,7 @@ module _ {W : Type 0} (rules : Rules W) (b : ℕ) (whole left : MirrorState W) (
                       rw (w.1, l.1) (ap (λ (n : ℕ). ToArrive (Late n)) bound),
                     )
                 | false ↦ λ due.
-                    let w = arrive_taken whole (later b x) (same-repeat ∙ e) (same-late ∙ due) in
+                    let w = arrive_taken whole (later b x) (same-repeat new ∙ e) (same-late ∙ due) in
                     let l = arrive_taken left x e due in
                     (rw (w.0, l.0) taken-left, rw (w.1, l.1) (ap (λ (n : ℕ). ToArrive (Taken n)) taken-count))
               ]
@@ -459,14 +531,97 @@ module _ {W : Type 0} (rules : Rules W) (b : ℕ) (whole left : MirrorState W) (
         ]
         refl
 
+    -- the same where the whole asks of names what is due from the base on
+    remembered-repeat : is_repeat_from b whole (later b x) ≡ is_repeat left x
+    remembered-repeat = ap (list_any (same_name (later b x))) h.accepted ∙ named-later b x left.accepted
+
+    pub arrival-exact :
+        IsLeft rules b (arrive_from b whole (later b x)) (next left (Arrive x))
+        × (said_from b whole (later b x) ≡ later_reply b (said left (Arrive x)))
+    unfolding later_reply
+    arrival-exact =
+        elim (is_repeat left x) as (λ v. is_repeat left x ≡ v
+        → IsLeft rules b (arrive_from b whole (later b x)) (next left (Arrive x)) × (said_from b whole (later b x) ≡ later_reply b (said left (Arrive x)))) [
+          | true ↦ λ e.
+              let w = from_repeat b whole (later b x) (remembered-repeat ∙ e) in
+              let l = arrive_repeat left x e in
+              (rw (w.0, l.0) h, rw (w.1, l.1) refl)
+          | false ↦ λ e.
+              elim (is_late left x) as (λ v. is_late left x ≡ v
+              → IsLeft rules b (arrive_from b whole (later b x)) (next left (Arrive x)) × (said_from b whole (later b x) ≡ later_reply b (said left (Arrive x)))) [
+                | true ↦ λ old.
+                    let w = from_late b whole (later b x) (remembered-repeat ∙ e) (same-late ∙ old) in
+                    let l = arrive_late left x e old in
+                    let bound : last_clock whole.runs ≡ last_clock left.runs + b = (last-clocks rules b whole left h) ∙ omega arith in (
+                      rw (w.0, l.0) (record {
+                        some_copy = h.some_copy;
+                        opening = h.opening;
+                        plans = h.plans;
+                        plan = h.plan;
+                        clock = h.clock;
+                        accepted = h.accepted;
+                        runs = h.runs;
+                      }),
+                      rw (w.1, l.1) (ap (λ (n : ℕ). ToArrive (Late n)) bound),
+                    )
+                | false ↦ λ due.
+                    let w = from_taken b whole (later b x) (remembered-repeat ∙ e) (same-late ∙ due) in
+                    let l = arrive_taken left x e due in
+                    (rw (w.0, l.0) taken-left, rw (w.1, l.1) (ap (λ (n : ℕ). ToArrive (Taken n)) taken-count))
+              ]
+              refl
+        ]
+        refl
+
+-- an event that is answered alike
+event-alike :
+    {W : Type 0} (rules : Rules W) (b : ℕ) (whole left : MirrorState W) (e : Event)
+    → IsLeft rules b whole left → EndAlike whole left
+    → IsRemembered b whole (later_event b e)
+    → IsLeft rules b (next whole (later_event b e)) (next left e) × (said whole (later_event b e) ≡ later_reply b (said left e))
+unfolding later_event
+event-alike rules b whole left Tick h alike new = tick-left-over rules b whole left h alike
+event-alike rules b whole left (Arrive x) h alike new = arrival-left-over rules b whole left h x new
+event-alike rules b whole left (Step c) h alike new =
+    step-left-over rules b whole left h alike c (let n = as-many rules b whole left h in omega arith)
+event-alike rules b whole left (Restagger p) h alike new = restagger-left-over rules b whole left h alike p
+
 pub event-left-over :
     {W : Type 0} (rules : Rules W) (b : ℕ) (whole left : MirrorState W) (e : Event)
     → IsLeft rules b whole left → whole.clock < whole.length → left.clock < left.length
     → IsRemembered b whole (later_event b e)
     → IsLeft rules b (next whole (later_event b e)) (next left e) × (said whole (later_event b e) ≡ later_reply b (said left e))
-unfolding later_event
-event-left-over rules b whole left Tick h before before_left new = tick-left-over rules b whole left h before before_left
-event-left-over rules b whole left (Arrive x) h before before_left new = arrival-left-over rules b whole left h before before_left x new
-event-left-over rules b whole left (Step c) h before before_left new =
-    step-left-over rules b whole left h before before_left c (let n = as-many rules b whole left h in omega arith)
-event-left-over rules b whole left (Restagger p) h before before_left new = restagger-left-over rules b whole left h before before_left p
+event-left-over rules b whole left e h before before_left new =
+    event-alike rules b whole left e h (before-alike rules b whole left h before before_left) new
+
+-- the same to the match's end
+pub event-to-the-end :
+    {W : Type 0} (rules : Rules W) (b : ℕ) (whole left : MirrorState W) (e : Event)
+    → IsLeft rules b whole left → whole.length ≡ left.length + b
+    → IsRemembered b whole (later_event b e)
+    → IsLeft rules b (next whole (later_event b e)) (next left e) × (said whole (later_event b e) ≡ later_reply b (said left e))
+event-to-the-end rules b whole left e h ends new = event-alike rules b whole left e h (end-alike rules b whole left h ends) new
+
+-- ---- a mirror that is put at its base
+
+put-runs : (front : List Item) (b : ℕ) (f : List Item → List Item) (runs : List (List Item))
+    → map (λ (run : List Item). front) (map f runs) ≡ map (whole_run front b) (map (λ (run : List Item). []) runs)
+put-runs front b f [] = refl
+put-runs front b f (r ∷ runs) =
+    ap (λ (l : List (List Item)). front ∷ l) (put-runs front b f runs)
+    ∙ ap (λ (l : List Item). l ∷ map (whole_run front b) (map (λ (run : List Item). []) runs)) (sym (append-nil front))
+
+pub based-left :
+    {W : Type 0} (rules : Rules W) (b : ℕ) (whole left : MirrorState W) → IsLeft rules b whole left
+    → IsLeft rules b (at_base b whole) (left_at_base left)
+based-left rules b whole left h = (let some = h.some_copy in record {
+  some_copy = omega (arith, length-map {B = List Item} left.runs (λ (run : List Item). []));
+  opening = h.opening;
+  plans = h.plans;
+  plan = h.plan;
+  clock = omega arith;
+  accepted = h.accepted;
+  runs =
+      ap (map (λ (run : List Item). ordered whole.accepted 0 b)) h.runs
+      ∙ put-runs (ordered whole.accepted 0 b) b (whole_run (ordered whole.accepted 0 b) b) left.runs;
+})

@@ -18,39 +18,28 @@ use Rattle.game_trait.proofs.OrderedParts.{ordered-join}
 use Rattle.sync_model.specs.Lists.{last_of}
 use Rattle.sync_model.specs.State.{MirrorState, last_clock}
 use Rattle.sync_model.specs.Staggered.{IsAhead, IsChained, IsComplete, IsTrailing}
-use Rattle.game_trait.specs.Later.{AreTimeBlind, later, earlier, later_item, earlier_item}
+use Rattle.game_trait.specs.Later.{later, earlier, later_item, earlier_item, world_from}
 use Rattle.sync_model.specs.Forgetting.{whole_run, IsLeft, left_run, forgotten}
 use Rattle.game_trait.proofs.Later.{beats-earlier}
 use Rattle.sync_model.proofs.Forgetting.{filter-through, map-get, ordered-left}
 
 -- ---- worlds
 
--- rules that look at no time make of later items what they make of these
-world_of-later :
-    {W : Type 0} (rules : Rules W) → AreTimeBlind rules → (n : ℕ) (w : W) (run : List Item)
-    → world_of rules w (map (later_item n) run) ≡ world_of rules w run
-unfolding world_of later_item
-world_of-later rules blind n w [] = refl
-world_of-later rules blind n w (Cmd x ∷ run) =
-    ap (λ v. world_of rules v (map (later_item n) run)) (blind w x (x.time + n)) ∙ world_of-later rules blind n (rules.apply w x) run
-world_of-later rules blind n w (Beat ∷ run) = world_of-later rules blind n (rules.beat w) run
-
 -- the world of a run that is whole again
-world_of-whole :
-    {W : Type 0} (rules : Rules W) → AreTimeBlind rules → (b : ℕ) (opening now : W) (front run : List Item)
-    → now ≡ world_of rules opening front → world_of rules now run ≡ world_of rules opening (whole_run front b run)
-world_of-whole {W} rules blind b opening now front run at =
-    sym (world_of-later rules blind b now run)
-    ∙ ap (λ (v : W). world_of rules v (map (later_item b) run)) at
+pub world_of-whole :
+    {W : Type 0} (rules : Rules W) (b : ℕ) (opening now : W) (front run : List Item)
+    → now ≡ world_of rules opening front → world_from rules b now run ≡ world_of rules opening (whole_run front b run)
+world_of-whole {W} rules b opening now front run at =
+    ap (λ (v : W). world_of rules v (map (later_item b) run)) at
     ∙ sym (world_of-append rules opening front (map (later_item b) run))
 
 pub left-worlds :
-    {W : Type 0} (rules : Rules W) (b : ℕ) (whole left : MirrorState W) (c : ℕ) → AreTimeBlind rules → IsLeft rules b whole left
+    {W : Type 0} (rules : Rules W) (b : ℕ) (whole left : MirrorState W) (c : ℕ) → IsLeft rules b whole left
     → c < length left.runs
-    → world_of rules left.opening (get_or left.runs c []) ≡ world_of rules whole.opening (get_or whole.runs c [])
-left-worlds rules b whole left c blind h there =
+    → world_from rules b left.opening (get_or left.runs c []) ≡ world_of rules whole.opening (get_or whole.runs c [])
+left-worlds rules b whole left c h there =
     let front = ordered whole.accepted 0 b in
-    world_of-whole rules blind b whole.opening left.opening front (get_or left.runs c []) h.opening
+    world_of-whole rules b whole.opening left.opening front (get_or left.runs c []) h.opening
     ∙ ap (world_of rules whole.opening)
     (sym (ap (λ (runs : List (List Item)). get_or runs c []) h.runs ∙ map-get (whole_run front b) left.runs c [] [] there))
 
@@ -220,10 +209,10 @@ all-begin [] some chained = absurd (omega arith)
 all-begin (r ∷ rs) some chained = begin-with-last r rs chained
 
 pub forgotten-left :
-    {W : Type 0} (rules : Rules W) (b : ℕ) (whole left : MirrorState W) → AreTimeBlind rules → IsTrailing left.accepted left.runs
+    {W : Type 0} (rules : Rules W) (b : ℕ) (whole left : MirrorState W) → IsTrailing left.accepted left.runs
     → last_clock left.runs ≤ left.clock → IsLeft rules b whole left
-    → IsLeft rules (b + last_clock left.runs) whole (forgotten rules left)
-forgotten-left {W} rules b whole left blind trailing behind h =
+    → IsLeft rules (b + last_clock left.runs) whole (forgotten rules b left)
+forgotten-left {W} rules b whole left trailing behind h =
     let last = last_of [] left.runs in
     let k = beats last in
     let front = ordered whole.accepted 0 b in
@@ -240,7 +229,7 @@ forgotten-left {W} rules b whole left blind trailing behind h =
     record {
       some_copy = omega (arith, length-map left.runs (λ run. map (earlier_item k) (drop (length last) run)));
       opening =
-          world_of-whole rules blind b whole.opening left.opening front last h.opening
+          world_of-whole rules b whole.opening left.opening front last h.opening
           ∙ ap (world_of rules whole.opening) (sym longer);
       plans = h.plans;
       plan = h.plan;

@@ -7,7 +7,7 @@ pub mod Cases
 pub mod Answered
 pub mod Limits
 pub mod Plans
-mod Clocks
+pub mod Clocks
 pub mod Along
 pub mod Drain
 pub mod Turning

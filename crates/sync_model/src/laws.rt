@@ -20,7 +20,8 @@ pub use draining::{
     draining_is_turns, played_in_order,
 };
 pub use forgetting::{
-    forgetting_changes_no_answer, nothing_is_forgotten_yet,
+    a_mirror_put_at_its_base_is_a_window, forgetting_changes_no_answer,
+    forgetting_changes_no_answer_to_the_end, forgetting_is_exact, nothing_is_forgotten_yet,
     what_is_left_has_the_worlds_of_the_whole, what_is_left_tells_of_the_whole,
     what_lies_behind_the_last_copy_is_forgotten,
 };

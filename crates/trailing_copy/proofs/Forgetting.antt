@@ -10,17 +10,19 @@ use Rattle.game_trait.specs.declared.command.Item.TheVariants.{Cmd, Beat}
 use Rattle.game_trait.specs.Game.{Rules}
 use Rattle.game_trait.specs.Run.{beats, world_of, IsPrefix}
 use Rattle.game_trait.specs.Ordered.{ordered}
-use Rattle.game_trait.specs.Later.{AreTimeBlind, left_commands, earlier_item}
+use Rattle.game_trait.specs.Later.{left_commands, earlier_item}
+use Rattle.game_trait.specs.Shifted.{ShiftedWorld, shifted, passed}
+use Rattle.game_trait.proofs.Shifts.{passed-world}
 use Rattle.game_trait.proofs.Later.{left-fewer, earlier-later}
 use Rattle.game_trait.proofs.Runs.{world_of-append}
 use Rattle.game_trait.proofs.Lists.{all-at, all-to_map, all-both}
 use Rattle.sync_model.specs.Lists.{last_of}
 use Rattle.sync_model.specs.State.{last_clock}
-use Rattle.sync_model.specs.Staggered.{IsTrailing}
+use Rattle.sync_model.specs.Staggered.{IsComplete, IsTrailing}
 use Rattle.sync_model.specs.Forgetting.{left_run}
 use Rattle.sync_model.proofs.Lists.{last_of-at}
 use Rattle.sync_model.proofs.Forgetting.{ordered-left}
-use Rattle.sync_model.proofs.Forgotten.{all-begin, left-of, beats-left}
+use Rattle.sync_model.proofs.Forgotten.{all-begin, last-all, left-of, beats-left, behind-the-last}
 use Rattle.executed_list.specs.Segments.{OneList, Falls, end_of, last_end, runs_at, clocks_at, run_forgotten}
 use Rattle.trailing_copy.specs.Stack.{IsStack, IsSettled, LazyCopies, forgotten_copies}
 use Rattle.trailing_copy.proofs.Ahead.{falls-between}
@@ -64,35 +66,32 @@ last-read (x ∷ xs) d some =
 
 -- ---- worlds
 
--- rules that look at no time make of earlier items what they make of these
-world_of-earlier :
-    {W : Type 0} (rules : Rules W) → AreTimeBlind rules → (k : ℕ) (w : W) (run : List Item)
-    → world_of rules w (map (earlier_item k) run) ≡ world_of rules w run
-unfolding world_of earlier_item
-world_of-earlier rules blind k w [] = refl
-world_of-earlier rules blind k w (Cmd x ∷ run) =
-    ap (λ v. world_of rules v (map (earlier_item k) run)) (blind w x (x.time - k)) ∙ world_of-earlier rules blind k (rules.apply w x) run
-world_of-earlier rules blind k w (Beat ∷ run) = world_of-earlier rules blind k (rules.beat w) run
-
--- the world of what is left of a run, from the world of the last one
+-- the world of what is left of a run, from the world of the last one; each command in it is due at the
+-- last one's clock or later
 world-left :
-    {W : Type 0} (rules : Rules W) (opening : W) (k : ℕ) (last run : List Item) → AreTimeBlind rules → IsPrefix last run
-    → world_of rules opening run ≡ world_of rules (world_of rules opening last) (left_run k (length last) run)
-world-left rules opening k last run blind begins =
-    ap (world_of rules opening) begins.1
-    ∙ world_of-append rules opening last begins.0
-    ∙ sym (world_of-earlier rules blind k (world_of rules opening last) begins.0)
-    ∙ ap (world_of rules (world_of rules opening last)) (sym (left-of k last run begins))
+    {W : Type 0} (rules : Rules W) (opening : ShiftedWorld W) (accepted : List Command) (last run : List Item)
+    → IsComplete accepted last → IsComplete accepted run → IsPrefix last run
+    → passed (beats last) (world_of (shifted rules) opening run)
+    ≡ world_of (shifted rules) (passed (beats last) (world_of (shifted rules) opening last)) (left_run (beats last) (length last) run)
+world-left rules opening accepted last run complete_last complete begins =
+    let k = beats last in
+    let now = world_of (shifted rules) opening last in
+    ap (passed k) (ap (world_of (shifted rules) opening) begins.1 ∙ world_of-append (shifted rules) opening last begins.0)
+    ∙ sym (passed-world rules k now begins.0 (behind-the-last accepted last run begins.0 begins.1 complete_last complete))
+    ∙ ap (world_of (shifted rules) (passed k now)) (sym (left-of k last run begins))
 
 worlds-left :
-    {W : Type 0} (rules : Rules W) (opening : W) (k : ℕ) (last : List Item) → AreTimeBlind rules
-    → (runs : List (List Item)) → AllByRecursion (λ q. IsPrefix last q) runs
-    → map (world_of rules opening) runs ≡ map (world_of rules (world_of rules opening last)) (map (left_run k (length last)) runs)
-worlds-left rules opening k last blind [] begin = refl
-worlds-left {W} rules opening k last blind (r ∷ runs) begin =
-    ap (λ (w : W). w ∷ map (world_of rules opening) runs) (world-left rules opening k last r blind begin.0)
-    ∙ ap (λ (l : List W). world_of rules (world_of rules opening last) (left_run k (length last) r) ∷ l)
-    (worlds-left rules opening k last blind runs begin.1)
+    {W : Type 0} (rules : Rules W) (opening : ShiftedWorld W) (accepted : List Command) (last : List Item)
+    → IsComplete accepted last
+    → (runs : List (List Item)) → AllByRecursion (IsComplete accepted) runs → AllByRecursion (λ q. IsPrefix last q) runs
+    → map (passed (beats last)) (map (world_of (shifted rules) opening) runs)
+    ≡ map (world_of (shifted rules) (passed (beats last) (world_of (shifted rules) opening last))) (map (left_run (beats last) (length last)) runs)
+worlds-left rules opening accepted last complete_last [] complete begin = refl
+worlds-left {W} rules opening accepted last complete_last (r ∷ runs) complete begin =
+    ap (λ (w : ShiftedWorld W). w ∷ map (passed (beats last)) (map (world_of (shifted rules) opening) runs))
+    (world-left rules opening accepted last r complete_last complete.0 begin.0)
+    ∙ ap (λ (l : List (ShiftedWorld W)). world_of (shifted rules) (passed (beats last) (world_of (shifted rules) opening last)) (left_run (beats last) (length last) r) ∷ l)
+    (worlds-left rules opening accepted last complete_last runs complete.1 begin.1)
 
 -- ---- the copies
 
@@ -104,16 +103,16 @@ abbrev pub list_left : OneList → OneList
 list_left s = run_forgotten s (length (last_of [] (runs_at s.items s.ends))) (last_clock (runs_at s.items s.ends))
 
 -- the last copy's clock, the clock and the end that the list reads of it, and its world
-pub record IsLast {W : Type 0} (rules : Rules W) (opening : W) (runs : List (List Item)) (t b n : ℕ) (w : W) :
+pub record IsLast {W : Type 0} (rules : Rules W) (opening : ShiftedWorld W) (runs : List (List Item)) (t b n : ℕ) (w : ShiftedWorld W) :
     Type 0 where
   pub clock : t ≡ last_clock runs
   pub told : b ≡ last_clock runs
   pub end : n ≡ length (last_of [] runs)
-  pub world : w ≡ world_of rules opening (last_of [] runs)
+  pub world : w ≡ passed (last_clock runs) (world_of (shifted rules) opening (last_of [] runs))
 
-module _ {W : Type 0} {rules : Rules W} {opening : W} {ticks : ℕ} {all : List Command} {spare : ℕ}
-    {s : OneList} {worlds : List W} {clocks : List ℕ} {stale : ℕ}
-    (h : IsStack rules opening ticks all spare s worlds clocks stale) (falls : Falls s.ends)
+module _ {W : Type 0} (rules : Rules W) {opening : ShiftedWorld W} {ticks : ℕ} {all : List Command} {spare : ℕ}
+    {s : OneList} {worlds : List (ShiftedWorld W)} {clocks : List ℕ} {stale : ℕ}
+    (h : IsStack (shifted rules) opening ticks all spare s worlds clocks stale) (falls : Falls s.ends)
     (first : end_of s.ends 0 ≡ length s.items) where
   some : 0 < length s.ends
   some = (let few = h.few_stale in omega arith)
@@ -170,17 +169,18 @@ module _ {W : Type 0} {rules : Rules W} {opening : W} {ticks : ℕ} {all : List 
       (λ r within begins. (let parts = beats-left (beats last) last r begins in omega arith)) (within-kept h) begin))
 
   pub forgotten-kept :
-      AreTimeBlind rules
-      → IsStack rules (world_of rules opening (last_of [] (runs_at s.items s.ends))) ticks
+      IsStack (shifted rules) (passed (last_clock (runs_at s.items s.ends)) (world_of (shifted rules) opening (last_of [] (runs_at s.items s.ends)))) ticks
       (left_commands (last_clock (runs_at s.items s.ends)) all)
       (spare + (length all - length (left_commands (last_clock (runs_at s.items s.ends)) all)))
-      (list_left s) worlds (map beats (runs_left (runs_at s.items s.ends))) stale
-  forgotten-kept blind =
+      (list_left s) (map (passed (last_clock (runs_at s.items s.ends))) worlds) (map beats (runs_left (runs_at s.items s.ends))) stale
+  forgotten-kept =
       let runs = runs_at s.items s.ends in
       let last = last_of [] runs in
       let k = beats last in
       let n = length last in
-      let now = world_of rules opening last in
+      let now = passed k (world_of (shifted rules) opening last) in
+      let complete = h.trailing.complete in
+      let many_worlds = length-map worlds (passed k) in
       let one = some in
       let many = run-many h falls first in
       let many_ends = length-map s.ends (λ (e : ℕ). e - n) in
@@ -198,11 +198,12 @@ module _ {W : Type 0} {rules : Rules W} {opening : W} {ticks : ℕ} {all : List 
         clocks_are = ap (map beats) (sym forgotten-runs);
         as_many_worlds = omega arith;
         worlds_are =
-            h.worlds_are
-            ∙ sym (drop-map (world_of rules opening) stale runs)
-            ∙ ap (drop stale) (worlds-left rules opening k last blind runs begin)
-            ∙ drop-map (world_of rules now) stale (map (left_run k n) runs)
-            ∙ ap (λ (l : List (List Item)). map (world_of rules now) (drop stale l)) (sym forgotten-runs);
+            drop-map (passed k) stale worlds
+            ∙ ap (map (passed k)) (h.worlds_are ∙ sym (drop-map (world_of (shifted rules) opening) stale runs))
+            ∙ sym (drop-map (passed k) stale (map (world_of (shifted rules) opening) runs))
+            ∙ ap (drop stale) (worlds-left rules opening all last (last-all (IsComplete all) runs (omega arith) complete) runs complete begin)
+            ∙ drop-map (world_of (shifted rules) now) stale (map (left_run k n) runs)
+            ∙ ap (λ (l : List (List Item)). map (world_of (shifted rules) now) (drop stale l)) (sym forgotten-runs);
         few_stale = omega arith;
         within = within-left;
         few_copies = omega arith;
@@ -242,32 +243,36 @@ module _ {W : Type 0} {rules : Rules W} {opening : W} {ticks : ℕ} {all : List 
 
   -- as they are read
   pub last-is :
-      (c t : ℕ) (w : W) → c ≡ length s.ends - 1 → t ≡ beats (take (end_of s.ends c) s.items) → w ≡ get_or worlds c w
+      (c t : ℕ) (w d : ShiftedWorld W) → c ≡ length s.ends - 1 → t ≡ beats (take (end_of s.ends c) s.items) → w ≡ get_or (map (passed t) worlds) c d
       → IsLast rules opening (runs_at s.items s.ends) t (beats (take (last_end s.ends) s.items)) (last_end s.ends) w
-  last-is c t w last at_clock at_world =
+  last-is c t w d last at_clock at_world =
       let few = h.few_stale in
+      let worlds_many = h.as_many_worlds in
+      let now : t ≡ last_clock (runs_at s.items s.ends) = at_clock ∙ ap (λ (i : ℕ). beats (take (end_of s.ends i) s.items)) last ∙ ap beats (sym last-run) in
       record {
-        clock = at_clock ∙ ap (λ (i : ℕ). beats (take (end_of s.ends i) s.items)) last ∙ ap beats (sym last-run);
+        clock = now;
         told = ap beats (sym last-run);
         end = sym last-length;
         world =
             at_world
-            ∙ world-at h falls first c w (omega arith) (omega arith)
-            ∙ ap (λ (i : ℕ). world_of rules opening (take (end_of s.ends i) s.items)) last
-            ∙ ap (world_of rules opening) (sym last-run);
+            ∙ get_or-map (passed t) worlds c opening d (omega arith)
+            ∙ ap (passed t) (world-at h falls first c opening (omega arith) (omega arith)
+            ∙ ap (λ (i : ℕ). world_of (shifted rules) opening (take (end_of s.ends i) s.items)) last
+            ∙ ap (world_of (shifted rules) opening) (sym last-run))
+            ∙ ap (λ (k : ℕ). passed k (world_of (shifted rules) opening (last_of [] (runs_at s.items s.ends)))) now;
       }
 
-  module _ {t b n : ℕ} {w : W} (last : IsLast rules opening (runs_at s.items s.ends) t b n w) where
+  module _ {t b n : ℕ} {w : ShiftedWorld W} (last : IsLast rules opening (runs_at s.items s.ends) t b n w) where
     pub forgotten :
-        (m : ℕ) → AreTimeBlind rules → IsSettled all s clocks m
-        → IsStack rules w ticks (left_commands t all) (spare + (length all - length (left_commands t all)))
-        (run_forgotten s n b) worlds (clocks_at (run_forgotten s n b).items (run_forgotten s n b).ends) stale
+        (m : ℕ) → IsSettled all s clocks m
+        → IsStack (shifted rules) w ticks (left_commands t all) (spare + (length all - length (left_commands t all)))
+        (run_forgotten s n b) (map (passed t) worlds) (clocks_at (run_forgotten s n b).items (run_forgotten s n b).ends) stale
         × IsSettled (left_commands t all) (run_forgotten s n b) (clocks_at (run_forgotten s n b).items (run_forgotten s n b).ends) m
-    forgotten m blind settled =
-        rw (last.world, last.clock, last.told, last.end) (kept-own (forgotten-kept blind) (forgotten-settled m settled))
+    forgotten m settled =
+        rw (last.world, last.clock, last.told, last.end) (kept-own forgotten-kept (forgotten-settled m settled))
 
     pub forgotten-state :
-        Path (LazyCopies W)
+        Path (LazyCopies (ShiftedWorld W))
         (record {
           opening = w;
           ticks = ticks;
@@ -286,7 +291,7 @@ module _ {W : Type 0} {rules : Rules W} {opening : W} {ticks : ℕ} {all : List 
         }))
     forgotten-state =
         rw (last.world, last.clock, last.told, last.end)
-        (same-state (world_of rules opening (last_of [] (runs_at s.items s.ends))) ticks
+        (same-state (passed (last_clock (runs_at s.items s.ends)) (world_of (shifted rules) opening (last_of [] (runs_at s.items s.ends)))) ticks
         (left_commands (last_clock (runs_at s.items s.ends)) all)
         (spare + (length all - length (left_commands (last_clock (runs_at s.items s.ends)) all))) stale
         (runs_at (list_left s).items (list_left s).ends) (runs_left (runs_at s.items s.ends)) forgotten-runs)

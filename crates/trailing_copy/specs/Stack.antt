@@ -12,6 +12,7 @@ use Rattle.sync_model.specs.Lists.{last_of}
 use Rattle.sync_model.specs.State.{last_clock}
 use Rattle.sync_model.specs.Staggered.{IsTrailing}
 use Rattle.game_trait.specs.Later.{left_commands}
+use Rattle.game_trait.specs.Shifted.{ShiftedWorld, shifted, passed}
 use Rattle.sync_model.specs.Forgetting.{left_run}
 use Rattle.executed_list.specs.Segments.{OneList, runs_at, end_of}
 
@@ -37,9 +38,10 @@ pub record LazyCopies (W : Type 0) : Type 0 where
 -- copies that forget the run of the last one: its world is the opening, and of the commands and of the
 -- other runs there is left what comes after it, its times told from the last copy's clock on; there is
 -- room for as many commands more as were forgotten
-abbrev pub forgotten_copies : {W : Type 0} → Rules W → LazyCopies W → LazyCopies W
+abbrev pub forgotten_copies :
+    {W : Type 0} → Rules W → LazyCopies (ShiftedWorld W) → LazyCopies (ShiftedWorld W)
 forgotten_copies rules s = record s {
-  opening = world_of rules s.opening (last_of [] s.runs);
+  opening = passed (last_clock s.runs) (world_of (shifted rules) s.opening (last_of [] s.runs));
   accepted = left_commands (last_clock s.runs) s.accepted;
   runs = map (left_run (last_clock s.runs) (length (last_of [] s.runs))) s.runs;
   spare = s.spare + (length s.accepted - length (left_commands (last_clock s.runs) s.accepted));

@@ -6,11 +6,13 @@ use Rattle.tss_io.specs.Lines.{as_line, lines_of}
 use Rattle.tss_io.specs.Streams.{Rose, Yields}
 use Rattle.line_talk.specs.declared.course.TalkFault.{TalkFault}
 use Rattle.line_talk.specs.declared.course.TalkFault.TheVariants as faults
-use Rattle.line_talk.specs.Hearing.{Answering, Hearing, fresh, IsFrontOf}
+use Rattle.game_trait.specs.Run.{IsPrefix}
+use Rattle.line_talk.specs.Hearing.{Answering, Hearing, fresh}
 use Rattle.line_talk.specs.Talk.{HeardTorn, IsTorn, IsOpening, IsAnswered, IsPast, IsBrokenWhole, IsUnheard}
 use Rattle.line_talk.proofs.FrontLaws.{front-is_head, torn-no_head, front-unheard}
-use Rattle.live_mirror.specs.declared.fed.Fed.{Fed}
-use Rattle.endless_mirror.specs.Head.{first_line}
+use Rattle.live_talk.specs.declared.fed.Fed.{Fed}
+use Rattle.live_talk.specs.Staging.{Staging}
+use Rattle.endless_mirror.specs.Way.{first_line}
 use Rattle.tss_mirror.specs.declared.done.Status.{Status}
 use Rattle.tss_mirror.specs.declared.done.Status.TheVariants.{Refusal, ReadFault}
 use Rattle.tss_mirror.specs.Run.{Side, too_long_text, status_at, status_of, EndsAs, answered, past, unheard, untold, no_memory, IsEndless, EndsMatch, EndsSession, EndsTalk}
@@ -84,11 +86,11 @@ unfolding lines_of
 one-line = refl
 
 -- the front is the head
-pub heads : (front bytes : List ℕ) → true ≡ bytes_eq front (as_line first_line) → IsFrontOf front bytes → IsEndless bytes
+pub heads : (front bytes : List ℕ) → true ≡ bytes_eq front (as_line first_line) → IsPrefix front bytes → IsEndless bytes
 heads front bytes same f = (f.0, f.1 ∙ ap (λ (l : List ℕ). l ++ f.0) ((bytes_eq-Decides front (as_line first_line)).0 (sym same)))
 
 -- it isn't
-pub heads-not : (front bytes : List ℕ) → false ≡ bytes_eq front (as_line first_line) → IsOpening front → IsFrontOf front bytes → IsEndless bytes → ⊥
+pub heads-not : (front bytes : List ℕ) → false ≡ bytes_eq front (as_line first_line) → IsOpening front → IsPrefix front bytes → IsEndless bytes → ⊥
 heads-not front bytes other opening f endless =
     let same = front-is_head first_line front bytes one-line (omega arith) opening f endless in
     let no : false ≡ true = other ∙ (bytes_eq-Decides front (as_line first_line)).1 same in
@@ -101,7 +103,7 @@ torn-not bytes is endless = torn-no_head first_line bytes one-line is endless
 -- ---- a text that doesn't begin with the head
 
 -- what stands in front of what was heard stands in front of all that there was to hear
-heard-before : (left new : Option (List ℕ)) (bytes heard : List ℕ) → left ≡ Some bytes → Yields left heard new → IsFrontOf heard bytes
+heard-before : (left new : Option (List ℕ)) (bytes heard : List ℕ) → left ≡ Some bytes → Yields left heard new → IsPrefix heard bytes
 heard-before (Some old) (Some new) bytes heard is yields = (new, subst (λ (o : Option (List ℕ)). IfSome o (λ l. l ≡ heard ++ new)) is yields)
 heard-before (Some old) None bytes heard is yields = absurd yields
 heard-before None new bytes heard is yields = absurd cc
@@ -111,16 +113,16 @@ not-endless left new bytes heard is other yields front =
     let whole = heard-before left new bytes heard is yields in
     other (front.0 ++ whole.0, whole.1 ∙ ap (λ (l : List ℕ). l ++ whole.0) front.1 ∙ append_assoc (as_line first_line) front.0 whole.0)
 
-never-session : (number : ℕ) (old new : Side) (status : Status) (bytes : List ℕ) → old.shown.left ≡ Some bytes → (IsEndless bytes → ⊥) → EndsSession number old new status → ⊥
-never-session number old new status bytes is other (answered last talk such ends steady) = not-endless _ _ bytes _ is other talk.talk.passed.left such
-never-session number old new status bytes is other (past talk such ends steady) = not-endless _ _ bytes _ is other talk.talk.passed.left such
-never-session number old new status bytes is other (unheard talk such ends rose) = not-endless _ _ bytes _ is other talk.talk.passed.left such
-never-session number old new status bytes is other (untold talk such ends rose) = not-endless _ _ bytes _ is other talk.talk.passed.left such
-never-session number old new status bytes is other (no_memory talk such ends) = not-endless _ _ bytes _ is other talk.talk.passed.left such
+never-session : {W : Type 0} (g : Staging W) (number : ℕ) (old new : Side) (status : Status) (bytes : List ℕ) → old.shown.left ≡ Some bytes → (IsEndless bytes → ⊥) → EndsSession g number old new status → ⊥
+never-session g number old new status bytes is other (answered last talk such ends steady) = not-endless _ _ bytes _ is other talk.talk.passed.left such
+never-session g number old new status bytes is other (past talk such ends steady) = not-endless _ _ bytes _ is other talk.talk.passed.left such
+never-session g number old new status bytes is other (unheard talk such ends rose) = not-endless _ _ bytes _ is other talk.talk.passed.left such
+never-session g number old new status bytes is other (untold talk such ends rose) = not-endless _ _ bytes _ is other talk.talk.passed.left such
+never-session g number old new status bytes is other (no_memory talk such ends) = not-endless _ _ bytes _ is other talk.talk.passed.left such
 
-pub match-heard : (number : ℕ) (old new : Side) (status : Status) (bytes : List ℕ) → old.shown.left ≡ Some bytes → (IsEndless bytes → ⊥) → EndsTalk number old new status → EndsMatch number old new status
-match-heard number old new status bytes is other (inl ends) = ends
-match-heard number old new status bytes is other (inr ends) = absurd (never-session number old new status bytes is other ends)
+pub match-heard : {W : Type 0} (g : Staging W) (number : ℕ) (old new : Side) (status : Status) (bytes : List ℕ) → old.shown.left ≡ Some bytes → (IsEndless bytes → ⊥) → EndsTalk g number old new status → EndsMatch g number old new status
+match-heard g number old new status bytes is other (inl ends) = ends
+match-heard g number old new status bytes is other (inr ends) = absurd (never-session g number old new status bytes is other ends)
 
 -- ---- a text that does, of which all was heard
 
@@ -132,14 +134,14 @@ heard-all left new bytes heard is none yields =
 is-endless : (left new : Option (List ℕ)) (bytes heard : List ℕ) → left ≡ Some bytes → new ≡ Some [] → IsEndless bytes → Yields left heard new → IsEndless heard
 is-endless left new bytes heard is none endless yields = subst (λ (l : List ℕ). IsEndless l) (heard-all left new bytes heard is none yields) endless
 
-never-match : (number : ℕ) (old new : Side) (status : Status) (bytes : List ℕ) → old.shown.left ≡ Some bytes → new.shown.left ≡ Some [] → IsEndless bytes → EndsMatch number old new status → ⊥
-never-match number old new status bytes is none endless (answered last talk such ends steady) = such (is-endless _ _ bytes _ is none endless talk.talk.passed.left)
-never-match number old new status bytes is none endless (past talk such ends steady) = such (is-endless _ _ bytes _ is none endless talk.talk.passed.left)
-never-match number old new status bytes is none endless (unheard talk such ends rose) = such (is-endless _ _ bytes _ is none endless talk.talk.passed.left)
-never-match number old new status bytes is none endless (untold talk such ends rose) = such (is-endless _ _ bytes _ is none endless talk.talk.passed.left)
-never-match number old new status bytes is none endless (no_memory talk such ends) = such (is-endless _ _ bytes _ is none endless talk.talk.passed.left)
+never-match : {W : Type 0} (g : Staging W) (number : ℕ) (old new : Side) (status : Status) (bytes : List ℕ) → old.shown.left ≡ Some bytes → new.shown.left ≡ Some [] → IsEndless bytes → EndsMatch g number old new status → ⊥
+never-match g number old new status bytes is none endless (answered last talk such ends steady) = such (is-endless _ _ bytes _ is none endless talk.talk.passed.left)
+never-match g number old new status bytes is none endless (past talk such ends steady) = such (is-endless _ _ bytes _ is none endless talk.talk.passed.left)
+never-match g number old new status bytes is none endless (unheard talk such ends rose) = such (is-endless _ _ bytes _ is none endless talk.talk.passed.left)
+never-match g number old new status bytes is none endless (untold talk such ends rose) = such (is-endless _ _ bytes _ is none endless talk.talk.passed.left)
+never-match g number old new status bytes is none endless (no_memory talk such ends) = such (is-endless _ _ bytes _ is none endless talk.talk.passed.left)
 
-pub session-heard : (number : ℕ) (old new : Side) (status : Status) (bytes : List ℕ) → old.shown.left ≡ Some bytes → new.shown.left ≡ Some [] → IsEndless bytes → EndsTalk number old new status
-    → EndsSession number old new status
-session-heard number old new status bytes is none endless (inl ends) = absurd (never-match number old new status bytes is none endless ends)
-session-heard number old new status bytes is none endless (inr ends) = ends
+pub session-heard : {W : Type 0} (g : Staging W) (number : ℕ) (old new : Side) (status : Status) (bytes : List ℕ) → old.shown.left ≡ Some bytes → new.shown.left ≡ Some [] → IsEndless bytes → EndsTalk g number old new status
+    → EndsSession g number old new status
+session-heard g number old new status bytes is none endless (inl ends) = absurd (never-match g number old new status bytes is none endless ends)
+session-heard g number old new status bytes is none endless (inr ends) = ends

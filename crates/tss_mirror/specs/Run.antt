@@ -1,20 +1,24 @@
 -- How a run of the program may end.
-use Rattle.std.specs.Prelude.{◌≡◌, ◌==◌, ◌⊎◌, ◌++◌, ℕ, List, Option, Some, None, codes, if◌then◌else◌}
+use Rattle.std.specs.Prelude.{◌≡◌, ◌⊎◌, ◌++◌, ℕ, List, Option, Some, None, codes}
 use Rattle.tss_io.specs.Lines.{as_line}
 use Rattle.tss_io.specs.Streams.{Rose}
 use Rattle.tss_io.specs.declared.cause.Cause.TheVariants.{Long}
 use Rattle.tss_io.specs.Reading.{refused_at}
 use Rattle.report_text.specs.Ends.{refused_text}
-use Rattle.line_talk.specs.Hearing.{Answering, Hearing, fresh, IsFrontOf}
+use Rattle.game_trait.specs.Run.{IsPrefix}
+use Rattle.line_talk.specs.Hearing.{Answering, Hearing, fresh}
 use Rattle.line_talk.specs.declared.said.Said.{Said}
 use Rattle.line_talk.specs.Talk.{Notes, Shown, TellsAll, TellsFront, IsAnswered, IsPast, IsBrokenWhole, IsUnheard}
 use Rattle.line_talk.specs.declared.course.TalkFault.{TalkFault}
 use Rattle.line_talk.specs.declared.course.TalkFault.TheVariants as faults
-use Rattle.live_mirror.specs.declared.fed.Fed.{Fed}
-use Rattle.live_mirror.specs.declared.fed.Fed.TheVariants.{Goes, Refused, Ended}
-use Rattle.live_mirror.specs.Live.{opening_live, live_way, fed_at}
-use Rattle.endless_mirror.specs.Head.{first_line}
-use Rattle.endless_mirror.specs.Line.{opening_endless, endless_way, fed_at as endless_fed_at}
+use Rattle.live_talk.specs.declared.fed.Fed.{Fed}
+use Rattle.live_talk.specs.declared.fed.Fed.TheVariants.{Goes, Refused, Ended}
+use Rattle.live_talk.specs.Head.{opening_headed, fed_at}
+use Rattle.live_talk.specs.Staging.{Staging}
+use Rattle.live_talk.specs.Talked.{talk_way}
+use Rattle.live_mirror.specs.Way.{session_asking, live_way}
+use Rattle.endless_mirror.specs.Way.{first_line, session_asking as endless_asking, endless_way}
+use Rattle.tss_words.specs.Ending.{failure_line as ending_line}
 use Rattle.tss_mirror.specs.declared.done.Status.{Status}
 use Rattle.tss_mirror.specs.declared.done.Status.TheVariants.{Complete, NoMemory, WrongWords, ReadFault, WriteFault, Refusal}
 use Rattle.tss_mirror.specs.declared.talking.TheConstants.{LONGEST_INPUT, LONGEST_SESSION}
@@ -29,13 +33,9 @@ code ReadFault = 3
 code WriteFault = 4
 code Refusal = 5
 
--- what failed, in words, by the exit status
-abbrev pub failure_at : ℕ → Option (List ℕ)
-failure_at status =
-    if status == 1 then Some (codes "out of memory")
-    else if status == 3 then Some (codes "reading standard input failed")
-    else if status == 4 then Some (codes "writing standard output failed")
-    else None
+-- the line that says what failed, by the exit status
+abbrev pub failure_line : ℕ → Option (List ℕ)
+failure_line status = ending_line (codes "tss_mirror: ") status
 
 -- what is seen of a peer: what is left to be heard and what was said, and how many calls failed
 pub record Side : Type 0 where
@@ -95,25 +95,25 @@ pub data EndsAs {S : Type 0} (way : Answering S) (start : S) (fed : S → Fed) (
 
 -- the first line of a text is `tss live 2`
 abbrev pub IsEndless : List ℕ → Type 0
-IsEndless bytes = IsFrontOf (as_line first_line) bytes
+IsEndless bytes = IsPrefix (as_line first_line) bytes
 
 -- how a talk of the mirror of this number may end, where what was heard doesn't begin so: as one of a
 -- live mirror of a match
-abbrev pub EndsMatch : ℕ → Side → Side → Status → Type 0
-EndsMatch number old new status =
-    EndsAs live_way (opening_live number) (λ s. fed_at s.place) LONGEST_INPUT
+abbrev pub EndsMatch : {W : Type 0} → Staging W → ℕ → Side → Side → Status → Type 0
+EndsMatch g number old new status =
+    EndsAs (live_way g) (opening_headed number) (λ s. fed_at (talk_way (session_asking g)) s.place) LONGEST_INPUT
     (λ bytes. IsEndless bytes → ⊥) old new status
 
 -- and where it does: as one of a mirror of a session without an end
-abbrev pub EndsSession : ℕ → Side → Side → Status → Type 0
-EndsSession number old new status =
-    EndsAs endless_way (opening_endless number) (λ s. endless_fed_at s.place) LONGEST_SESSION
-    IsEndless old new status
+abbrev pub EndsSession : {W : Type 0} → Staging W → ℕ → Side → Side → Status → Type 0
+EndsSession g number old new status =
+    EndsAs (endless_way g) (opening_headed number) (λ s. fed_at (talk_way (endless_asking g)) s.place)
+    LONGEST_SESSION IsEndless old new status
 
 -- how it may end
-abbrev pub EndsTalk : ℕ → Side → Side → Status → Type 0
-EndsTalk number old new status =
-    EndsMatch number old new status ⊎ EndsSession number old new status
+abbrev pub EndsTalk : {W : Type 0} → Staging W → ℕ → Side → Side → Status → Type 0
+EndsTalk g number old new status =
+    EndsMatch g number old new status ⊎ EndsSession g number old new status
 
 -- ---- words that name no mirror
 
@@ -130,11 +130,11 @@ pub data EndsUsage (old new : Side) (status : Status) : Type 0 where
 -- ---- a run
 
 -- by what its words name
-abbrev pub EndsBy : Option ℕ → Side → Side → Status → Type 0
-EndsBy None old new status = EndsUsage old new status
-EndsBy (Some number) old new status = EndsTalk number old new status
+abbrev pub EndsBy : {W : Type 0} → Staging W → Option ℕ → Side → Side → Status → Type 0
+EndsBy g None old new status = EndsUsage old new status
+EndsBy g (Some number) old new status = EndsTalk g number old new status
 
--- a run of the program on these words: it ends so, with the exit status of that
-abbrev pub IsRun : List (List ℕ) → Side → Side → ℕ → Type 0
-IsRun words old new exit =
-    (status : Status) × (exit ≡ code status) × EndsBy (mirror_of words) old new status
+-- a run of the program with this game on these words: it ends so, with the exit status of that
+abbrev pub IsRun : {W : Type 0} → Staging W → List (List ℕ) → Side → Side → ℕ → Type 0
+IsRun g words old new exit =
+    (status : Status) × (exit ≡ code status) × EndsBy g (mirror_of words) old new status

@@ -2,9 +2,12 @@
 
 ghost use Rattle.std.specs.Prelude.{◌≡◌, option_map};
 ghost use Rattle.std.specs.Process.{exit_status};
-ghost use Rattle.tss_mirror.specs.Run.{code, failure_at};
+ghost use Rattle.tss_words.specs.Ending.{taken, Says};
+ghost use Rattle.tss_mirror.specs.Run.{code, failure_line};
 
 use std::process::ExitCode;
+use tss_io::Sink;
+use tss_words::say;
 
 /// How the program ends; `as u8` gives the exit status.
 #[derive(Clone, Copy, Debug, PartialEq, Eq)]
@@ -30,6 +33,18 @@ pub struct Done {
     pub status: u8,
 }
 
+// The line that says what failed, where a run that ended with this status says so.
+pub(crate) fn failure_line(status: u8) -> Option<&'static str>
+    ensures { option_map (λ line. line.now) result ≡ failure_line status }
+{
+    match status {
+        1 => Some("tss_mirror: out of memory\n"),
+        3 => Some("tss_mirror: reading standard input failed\n"),
+        4 => Some("tss_mirror: writing standard output failed\n"),
+        _ => None,
+    }
+}
+
 impl Done {
     /// A run that ended so.
     pub fn of(status: Status) -> Done
@@ -40,22 +55,16 @@ impl Done {
         }
     }
 
-    /// What the process ends with.
-    pub fn exit_code(&self) -> ExitCode
-        ensures { exit_status result ≡ self.now.status }
+    /// Ends the process behind a run: puts the line that says what failed to standard error, which
+    /// is memory at status 1, reading at 3 and writing at 4, and nothing elsewhere; and gives the
+    /// exit code, which is the status. Where that put fails too, a front of the line was put, and
+    /// the exit code still tells.
+    pub fn finish<K: Sink>(self, errors: &mut K) -> ExitCode
+        ensures code { exit_status result ≡ self.status }
+        ensures said { Says (taken K.taken K.faults) (failure_line self.status) errors.old
+            errors.new }
     {
+        say(errors, failure_line(self.status));
         ExitCode::from(self.status)
-    }
-
-    /// What failed, in words: memory at status 1, reading at 3, writing at 4, and nothing elsewhere.
-    pub fn failure(&self) -> Option<&'static str>
-        ensures { option_map (λ words. words.now) result ≡ failure_at self.now.status }
-    {
-        match self.status {
-            1 => Some("out of memory"),
-            3 => Some("reading standard input failed"),
-            4 => Some("writing standard output failed"),
-            _ => None,
-        }
     }
 }

@@ -6,7 +6,6 @@ mod done;
 pub mod laws;
 mod live;
 mod memory;
-mod standing;
 mod streams;
 mod talking;
 #[cfg(test)]
@@ -16,11 +15,13 @@ mod words;
 use crate::done::{Done, Status};
 use crate::live::live;
 use crate::streams::StreamPeer;
+use arena_rules::Arena;
 use std::alloc::Global;
 use std::process::ExitCode;
 use std::rt::Env;
 use std::{env, io};
 use tss_base::NoMemory;
+use tss_io::StdSink;
 use tss_words::words_behind;
 
 // The program's own name and the words behind it, as the system tells them.
@@ -33,12 +34,8 @@ fn main(rt: HostRuntime) -> ExitCode {
     let arguments = arguments(&rt);
     let mut peer = StreamPeer::new(rt.stdin(), rt.stdout());
     let done = match words_behind(&arguments) {
-        Ok(words) => live(alloc, words, &mut peer),
+        Ok(words) => live::<Arena, _>(alloc, words, &mut peer),
         Err(NoMemory) => Done::of(Status::NoMemory),
     };
-    if let Some(failure) = done.failure() {
-        // Where standard error fails too, the exit code still tells.
-        let _ = eprintln!(rt; "tss_mirror: {failure}");
-    }
-    done.exit_code()
+    done.finish(&mut StdSink::new(rt.stderr()))
 }

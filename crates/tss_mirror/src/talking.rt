@@ -1,17 +1,19 @@
 //! The talk of a mirror with its peer.
 
 ghost use Rattle.std.specs.Prelude.{◌≡◌, ◌≤◌, [], ℕ, length, IfSome};
-ghost use Rattle.line_talk.specs.Hearing.{IsFrontOf};
+ghost use Rattle.game_trait.specs.Run.{IsPrefix};
 ghost use Rattle.line_talk.specs.Talk.{shown, HeardFront};
+ghost use Rattle.live_talk.specs.Head.{headed_way, fed_at};
+ghost use Rattle.live_talk.specs.Staging.{staging};
 ghost use Rattle.tss_mirror.specs.Run.{Side, side, too_long_text, status_at, status_of, EndsAs, EndsTalk};
 
 use crate::done::Status;
-use crate::standing::Standing;
 use arrayvec::ArrayString;
-use endless_mirror::EndlessLine;
+use endless_mirror::EndlessSession;
 use game_trait::MirrorId;
 use line_talk::{Ear, Peer, TalkFault, WholeEnd, close_front, hear_front, talk_whole};
-use live_mirror::{Fed, LineMirror};
+use live_mirror::Session;
+use live_talk::{Begins, Fed, Headed, Opens, Talked};
 use report_text::refusal_text;
 use std::alloc::Global;
 use tss_io::{Cause, Failed, Refused};
@@ -61,9 +63,9 @@ fn too_long() -> ArrayString<64>
 
 // Talks with the peer as this mirror: answers the front that was heard before, and what is heard behind
 // it, at most `limit` bytes with the front's.
-fn talk_with<A: Standing, P: Peer>(
+fn talk_with<S: Opens, P: Peer>(
     alloc: Global,
-    mirror: A,
+    mirror: Headed<S>,
     peer: &mut P,
     front: &[u8],
     limit: usize,
@@ -71,7 +73,7 @@ fn talk_with<A: Standing, P: Peer>(
     requires { length front.now ≤ limit }
     ensures { (old : Side) → HeardFront old.shown (shown P.left P.said peer.old) front.now
         → P.faults peer.old ≡ old.faults
-        → EndsAs A.way mirror A.fed limit (λ bytes. IsFrontOf front.now bytes)
+        → EndsAs (headed_way S.kind S.way) mirror (λ s. fed_at S.way s.place) limit (λ bytes. IsPrefix front.now bytes)
         old (side P.left P.said P.faults peer.new) result }
 {
     let mut ear = Ear::new(mirror);
@@ -86,25 +88,30 @@ fn talk_with<A: Standing, P: Peer>(
         limit,
         too_long().as_bytes(),
     ) {
-        Ok(WholeEnd::Answered) => status_at(ear.answerer().stands()),
+        Ok(WholeEnd::Answered) => status_at(ear.answerer().fed()),
         Ok(WholeEnd::TooLong) => Status::Refusal,
         Err(fault) => status_of(fault),
     }
 }
 
 // Answers as this mirror a peer of which all was heard before.
-fn close_with<A: Standing, P: Peer>(alloc: Global, mirror: A, peer: &mut P, front: &[u8]) -> Status
+fn close_with<S: Opens, P: Peer>(
+    alloc: Global,
+    mirror: Headed<S>,
+    peer: &mut P,
+    front: &[u8],
+) -> Status
     ensures { (old : Side) (limit : ℕ)
         → HeardFront old.shown (shown P.left P.said peer.old) front.now
         → P.faults peer.old ≡ old.faults → IfSome (P.left peer.old) (λ rest. rest ≡ [])
         → length front.now ≤ limit
-        → EndsAs A.way mirror A.fed limit (λ bytes. bytes ≡ front.now)
+        → EndsAs (headed_way S.kind S.way) mirror (λ s. fed_at S.way s.place) limit (λ bytes. bytes ≡ front.now)
         old (side P.left P.said P.faults peer.new) result }
 {
     let mut ear = Ear::new(mirror);
     let mut out = Vec::new(alloc);
     match close_front(&mut ear, peer, front, &mut out) {
-        Ok(_) => status_at(ear.answerer().stands()),
+        Ok(_) => status_at(ear.answerer().fed()),
         Err(fault) => status_of(fault),
     }
 }
@@ -114,8 +121,8 @@ fn close_with<A: Standing, P: Peer>(alloc: Global, mirror: A, peer: &mut P, fron
 /// heard, until none is taken any more or its bytes end; that end is answered too. The mirror of a
 /// match hears at most 1,073,741,824 bytes: where one more comes, that is told. It returns for every
 /// peer.
-pub fn talk_as<P: Peer>(alloc: Global, number: MirrorId, peer: &mut P) -> Status
-    ensures { EndsTalk number (side P.left P.said P.faults peer.old)
+pub fn talk_as<G: Begins, P: Peer>(alloc: Global, number: MirrorId, peer: &mut P) -> Status
+    ensures { EndsTalk (staging G.rules G.lines G.opening) number (side P.left P.said P.faults peer.old)
         (side P.left P.said P.faults peer.new) result }
 {
     let front = match hear_front(peer) {
@@ -124,12 +131,13 @@ pub fn talk_as<P: Peer>(alloc: Global, number: MirrorId, peer: &mut P) -> Status
     };
     let bytes = front.bytes.as_slice();
     if front.is_last {
-        return close_with(alloc, LineMirror::new(alloc, number), peer, bytes);
+        let mirror = Headed::<Talked<Session<G>>>::new(alloc, number);
+        return close_with(alloc, mirror, peer, bytes);
     }
     if bytes == ENDLESS_HEAD {
-        let mirror = EndlessLine::new(alloc, number);
+        let mirror = Headed::<Talked<EndlessSession<G>>>::new(alloc, number);
         return talk_with(alloc, mirror, peer, bytes, LONGEST_SESSION);
     }
-    let mirror = LineMirror::new(alloc, number);
+    let mirror = Headed::<Talked<Session<G>>>::new(alloc, number);
     talk_with(alloc, mirror, peer, bytes, LONGEST_INPUT)
 }

@@ -2,6 +2,7 @@
 
 mod endless;
 mod limits;
+mod painting;
 mod refusals;
 mod rows;
 mod sessions;

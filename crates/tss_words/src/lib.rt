@@ -3,10 +3,12 @@
 
 mod arguments;
 mod asking;
+mod ending;
 pub mod laws;
 mod subcommand;
 mod ticks;
 
 pub use arguments::words_behind;
+pub use ending::say;
 pub use subcommand::{MatchTask, Subcommand};
 pub use ticks::{MOST_LOOKS, Ticks};

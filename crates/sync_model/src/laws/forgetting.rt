@@ -8,8 +8,9 @@ ghost use Rattle.sync_model.specs.State.{MirrorState, copy_clock, delays_of, las
 ghost use Rattle.sync_model.specs.Change.{next, said};
 ghost use Rattle.sync_model.specs.Drafts.{run_of};
 ghost use Rattle.sync_model.specs.Staggered.{IsTrailing};
-ghost use Rattle.game_trait.specs.Later.{AreTimeBlind, later, later_event, later_reply};
-ghost use Rattle.sync_model.specs.Forgetting.{IsLeft, IsRemembered, forgotten};
+ghost use Rattle.game_trait.specs.Later.{later, later_event, later_reply, world_from};
+ghost use Rattle.sync_model.specs.Forgetting.{IsLeft, IsRemembered, forgotten, arrive_from, said_from, at_base, left_at_base};
+ghost use Rattle.game_trait.specs.declared.command.Command.{Command};
 
 use game_trait::Game;
 
@@ -30,22 +31,31 @@ pub fn forgetting_changes_no_answer<G: Game>()
         × (said whole (later_event b e) ≡ later_reply b (said left e)) }
 {}
 
-/// A mirror of whose first ticks some were forgotten may forget all that lies behind its last copy, where
-/// no rule of the game looks at a command's time. Its copies trail as always, and the last one isn't ahead
+/// The same to the match's end, where what is left ends where the whole does.
+pub fn forgetting_changes_no_answer_to_the_end<G: Game>()
+    ensures { (b : ℕ) (whole left : MirrorState G) (e : Event)
+        → IsLeft G.rules b whole left → whole.length ≡ left.length + b
+        → IsRemembered b whole (later_event b e)
+        → IsLeft G.rules b (next whole (later_event b e)) (next left e)
+        × (said whole (later_event b e) ≡ later_reply b (said left e)) }
+{}
+
+/// A mirror of whose first ticks some were forgotten may forget all that lies behind its last copy. Its copies trail as always, and the last one isn't ahead
 /// of the mirror's clock.
 pub fn what_lies_behind_the_last_copy_is_forgotten<G: Game>()
     ensures { (b : ℕ) (whole left : MirrorState G)
-        → AreTimeBlind G.rules → IsTrailing left.accepted left.runs → last_clock left.runs ≤ left.clock
+        → IsTrailing left.accepted left.runs → last_clock left.runs ≤ left.clock
         → IsLeft G.rules b whole left
-        → IsLeft G.rules (b + last_clock left.runs) whole (forgotten G.rules left) }
+        → IsLeft G.rules (b + last_clock left.runs) whole (forgotten G.rules b left) }
 {}
 
-/// What is left of a mirror has the worlds of the whole, copy by copy, where no rule of the game looks at
-/// a command's time.
+/// What is left of a mirror has the worlds of the whole, copy by copy, its items executed at their own
+/// times.
 pub fn what_is_left_has_the_worlds_of_the_whole<G: Game>()
     ensures { (b : ℕ) (whole left : MirrorState G) (c : ℕ)
-        → AreTimeBlind G.rules → IsLeft G.rules b whole left → c < length left.runs
-        → world_of G.rules left.opening (run_of left c) ≡ world_of G.rules whole.opening (run_of whole c) }
+        → IsLeft G.rules b whole left → c < length left.runs
+        → world_from G.rules b left.opening (run_of left c)
+        ≡ world_of G.rules whole.opening (run_of whole c) }
 {}
 
 /// What is left of a mirror tells all that the whole says from there on: its clock and its copies' clocks,
@@ -63,4 +73,20 @@ pub fn what_is_left_tells_of_the_whole<G: Game>()
     ensures commands { (b t : ℕ) (whole left : MirrorState G)
         → IsLeft G.rules b whole left
         → due_at whole.accepted (b + t) ≡ map (later b) (due_at left.accepted t) }
+{}
+
+/// Whatever its name: where a mirror has forgotten its first ticks, a command leaves of it what it would be,
+/// had it remembered all and asked of names only what is due from there on, and is answered so.
+pub fn forgetting_is_exact<G: Game>()
+    ensures { (b : ℕ) (whole left : MirrorState G) (x : Command)
+        → IsLeft G.rules b whole left → whole.clock < whole.length → left.clock < left.length
+        → IsLeft G.rules b (arrive_from b whole (later b x)) (next left (Event.Arrive x))
+        × (said_from b whole (later b x) ≡ later_reply b (said left (Event.Arrive x))) }
+{}
+
+/// What is left of a mirror, put at its base, is left of the whole with all copies put at that tick in time
+/// order.
+pub fn a_mirror_put_at_its_base_is_a_window<G: Game>()
+    ensures { (b : ℕ) (whole left : MirrorState G) → IsLeft G.rules b whole left
+        → IsLeft G.rules b (at_base b whole) (left_at_base left) }
 {}

@@ -7,6 +7,7 @@ use crate::talking::LONGEST_INPUT;
 use crate::tests::rows::HEAD;
 use crate::tests::sessions::HEAD as SESSION;
 use crate::tests::stage::{assert_lines, words_of};
+use arena_rules::Arena;
 use line_talk::Peer;
 use std::alloc::Global;
 use std::process::Abort;
@@ -94,7 +95,7 @@ fn assert_ends(
         told: Vec::new(alloc),
         faults: 0,
     };
-    let done = live(alloc, words_of(rt, alloc, &["0"]).as_slice(), &mut peer);
+    let done = live::<Arena, _>(alloc, words_of(rt, alloc, &["0"]).as_slice(), &mut peer);
     assert_eq!(rt; done.status, status, "the status behind {bytes} bytes");
     let told = String::from_utf8_lossy(alloc, peer.told.as_slice()).expect(rt, "memory");
     assert_lines(rt, "a line without an end", told.as_str(), due);

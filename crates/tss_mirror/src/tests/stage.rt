@@ -1,8 +1,11 @@
 //! A talk of the program with a peer in memory, and what of it is compared.
 
+use crate::done::failure_line;
 use crate::live::live;
 use crate::memory::MemPeer;
+use arena_rules::Arena;
 use line_talk::Said;
+use live_talk::Begins;
 use std::alloc::Global;
 use std::process::Abort;
 
@@ -90,8 +93,19 @@ pub(super) fn words_of(rt: &impl Abort, alloc: Global, words: &[&str]) -> Vec<St
     owned
 }
 
-// The program's talk with a peer that says this input.
+// The program's talk in the arena with a peer that says this input.
 pub(super) fn make_talk(
+    rt: &impl Abort,
+    alloc: Global,
+    words: &[&str],
+    input: &str,
+    calls: Calls,
+) -> Talk {
+    make_talk_of::<Arena>(rt, alloc, words, input, calls)
+}
+
+// The same in a game.
+pub(super) fn make_talk_of<G: Begins>(
     rt: &impl Abort,
     alloc: Global,
     words: &[&str],
@@ -106,10 +120,10 @@ pub(super) fn make_talk(
     }
     let input = Vec::from_slice(alloc, input.as_bytes()).expect(rt, "memory");
     let mut peer = MemPeer::new(alloc, input, calls.piece, fails);
-    let done = live(alloc, words.as_slice(), &mut peer);
+    let done = live::<G, _>(alloc, words.as_slice(), &mut peer);
     Talk {
         status: done.status,
-        failure: done.failure().unwrap_or("nothing"),
+        failure: failure_line(done.status).unwrap_or("nothing"),
         peer,
     }
 }
@@ -139,8 +153,8 @@ pub(super) fn assert_talk(
     due: &str,
 ) {
     let failure = match status {
-        3 => "reading standard input failed",
-        4 => "writing standard output failed",
+        3 => "tss_mirror: reading standard input failed\n",
+        4 => "tss_mirror: writing standard output failed\n",
         _ => "nothing",
     };
     assert_eq!(rt; found.status, status, "the status of {name}");

@@ -18,7 +18,7 @@ returns-then-front g c =
     let heard = subst (λ (l : List ℕ). HeardFront (seen c.args.peer.now).shown (seen c.hear_front.new.peer).shown l) same c.in-Ok.ensures.heard in
     let torn = subst (λ (l : List ℕ). IsTorn l) same (c.in-Ok.ensures.torn c.if-front.true) in
     let fits = c.as_slice-bytes.ensures.fits in
-    inl (ends-from _ _ _ _ _ _ _ (seen c.args.peer.now) (seen c.close_with.new.peer) c.close_with.result c.new.ensures
+    inl (ends-from _ _ _ _ _ _ _ (seen c.args.peer.now) (seen c.close_with.new.peer) c.close_with.result c.new-mirror.ensures
     (λ all is endless. torn-not bytes torn (subst (λ (l : List ℕ). IsEndless l) is endless))
     (c.close_with.ensures (seen c.args.peer.now) LONGEST_INPUT heard c.in-Ok.ensures.steady (c.in-Ok.ensures.end c.if-front.true) (omega (arith, fits))))
 
@@ -28,7 +28,7 @@ returns-then-eq g c =
     let bytes = c.as_slice-bytes.result.now in
     let same = sym c.as_slice-bytes.ensures.value in
     let heard = subst (λ (l : List ℕ). HeardFront (seen c.args.peer.now).shown (seen c.hear_front.new.peer).shown l) same c.in-Ok.ensures.heard in
-    inr (ends-from _ _ _ _ _ _ _ (seen c.args.peer.now) (seen c.talk_with.new.peer) c.talk_with.result c.new-mirror.ensures (λ all is. heads bytes all c.if-eq.ensures is)
+    inr (ends-from _ _ _ _ _ _ _ (seen c.args.peer.now) (seen c.talk_with.new.peer) c.talk_with.result c.new-mirror-then-eq.ensures (λ all is. heads bytes all c.if-eq.ensures is)
     (c.talk_with.ensures (seen c.args.peer.now) heard c.in-Ok.ensures.steady))
 
 pub returns : goal.returns

@@ -19,7 +19,7 @@ new-requires-clause-equal_copies g c =
 
 pub returns : goal.returns
 returns g c =
-    opened c.args.opening.now c.args.m c.args.number c.args.line c.in_ok-mirror.mirror c.as_slice.result.now _ _ _ _ _ c.in_ok-mirror.ensures.state
+    opened c.args.opening.now c.args.m c.args.number c.in_ok-mirror.mirror c.as_slice.result.now _ _ _ _ _ c.in_ok-mirror.ensures.state
     (c.as_slice.ensures.value ∙ c.in_ok-plans.ensures.plans) (ap (λ (m : MatchData). m.names) c.m.view_is) (ap (λ (m : MatchData). m.version) c.m.view_is)
     (ap (λ (m : MatchData). m.mirrors) c.m.view_is)
     (c.room_of-room.ensures.room ∙ ap (λ (m : MatchData). most_commands m.version) c.m.view_is)

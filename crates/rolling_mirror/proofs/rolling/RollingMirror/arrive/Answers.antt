@@ -1,7 +1,7 @@
 use Rattle.std.proofs.Common.{refl, ◌∙◌, ap, sym, ◌+◌}
 use Rattle.game_trait.specs.declared.command.Command.{Command}
 use Rattle.rolling_mirror.specs.Rolling.{in_window}
-use Rattle.rolling_mirror.proofs.Arrivals.{repeat-named, named-earlier, is-repeat, is-late, is-far, is-full, is-in, taken-state, arrival-window, passed-window}
+use Rattle.rolling_mirror.proofs.Arrivals.{repeat-named, named-earlier, is-repeat, is-late, is-far, is-full, is-in, taken-state, arrival-window, exact-window, passed-window}
 use Rattle.rolling_mirror.proofs.Kept.{within-of}
 use Rattle.rolling_mirror.proofs.rolling.RollingMirror.arrive.Goals as goal
 
@@ -86,5 +86,32 @@ returns-then-spare-eq0-clause-passed g c = λ whole h past.
 pub returns-clause-passed : goal.returns-clause-passed
 returns-clause-passed g c = λ whole h past.
     passed-window g.G.Game.rules c.args.self.now c.args.x.now whole h past _ _ (returns-clause-answer g c)
+    (taken-state _ _ c.args.x.now _ _ _ c.accept.ensures.answer
+    (c.earlier-due.ensures ∙ ap (λ r. in_window r c.args.x.now) c.self.view_is) c.accept.ensures.state)
+
+pub returns-then-has-clause-exact : goal.returns-then-has-clause-exact
+returns-then-has-clause-exact g c = λ whole h before.
+    exact-window g.G.Game.rules c.args.self.now c.args.x.now (within-of c.self.view_is c.self.invariant.within_window) whole h before
+    _ _ (returns-then-has-clause-answer g c) refl
+
+pub returns-then-x-bound-clause-exact : goal.returns-then-x-bound-clause-exact
+returns-then-x-bound-clause-exact g c = λ whole h before.
+    exact-window g.G.Game.rules c.args.self.now c.args.x.now (within-of c.self.view_is c.self.invariant.within_window) whole h before
+    _ _ (returns-then-x-bound-clause-answer g c) refl
+
+pub returns-then-due-window-clause-exact : goal.returns-then-due-window-clause-exact
+returns-then-due-window-clause-exact g c = λ whole h before.
+    exact-window g.G.Game.rules c.args.self.now c.args.x.now (within-of c.self.view_is c.self.invariant.within_window) whole h before
+    _ _ (returns-then-due-window-clause-answer g c) refl
+
+pub returns-then-spare-eq0-clause-exact : goal.returns-then-spare-eq0-clause-exact
+returns-then-spare-eq0-clause-exact g c = λ whole h before.
+    exact-window g.G.Game.rules c.args.self.now c.args.x.now (within-of c.self.view_is c.self.invariant.within_window) whole h before
+    _ _ (returns-then-spare-eq0-clause-answer g c) refl
+
+pub returns-clause-exact : goal.returns-clause-exact
+returns-clause-exact g c = λ whole h before.
+    exact-window g.G.Game.rules c.args.self.now c.args.x.now (within-of c.self.view_is c.self.invariant.within_window) whole h before
+    _ _ (returns-clause-answer g c)
     (taken-state _ _ c.args.x.now _ _ _ c.accept.ensures.answer
     (c.earlier-due.ensures ∙ ap (λ r. in_window r c.args.x.now) c.self.view_is) c.accept.ensures.state)

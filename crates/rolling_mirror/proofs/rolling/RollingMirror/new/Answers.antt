@@ -18,7 +18,7 @@ invariant_of-result g c =
     let some_tick = c.length-window.ensures.schedule.some_tick in
     let many = c.copies-copies.ensures.copies in
     let some_copy = c.copies-copies.ensures.schedule.some_copy in
-    rw (c.in_ok-new.ensures, c.in_ok-from_slice.ensures.items, c.in_ok-with_room.ensures, ticks, copies)
+    rw (c.in_ok-new.ensures, c.of.ensures, c.twin.ensures, c.in_ok-from_slice.ensures.items, c.in_ok-with_room.ensures, ticks, copies)
     (rolling-opened c.args.opening.now plans c.args.room c.args.keep c.requires.some_plan (omega arith) (omega arith)
     c.requires.equal_ticks c.requires.equal_copies)
 
@@ -29,7 +29,7 @@ returns-clause-state g c =
     c.length-window.ensures.length ∙ ap (λ (p : Schedule). p.length) c.index-plans-0.is ∙ first-ticks plans _ c.requires.some_plan in
     let copies : c.copies-copies.result ≡ copies_of_first plans =
     c.copies-copies.ensures.copies ∙ ap (λ (p : Schedule). length p.delays) c.index-plans-0-2.is ∙ first-copies plans _ c.requires.some_plan in
-    rw (c.in_ok-new.ensures, c.in_ok-from_slice.ensures.items, ticks, copies)
+    rw (c.in_ok-new.ensures, c.of.ensures, c.twin.ensures, c.in_ok-from_slice.ensures.items, ticks, copies)
     (opened-is c.args.opening.now plans c.args.room c.args.keep)
 
 pub returns-clause-window : goal.returns-clause-window

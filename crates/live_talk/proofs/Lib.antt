@@ -1,0 +1,2 @@
+pub mod AlongLaws
+mod HeadLaws

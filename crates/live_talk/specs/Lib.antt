@@ -1,0 +1,5 @@
+pub mod Head
+pub mod Lines
+pub mod Parts
+pub mod Staging
+pub mod Talked

@@ -1,0 +1,5 @@
+use Rattle.peer_join.proofs.Joins.{joined-peer}
+use Rattle.peer_join.proofs.laws.a_joiner_is_a_peer.Goals as goal
+
+pub returns : goal.returns
+returns g c = λ slots log m here. joined-peer slots log m here

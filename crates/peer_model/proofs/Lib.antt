@@ -1,0 +1,7 @@
+pub mod Pieces
+pub mod Counting
+pub mod Peers
+pub mod Nets
+pub mod Converging
+pub mod Starting
+pub mod Progress

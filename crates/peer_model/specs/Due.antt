@@ -1,0 +1,35 @@
+-- What is due for another peer, and hearing that nothing stops.
+use Rattle.std.specs.Prelude.{◌≡◌, ℕ, suc, ◌+◌, ◌-◌, ◌≤◌, ◌<◌, Bool, true, false, max, nat_lt, nat_le, ◌==◌, ◌&&◌, if◌then◌else◌, Option, Some, None, List, [], ◌∷◌, length, drop}
+use Rattle.game_trait.specs.Count.{times}
+use Rattle.peer_model.specs.Queue.{Sent, Queue, Part, have_of, is_behind}
+use Rattle.peer_model.specs.Peer.{Peer, Span, clock_of, bound_of, hears_part}
+
+-- the end of the numbers of a slot that a peer sends: all of its own, and of another those that were due so many
+-- ticks ago
+abbrev pub end_of : {W : Type 0} → ℕ → ℕ → ℕ → Peer W → ℕ
+end_of me relay o m =
+    if o == me then have_of (m.queues o)
+    else (m.queues o).kept + times (λ x. nat_le (x.time + relay) (clock_of m)) (m.queues o).commands
+
+-- what is due of a slot for another peer: the numbers from what it is known to have, or from what is remembered,
+-- or, where there is none of these and it may lack some that are forgotten, an empty span that tells it
+abbrev pub due_of : {W : Type 0} → ℕ → ℕ → ℕ → ℕ → Peer W → Option Span
+due_of me relay to o m =
+    let q = m.queues o in
+    let e = end_of me relay o m in
+    let first = max (m.known to o) q.kept in
+    if nat_lt first e then Some (record { origin = o; first = first; count = e - first })
+    else (if nat_lt (m.known to o) q.kept && (q.kept == e) then Some (record { origin = o; first = q.kept; count = 0 })
+    else None)
+
+-- nothing stops a part: no gap, and all of its commands that are new are counted
+pub record IsWhole (bound most : ℕ) (p : Part) (q : Queue) : Type 0 where
+  pub no_gap : is_behind p q ≡ true → p.before < bound
+  pub all : length p.commands ≤ most
+
+-- nothing stops the parts of a packet
+unfoldable pub AreWhole : {W : Type 0} → (ℕ → List Sent) → (ℕ → ℕ) → List Part → Peer W → Type 0
+AreWhole log most [] m = Unit {0}
+AreWhole log most (p ∷ ps) m =
+    IsWhole (bound_of m) (most 0) p (m.queues p.origin)
+    × AreWhole log (λ place. most (suc place)) ps (hears_part log (most 0) p m)

@@ -1,0 +1,4 @@
+pub mod Queue
+pub mod Peer
+pub mod Net
+pub mod Due

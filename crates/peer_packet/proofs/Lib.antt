@@ -1,0 +1,9 @@
+pub mod FieldLaws
+pub mod SentLaws
+pub mod PartLaws
+pub mod CountLaws
+pub mod PacketLaws
+pub mod LoopLaws
+pub mod PutLaws
+pub mod WalkLaws
+pub mod SnapLaws

@@ -1,0 +1,6 @@
+pub mod Packet
+pub mod Reading
+pub mod Seen
+pub mod Putting
+pub mod Snapshot
+pub mod Slots

@@ -1,0 +1,27 @@
+//! Why bytes are refused.
+
+/// Why bytes are no packet of the session: the first fault from left to right, by the field where it
+/// was found.
+#[derive(Clone, Copy, Debug, PartialEq, Eq)]
+pub enum Fault {
+    /// The first byte is another.
+    Kind,
+    /// Cut in the session's number.
+    Session,
+    /// Another session's number.
+    OtherSession,
+    /// Cut in the slots of who says it to whom, or these aren't two slots of the session.
+    Ends,
+    /// Cut in the flags or the clocks, or other flags.
+    Head,
+    /// Cut in the counts, a bit of no slot, or a count of 0.
+    Vector,
+    /// Cut in the mark.
+    Mark,
+    /// Cut in a part's head, or a part that can't stand there.
+    Part,
+    /// Cut in a command, or one that can't stand there.
+    Command,
+    /// Bytes behind a snapshot's end.
+    Rest,
+}

@@ -1,0 +1,25 @@
+//! A peer's packets as bytes, read in place and put without taking memory.
+#![tactic(auto)]
+
+mod fault;
+mod fields;
+mod front;
+mod packet;
+mod part;
+mod put;
+mod snapshot;
+mod terms;
+mod vector;
+mod views;
+
+pub use fault::Fault;
+pub use front::Front;
+pub use packet::PacketView;
+pub use part::{PartHead, SentView};
+pub use put::{put_front, put_head, put_mark, put_sent, put_vector};
+pub use snapshot::SnapshotView;
+pub use terms::Terms;
+pub use views::{CommandsView, PartView, PartsView};
+
+#[cfg(test)]
+mod tests;

@@ -1,0 +1,4 @@
+pub mod Windows
+pub mod Calls
+pub mod Beside
+pub mod Starts

@@ -1,0 +1,38 @@
+//! What a peer whose mirror forgets does is what the peer does whose mirror remembers all. Each law is the
+//! contract of a function without parameters that does nothing.
+
+ghost use Rattle.std.specs.Prelude.{◌≡◌, ℕ, ◌^◌, ◌≤◌, ◌<◌, List, [], length, slice_index_or};
+ghost use Rattle.std.specs.List.{AllByRecursion};
+ghost use Rattle.peer_model.specs.Queue.{Sent, Part, TimesRise, IsPiece};
+ghost use Rattle.peer_model.specs.Peer.{Peer, Packet, hears_parts, heard_head, IsPeer};
+ghost use Rattle.peer_model.specs.Net.{Net, NetStep, new_net, run};
+ghost use Rattle.peer_window.specs.Window.{RollPeer, rolls_packet, IsWindow};
+ghost use Rattle.peer_window.specs.Session.{RollNet, Terms, Call, all_calls, session_of, Opening, whole_of, roll_of, new_roll_net, IsBeside};
+
+use game_trait::Game;
+
+/// A packet of pieces that is heard by a peer with a window leads to the window of the peer that hears it
+/// and remembers all, stopped in each part where the window, the mirror's room or the queue's stops it.
+pub fn hearing_keeps_the_window<G: Game>()
+    ensures { (slots room : ℕ) (log : ℕ → List Sent) (p : Packet) (m : Peer G) (v : RollPeer G)
+        → ((o : ℕ) → TimesRise 0 (log o)) → IsPeer slots log m
+        → AllByRecursion (λ part. part.origin < slots) p.parts
+        → AllByRecursion (λ part. IsPiece (log part.origin) part) p.parts
+        → IsWindow G.rules m v
+        → (most : ℕ → ℕ) × IsWindow G.rules (hears_parts log most p.parts (heard_head p m)) (rolls_packet room p v) }
+{}
+
+/// Whatever calls are made by peers with windows, beside them stands a session of peers that remember all:
+/// what was issued and the packets are the same, and each peer is the window of the one there.
+pub fn beside_it_stands_a_session_that_remembers_all<G: Game>()
+    ensures { (c : Terms) (es : List Call) (n : Net G) (v : RollNet G) → IsBeside G.rules c.slots n v
+        → (fs : List NetStep) × IsBeside G.rules c.slots (run (session_of c) n fs) (all_calls G.rules c v es) }
+{}
+
+/// Before any call peers with windows, whatever their plans, windows, rooms and keeping, stand beside peers
+/// that remember all.
+pub fn a_new_session_stands_beside_one<G: Game>()
+    ensures { (slots n : ℕ) (opening : G) (each : ℕ → Opening)
+        → ((i : ℕ) → 0 < length (slice_index_or (each i).plans 0 [])) → ((i : ℕ) → 0 < (each i).window) → 2 ^ 32 ≤ n
+        → IsBeside G.rules slots (new_net (λ i. whole_of opening n (each i))) (new_roll_net (λ i. roll_of opening (each i))) }
+{}
