@@ -7,7 +7,7 @@ It begins at the clauses of `run_watched`, `run` and `run_plain` (crates/tss_pro
 file, and goes on from the definition that it finds, over all crates. It prints a line for each crate, the lowest first: the files of
 its specs/, and the files of its src/ whose types and constants the definitions name. Then it prints what the laws of tss_program
 (src/laws.rt), which take the clause of the calls apart, add to that, and in the same way what the clauses of `live`
-(crates/tss_mirror/src) and the laws of live_mirror, endless_mirror and tss_mirror add. With --names it prints what stands in each file.
+(crates/tss_mirror/src) and the laws of live_mirror, live_laws, endless_mirror and tss_mirror add. With --names it prints what stands in each file.
 docs/READING.md has the same lists, with what each crate's files say; tools/tests compares the two. With --write it brings the page's
 tables up to date, and keeps what they say of each crate; of a new one that is to be written by hand.
 
@@ -268,7 +268,7 @@ def claim():
     told = {item[:3] for item in calls}
     added = all_of(item for law in laws for item in clauses("laws.rt", law)) - calls
     live = all_of(item for of in LIVE_CALLS for item in clauses(*of))
-    for crate in ("live_mirror", "endless_mirror", "tss_mirror"):
+    for crate in ("live_mirror", "live_laws", "endless_mirror", "tss_mirror"):
         live |= all_of(item for law in re.findall(r"^pub fn (\w+)", rust(crate, "laws.rt"), re.M) for item in clauses("laws.rt", law, crate))
     lists = calls, [item for item in added if item[:3] not in told], [item for item in live if item[:3] not in told]
     return tuple(by_crate(items) for items in lists)

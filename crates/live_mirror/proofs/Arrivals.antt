@@ -20,16 +20,16 @@ use Rattle.live_text.specs.Texts.{MayAsk, AreTerms}
 use Rattle.live_mirror.specs.Events.{Makes, IsOfMatch}
 use Rattle.live_mirror.specs.Led.{begun, IsLed, IsOfSetup}
 use Rattle.live_mirror.specs.Session.{SessionState, terms_of, is_past, own_command, after_request}
-use Rattle.live_mirror.proofs.Bounds.{same-parts, copies-are}
 use Rattle.live_mirror.proofs.Kept.{session_kept}
 use Rattle.live_mirror.proofs.Made.{IsTurning, turn-turning, turns-turning, is-made}
+use Rattle.live_mirror.proofs.Parts.{same-parts, copies-are}
 
 -- ---- the mirror is one of its match's setup
 
 pub of_setup : {W : Type 0} (start : Layout → W) (number : ℕ) (s : SessionState W) (is : IsLed start number s) → IsOfSetup start is.game s
 of_setup {W} start number s is =
     let kept = session_kept is.asked (begun start is.game number) in
-    let parts = same-parts (start is.game.layout) is.game number is.asked is.is_match is.fit in
+    let parts = same-parts (start is.game.layout) is.game number is.asked in
     record {
       version = ap (λ (u : SessionState W). u.version) is.led ∙ kept.version;
       mirrors = ap (λ (u : SessionState W). u.mirrors) is.led ∙ kept.mirrors;
@@ -47,7 +47,7 @@ are_terms {W} start number s is =
     let of = of_setup start number s is in
     let game = is.is_match in
     let copies : length s.mirror.runs ≡ length is.game.delays =
-    ap (λ (u : SessionState W). length u.mirror.runs) is.led ∙ copies-are (start is.game.layout) is.game number is.asked is.is_match is.fit in
+    ap (λ (u : SessionState W). length u.mirror.runs) is.led ∙ copies-are (start is.game.layout) is.game number is.asked in
     record {
       length = omega (arith, of.length, game.ticks.1);
       mirrors = omega (arith, of.mirrors, game.mirrors.1);

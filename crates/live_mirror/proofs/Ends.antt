@@ -13,7 +13,7 @@ use Rattle.sync_model.specs.Turns.{drain, EndsInOrder}
 use Rattle.sync_model.specs.Schedule.{DelaysRise, IsSchedule}
 use Rattle.sync_model.proofs.Drain.{drain-fixed, drain-ordered, draining_delivers_nothing, draining_ends}
 use Rattle.report_text.specs.Worlds.{Showing}
-use Rattle.match_hall.specs.Report.{copy_blocks}
+use Rattle.mirror_report.specs.Report.{copy_blocks}
 
 -- the delays of each plan rise, also of one that isn't there
 rising : (ticks : ℕ) (plans : List (List ℕ)) (p : ℕ) → AllByRecursion (λ delays. IsSchedule (record { delays = delays; length = ticks })) plans → DelaysRise (slice_index_or plans p [])

@@ -1,13 +1,11 @@
 -- The events that requests make at a mirror.
-use Rattle.std.specs.Prelude.{◌≡◌, ℕ, List, [], ◌∷◌, ◌++◌, if◌then◌else◌, length, Contains}
-use Rattle.game_trait.specs.declared.command.Command.{Command}
+use Rattle.std.specs.Prelude.{◌≡◌, ℕ, List, [], ◌∷◌, ◌++◌, if◌then◌else◌, length}
 use Rattle.game_trait.specs.declared.event.Event.{Event}
 use Rattle.game_trait.specs.declared.event.Event.TheVariants as events
 use Rattle.sync_model.specs.Change.{after}
 use Rattle.sync_model.specs.History.{changing}
-use Rattle.sync_model.specs.State.{MirrorState, opening_state}
 use Rattle.sync_model.specs.Turns.{turn_events, turns_of, drain}
-use Rattle.match_data.specs.Data.{MatchData, IsCommand, all_plans}
+use Rattle.match_data.specs.Data.{MatchData, IsCommand}
 use Rattle.live_text.specs.declared.request.Request.{Request}
 use Rattle.live_text.specs.declared.request.Request.TheVariants.{Own, Cmd, Tick, Turn, Step, Restagger, World, Run, Commands, End}
 use Rattle.live_text.specs.Requests.{FitsTerms}
@@ -53,20 +51,9 @@ AreMade s (r ∷ rs) es =
     (now : List Event) × (later : List Event) × (es ≡ now ++ later) × Makes s r now
     × AreMade (after_request s r) rs later
 
--- where the event is an arrival, its command is one of these
-abbrev pub IsAmong : List Command → Event → Type 0
-IsAmong commands events.Tick = Unit {0}
-IsAmong commands (events.Arrive x) = Contains commands x
-IsAmong commands (events.Step copy) = Unit {0}
-IsAmong commands (events.Restagger plan) = Unit {0}
-
 -- where the event is an arrival, its command is one of the match
 abbrev pub IsOfMatch : MatchData → Event → Type 0
 IsOfMatch m events.Tick = Unit {0}
 IsOfMatch m (events.Arrive x) = IsCommand m x
 IsOfMatch m (events.Step copy) = Unit {0}
 IsOfMatch m (events.Restagger plan) = Unit {0}
-
--- a mirror of the match before any event, as an audit begins with it: room decides nothing
-abbrev pub audited_from : {W : Type 0} → W → MatchData → MirrorState W
-audited_from opening m = opening_state opening m.length (all_plans m) 0 0

@@ -1,11 +1,11 @@
 -- Events made one after another, and lists of mirrors of which one is changed.
 use Rattle.std.proofs.Common.{◌≡◌, ℕ, zero, suc, ◌+◌, ◌-◌, ◌<◌, ◌≤◌, true, false, cond, List, [], ◌∷◌, length, get_or, set, refl, ap, arith}
-use Rattle.std.specs.Prelude.{Result, Ok, Err, OnErr}
 use Rattle.game_trait.specs.declared.event.Event.{Event}
 use Rattle.game_trait.specs.declared.event.Event.TheVariants.{Tick, Arrive, Step, Restagger}
 use Rattle.game_trait.specs.Count.{times}
 use Rattle.game_trait.specs.Events.{is_arrival, is_restagger}
 pub use Rattle.game_trait.proofs.Lists.{all-append}
+pub use Rattle.mirror_report.proofs.Draining.{on_err_of}
 use Rattle.sync_model.specs.State.{MirrorState}
 use Rattle.sync_model.specs.Change.{next, after, changes}
 use Rattle.sync_model.specs.History.{HasRoom, HasRoomAlong}
@@ -55,10 +55,3 @@ unfolding told_at
 told_at-get g i [] d below = absurd (omega arith)
 told_at-get g zero (x ∷ xs) d below = refl
 told_at-get g (suc i) (x ∷ xs) d below = told_at-get g i xs d (omega arith)
-
--- ---- answers
-
--- what holds anyway holds where there is an error
-pub on_err_of : {T E P : Type 0} (r : Result T E) → P → OnErr r P
-on_err_of (Ok x) p = tt
-on_err_of (Err e) p = p

@@ -1,21 +1,20 @@
 -- What is printed of a match that is played. Mirrors are only looked at here.
-use Rattle.std.specs.Prelude.{ℕ, zero, suc, ◌+◌, List, [], ◌∷◌, ◌++◌, flat_map, length, if◌then◌else◌}
+use Rattle.std.specs.Prelude.{ℕ, ◌+◌, List, [], ◌∷◌, ◌++◌, flat_map}
 use Rattle.game_trait.specs.declared.command.Command.{Command}
-use Rattle.game_trait.specs.declared.command.Item.{Item}
 use Rattle.game_trait.specs.declared.event.Reply.{Reply}
 use Rattle.game_trait.specs.declared.event.Reply.TheVariants.{Tick as ToTick, Arrive as ToArrive, Step as ToStep}
 use Rattle.sync_model.specs.State.{MirrorState}
 pub use Rattle.sync_model.specs.Drafts.{run_of}
-use Rattle.sync_model.specs.Change.{answers}
-use Rattle.sync_model.specs.History.{repaired_in, repairs}
-use Rattle.sync_model.specs.Turns.{turn, turn_events, is_drained, drain_bound}
+use Rattle.sync_model.specs.History.{repaired_in}
+use Rattle.sync_model.specs.Turns.{drain_bound}
 use Rattle.match_data.specs.Data.{MatchData}
 use Rattle.match_data.specs.declared.script_line.ScriptLine.{ScriptLine}
 use Rattle.match_data.specs.declared.script_line.ScriptLine.TheVariants as lines
 use Rattle.report_text.specs.Replies.{repair_line, tick_text, arrival_text, step_text}
-use Rattle.report_text.specs.Mirrors.{mirror_line, run_line}
+use Rattle.report_text.specs.Mirrors.{run_line}
 pub use Rattle.report_text.specs.Worlds.{Showing, showing, copy_block}
 use Rattle.report_text.specs.Ends.{done_line}
+use Rattle.mirror_report.specs.Report.{drain_text, line_of_mirror, copy_blocks}
 use Rattle.match_hall.specs.Script.{mirror_of, after_line, replies_to, changed_at, told_at, opening_mirrors, scripted, played}
 
 -- ---- script lines
@@ -51,16 +50,6 @@ script_text show commands mirrors (l ∷ ls) =
 
 -- ---- draining
 
--- what a turn prints of the mirror of this number
-abbrev pub turn_text : {W : Type 0} → ℕ → MirrorState W → List ℕ
-turn_text number s = replies_text (lines.Turn number) (answers s (turn_events (length s.runs)))
-
--- what turns print until a mirror is drained, at most n of them
-unfoldable pub drain_text : {W : Type 0} → ℕ → ℕ → MirrorState W → List ℕ
-drain_text number zero s = []
-drain_text number (suc n) s =
-    if is_drained s then [] else (turn_text number s ++ drain_text number n (turn s))
-
 -- what draining prints of mirrors one after the other, of which the first has this number
 unfoldable pub drains_text : {W : Type 0} → ℕ → List (MirrorState W) → List ℕ
 drains_text number [] = []
@@ -68,20 +57,10 @@ drains_text number (s ∷ ss) = drain_text number (drain_bound s) s ++ drains_te
 
 -- ---- mirrors
 
--- the line of the mirror of this number
-abbrev pub line_of_mirror : {W : Type 0} → ℕ → MirrorState W → List ℕ
-line_of_mirror number s = mirror_line number (length s.accepted) (length s.turned) (repairs s)
-
 -- the lines of mirrors alone; the first has this number
 unfoldable pub lines_of_mirrors : {W : Type 0} → ℕ → List (MirrorState W) → List ℕ
 lines_of_mirrors number [] = []
 lines_of_mirrors number (s ∷ ss) = line_of_mirror number s ++ lines_of_mirrors (number + 1) ss
-
--- the blocks of copies, of which the first has this number
-unfoldable pub copy_blocks : {W : Type 0} → Showing W → ℕ → W → ℕ → List (List Item) → List ℕ
-copy_blocks show number opening copy [] = []
-copy_blocks show number opening copy (run ∷ behind) =
-    copy_block show number opening copy run ++ copy_blocks show number opening (copy + 1) behind
 
 -- the lines of mirrors, each with its copies' blocks; the first has this number
 unfoldable pub mirrors_text : {W : Type 0} → Showing W → ℕ → List (MirrorState W) → List ℕ

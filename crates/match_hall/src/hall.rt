@@ -16,17 +16,17 @@ ghost use Rattle.match_hall.specs.Stops.{IsStoppedScript, IsStoppedDraining, IsF
 ghost use Rattle.match_hall.specs.Notes.{notes_of_all};
 ghost use Rattle.watch_board.specs.Told.{AreTold};
 
-use crate::drain::drain_mirror;
-use crate::events::{command_of, push_turn};
+use crate::events::command_of;
 use crate::logs::into_logs;
 use crate::open::{open, open_with};
 use crate::script::mirror_of;
-use crate::show::{push_copy, push_line_of_mirror, push_mirror, push_run};
+use crate::show::push_mirror;
 use crate::tell::tell_mirror;
 use game_trait::{Game, MirrorId};
 use match_data::{Match, MirrorLog, ScriptLine};
 use match_setup::{Roster, Shown};
 use mirror_core::{DeferredMirror, Mirrored};
+use mirror_report::{drain_mirror, push_copy, push_line_of_mirror, push_run, push_turn};
 use report_text::{arrival_line, step_line, tick_line};
 use std::alloc::Global;
 use std::marker::Model;

@@ -18,10 +18,12 @@ ghost use Rattle.match_data.specs.declared.log.MirrorLog.{MirrorLog};
 ghost use Rattle.match_data.specs.Data.{MatchData, IsMatch};
 ghost use Rattle.match_data.specs.declared.script_line.ScriptLine.{ScriptLine};
 ghost use Rattle.match_hall.specs.Script.{names, after_lines, after_script, opening_mirror, played, logs_from};
-ghost use Rattle.match_hall.specs.Report.{Showing, script_text, drain_text, drains_text};
+ghost use Rattle.mirror_report.specs.Report.{drain_text};
+ghost use Rattle.mirror_report.specs.Stops.{IsStoppedDrain};
+ghost use Rattle.match_hall.specs.Report.{Showing, script_text, drains_text};
 ghost use Rattle.match_hall.specs.Headline.{IsPlayed, AllPlayed};
 ghost use Rattle.match_hall.specs.Few.{IsFew};
-ghost use Rattle.match_hall.specs.Stops.{IsStoppedScript, IsStoppedDrain, IsStoppedDraining, IsFrontPut};
+ghost use Rattle.match_hall.specs.Stops.{IsStoppedScript, IsStoppedDraining, IsFrontPut};
 ghost use Rattle.std.specs.List.{AllByRecursion};
 
 use game_trait::Game;

@@ -18,7 +18,7 @@ use Rattle.report_text.specs.Soak.{same_line}
 use Rattle.report_text.specs.Worlds.{Showing, block_text, copy_block}
 use Rattle.report_text.specs.Ends.{done_line}
 use Rattle.match_hall.specs.Script.{schedules, names, arrives_at, restaggers_at, events_of, after_lines, opening_mirror}
-use Rattle.match_hall.specs.Report.{line_of_mirror}
+use Rattle.mirror_report.specs.Report.{line_of_mirror}
 use Rattle.match_join.specs.declared.answer.JoinAnswer.{JoinAnswer}
 use Rattle.match_join.specs.declared.answer.JoinAnswer.TheVariants.{Told, TooLate}
 use Rattle.late_joiner.specs.declared.joined.Joined.{Joined}

@@ -10,9 +10,9 @@ use arena_rules::Arena;
 use game_trait::{Game, MirrorId};
 use late_joiner::Joiner;
 use match_data::Match;
-use match_hall::{push_copy, push_line_of_mirror};
 use match_setup::Shown;
 use mirror_core::{DeferredMirror, Mirrored};
+use mirror_report::{push_copy, push_line_of_mirror};
 use report_text::{done_line, same_line};
 use tss_base::NoMemory;
 

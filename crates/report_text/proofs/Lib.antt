@@ -1,2 +1,3 @@
+pub mod Logs
 pub mod Standings
 pub mod Values

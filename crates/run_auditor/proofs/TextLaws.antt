@@ -32,7 +32,8 @@ use Rattle.report_text.specs.Worlds.{copy_block}
 use Rattle.match_data.specs.declared.log.MirrorLog.{MirrorLog}
 use Rattle.run_recorder.specs.declared.race_record.RaceRecord.{RaceRecord}
 use Rattle.run_recorder.specs.Data.{EachNumbered, IsEventOf, IsLogOf, IsBlock, AreWorldsOf, IsRecord}
-use Rattle.run_recorder.specs.Text.{record_head, last_line, event_line, log_line, log_text, world_line, blocks_text, record_mirrors_text}
+use Rattle.report_text.specs.Logs.{event_line, log_line, log_text}
+use Rattle.run_recorder.specs.Text.{record_head, last_line, world_line, blocks_text, record_mirrors_text}
 use Rattle.run_auditor.specs.Arena.{arena_shown}
 use Rattle.run_auditor.specs.Audit.{start, IsStated, IsRight, AllRight, IsLegalRecord}
 use Rattle.run_auditor.proofs.BlockLines.{world_shown, shown_length}

@@ -1,10 +1,9 @@
 -- What printing a record appends.
-use Rattle.std.proofs.Common.{◌≡◌, ℕ, ◌+◌, ◌<◌, List, [], ◌∷◌, ◌++◌, map, length, take, sym, ap, ◌∙◌, append_assoc, append-nil, get_or, arith}
+use Rattle.std.proofs.Common.{◌≡◌, ℕ, ◌+◌, ◌<◌, List, [], ◌∷◌, ◌++◌, length, take, sym, ap, ◌∙◌, append_assoc, append-nil, get_or, arith}
 use Rattle.std.proofs.lemmas.Grind.{flat_map-append, take_at_read}
-use Rattle.game_trait.specs.declared.event.Event.{Event}
-use Rattle.tss_io.specs.Lines.{as_line, lines_text}
 use Rattle.match_data.specs.declared.log.MirrorLog.{MirrorLog}
-use Rattle.run_recorder.specs.Text.{event_line, log_line, log_text, blocks_text, record_mirrors_text}
+use Rattle.report_text.specs.Logs.{log_text}
+use Rattle.run_recorder.specs.Text.{blocks_text, record_mirrors_text}
 
 pub blocks_none : (old : List ℕ) → old ≡ old ++ blocks_text []
 unfolding blocks_text
@@ -23,13 +22,6 @@ pub blocks_next : (xs : List (List ℕ)) (i : ℕ) (d : List ℕ) (old mid new :
     ++ blocks_text (take i xs) → new ≡ mid ++ get_or xs i d → new ≡ old ++ blocks_text (take (i + 1) xs)
 blocks_next xs i d old mid new within so_far next =
     next ∙ rw (so_far, (take_at_read xs i d within).1, blocks_text-append, one_block (get_or xs i d)) (append_assoc old _ _)
-
--- a log's first line, and its events
-pub log_puts : (mirror count : ℕ) (events : List Event) (old mid new : List ℕ) → mid ≡ old
-    ++ as_line (log_line mirror count) → new ≡ mid ++ lines_text (map event_line events) → new ≡ old
-    ++ log_text mirror count events
-unfolding lines_text
-log_puts mirror count events old mid new first more = more ∙ rw first (append_assoc old (as_line (log_line mirror count)) (lines_text (map event_line events)))
 
 -- one mirror more
 pub mirrors_text-append : (logs : List MirrorLog) (worlds : List (List (List ℕ))) (log : MirrorLog) (blocks : List (List ℕ)) → length worlds ≡ length logs

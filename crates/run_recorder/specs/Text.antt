@@ -1,11 +1,10 @@
 -- The text of a record, line by line.
-use Rattle.std.specs.Prelude.{ℕ, Bool, ◌&&◌, ◌||◌, List, [], ◌∷◌, ◌++◌, flat_map, length, map, Result, Ok, Err, bytes_eq, codes, decimal}
+use Rattle.std.specs.Prelude.{ℕ, Bool, ◌&&◌, ◌||◌, List, [], ◌∷◌, ◌++◌, flat_map, length, Result, Ok, Err, bytes_eq, codes, decimal}
 use Rattle.std.specs.List.{list_all}
-use Rattle.game_trait.specs.declared.event.Event.{Event}
-use Rattle.game_trait.specs.declared.event.Event.TheVariants.{Tick, Arrive, Step, Restagger}
 use Rattle.tss_io.specs.declared.cause.Cause.{Cause}
 use Rattle.tss_io.specs.Forms.{is_word, front_at}
-use Rattle.tss_io.specs.Lines.{as_line, spaced, words_of, lines_text}
+use Rattle.tss_io.specs.Lines.{as_line, spaced, words_of}
+use Rattle.report_text.specs.Logs.{log_text}
 use Rattle.match_file.specs.Text.{match_text}
 use Rattle.match_data.specs.declared.log.MirrorLog.{MirrorLog}
 use Rattle.run_recorder.specs.declared.race_record.RaceRecord.{RaceRecord}
@@ -17,17 +16,6 @@ record_head = codes "tss record 1"
 -- the last line
 abbrev pub last_line : List ℕ
 last_line = codes "done"
-
--- the line of a log's event
-abbrev pub event_line : Event → List ℕ
-event_line Tick = codes "tick"
-event_line (Arrive x) = spaced (codes "arrive" ∷ decimal x.from ∷ decimal x.number ∷ [])
-event_line (Step copy) = spaced (codes "step" ∷ decimal copy ∷ [])
-event_line (Restagger plan) = spaced (codes "restagger" ∷ decimal plan ∷ [])
-
--- the line that opens a log: its mirror, and how many events it has
-abbrev pub log_line : ℕ → ℕ → List ℕ
-log_line mirror count = spaced (codes "log" ∷ decimal mirror ∷ decimal count ∷ [])
 
 -- the line that opens the block of a copy: its mirror, its number, and its clock
 abbrev pub world_line : ℕ → ℕ → ℕ → List ℕ
@@ -56,10 +44,6 @@ is_block_line l = is_shown (first_word l) && list_all is_word (words_of l)
 -- blocks, one after another
 unfoldable pub blocks_text : List (List ℕ) → List ℕ
 blocks_text blocks = flat_map (λ block. block) blocks
-
--- a mirror's log
-abbrev pub log_text : ℕ → ℕ → List Event → List ℕ
-log_text mirror count events = lines_text (log_line mirror count ∷ map event_line events)
 
 -- the log of each mirror, and behind it the blocks of its copies
 unfoldable pub record_mirrors_text : List MirrorLog → List (List (List ℕ)) → List ℕ

@@ -2,7 +2,8 @@
 
 ghost use Rattle.std.specs.Prelude.{◌≡◌, ◌++◌, [], length, map, OnOk, IfOk};
 ghost use Rattle.tss_io.specs.Lines.{as_line, lines_text, spaced};
-ghost use Rattle.run_recorder.specs.Text.{event_line, log_text, blocks_text, record_mirrors_text, record_text};
+ghost use Rattle.report_text.specs.Logs.{event_line, log_text};
+ghost use Rattle.run_recorder.specs.Text.{blocks_text, record_mirrors_text, record_text};
 
 use crate::block::Block;
 use crate::race_record::RaceRecord;

@@ -6,9 +6,10 @@ ghost use Rattle.tss_race.specs.Record.{blocks_from, worlds_from, record_of};
 
 use game_trait::{Game, MirrorId};
 use match_data::Match;
-use match_hall::{logs_of, push_copy};
+use match_hall::logs_of;
 use match_setup::{Roster, Shown};
 use mirror_core::Mirror;
+use mirror_report::push_copy;
 use run_recorder::{Block, RaceRecord};
 use std::alloc::Global;
 use tss_base::{NoMemory, Seq};

@@ -3,7 +3,7 @@ use Rattle.std.specs.List.{AllByRecursion}
 use Rattle.std.proofs.lemmas.List.{get_or_default, take_all}
 use Rattle.sync_model.specs.State.{MirrorState}
 use Rattle.sync_model.specs.Turns.{drain, drain_within, drain_bound, IsDrained}
-use Rattle.match_hall.specs.Report.{drain_text}
+use Rattle.mirror_report.specs.Report.{drain_text}
 use Rattle.match_hall.proofs.Along.{on_err_of}
 use Rattle.match_hall.proofs.Steps.{drained-none, drained-more, drained-all, drained-count, ended-more, draining-stopped}
 use Rattle.match_hall.proofs.hall.drain_mirrors.Goals as goal

@@ -2,7 +2,8 @@ use Rattle.std.proofs.Common.{◌≡◌, ℕ, ◌+◌, ◌<◌, List, [], ◌∷
 use Rattle.sync_model.specs.State.{MirrorState}
 use Rattle.match_hall.specs.Report.{drains_text}
 use Rattle.match_hall.specs.Stops.{IsStoppedDraining}
-use Rattle.match_hall.proofs.StoppedDrain.{fewer-turns, draining-front}
+use Rattle.mirror_report.proofs.Draining.{fewer-turns}
+use Rattle.match_hall.proofs.StoppedDrain.{draining-front}
 use Rattle.match_hall.proofs.laws.first_turns_print_the_front.Goals as goal
 
 stopped : {W : Type 0} (old new : List (MirrorState W)) (before now : List ℕ) → IsStoppedDraining old new before now

@@ -9,7 +9,7 @@ use Rattle.report_text.specs.Worlds.{Showing, block_text, copy_block}
 use Rattle.sync_model.specs.State.{MirrorState, last_clock}
 use Rattle.sync_model.specs.Drafts.{run_of}
 use Rattle.sync_model.specs.History.{repairs}
-use Rattle.match_hall.specs.Report.{line_of_mirror}
+use Rattle.mirror_report.specs.Report.{line_of_mirror}
 use Rattle.late_joiner.specs.Joiner.{JoinerState, accepted_at}
 use Rattle.match_join.specs.Join.{join_text, ends_text, join_head, joiner_text, joiner_counts, joiner_head, joiner_before, lines_after, last_copy}
 use Rattle.match_join.specs.Join.{mirror_before, mirror_end, joiner_end, mirror_world, joiner_world}

@@ -1,5 +1,5 @@
 use Rattle.tss_io.proofs.Printing.{lines_next}
-use Rattle.run_recorder.specs.Text.{event_line}
+use Rattle.report_text.specs.Logs.{event_line}
 use Rattle.run_recorder.proofs.printing.push_events.Goals as goal
 
 pub loop-event-preserved : goal.loop-event-preserved

@@ -1,6 +1,6 @@
 use Rattle.std.proofs.Common.{◌≡◌, ◌++◌, map, take}
 use Rattle.tss_io.specs.Lines.{lines_text}
-use Rattle.run_recorder.specs.Text.{event_line}
+use Rattle.report_text.specs.Logs.{event_line}
 use Rattle.run_recorder.proofs.printing.push_events.Given as goal
 
 abbrev pub invariant-loop-event : goal.invariant-loop-event

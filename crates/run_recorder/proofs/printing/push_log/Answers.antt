@@ -1,5 +1,5 @@
 use Rattle.std.proofs.Common.{length}
-use Rattle.run_recorder.proofs.PrintLaws.{log_puts}
+use Rattle.report_text.proofs.Logs.{log_puts}
 use Rattle.run_recorder.proofs.printing.push_log.Goals as goal
 
 pub returns : goal.returns

@@ -1,0 +1,5 @@
+mod Audited
+mod Bounds
+mod EndLaws
+mod RecordLaws
+mod TextLaws

@@ -1,0 +1,4 @@
+pub mod Arena
+pub mod Events
+pub mod Record
+pub mod Talks

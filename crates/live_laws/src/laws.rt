@@ -1,0 +1,115 @@
+//! What live mirrors told is legal for `audit`. Each is the contract of a function without parameters
+//! that does nothing.
+
+ghost use Rattle.std.specs.Prelude.{◌≡◌, ◌++◌, ◌<◌, ◌↔◌, ℕ, List, Ok};
+ghost use Rattle.std.specs.List.{AllByRecursion};
+ghost use Rattle.game_trait.specs.declared.command.Command.{Command};
+ghost use Rattle.sync_model.specs.Change.{after};
+ghost use Rattle.sync_model.specs.History.{without_room};
+ghost use Rattle.sync_model.specs.Legal.{IsLegal};
+ghost use Rattle.report_text.specs.Ends.{done_line};
+ghost use Rattle.report_text.specs.Worlds.{Showing};
+ghost use Rattle.match_data.specs.Data.{MatchData, IsMatch};
+ghost use Rattle.run_auditor.specs.Arena.{arena_shown};
+ghost use Rattle.run_auditor.specs.Audit.{IsLegalRecord, Tells, event_count};
+ghost use Rattle.run_auditor.specs.declared.verdict.Verdict.{Verdict};
+ghost use Rattle.run_auditor.specs.declared.verdict.Verdict.TheVariants.{Legal};
+ghost use Rattle.run_recorder.specs.Data.{IsRecord};
+ghost use Rattle.run_recorder.specs.Reading.{read_record};
+ghost use Rattle.run_recorder.specs.Text.{record_text};
+ghost use Rattle.live_text.specs.declared.request.Request.{Request};
+ghost use Rattle.live_text.specs.declared.request.Request.TheVariants as requests;
+ghost use Rattle.live_mirror.specs.Events.{after_requests, FitAlong};
+ghost use Rattle.live_laws.specs.Events.{IsAmong, audited_from};
+ghost use Rattle.live_mirror.specs.Session.{SessionState, after_request, opening_session};
+ghost use Rattle.live_laws.specs.Record.{AreAllEnds, AreEnds, MayBeCommands, put_together, record_of, with_commands};
+ghost use Rattle.live_laws.specs.Talks.{EndedTalk, IsTalkOf, AreAllTalks, states_of};
+ghost use Rattle.live_mirror.specs.Told.{answer_text, record_part};
+ghost use Rattle.arena_rules.specs.World.{World, opening_world};
+ghost use Rattle.live_talk.specs.Staging.{staging, shown_by};
+ghost use Rattle.live_laws.specs.Arena.{arena_staging};
+ghost use Rattle.live_mirror.specs.Way.{live_due};
+
+use game_trait::Game;
+use live_talk::Begins;
+
+/// The log that `end` tells is legal as an audit has it, in a match that has the commands which the
+/// log names, and it leads to the mirror whose copies' blocks are told behind it.
+pub fn the_log_of_the_end_is_legal<G: Game>()
+    ensures { (opening : G) (m : MatchData) (number : ℕ) (rs : List Request)
+        (commands : List Command)
+        → let start = opening_session opening m number in
+        let ended = (after_requests start rs).mirror in
+        IsMatch m → FitAlong start rs → AllByRecursion (IsAmong commands) ended.history
+        → IsLegal commands (audited_from opening m) ended.history
+        × (without_room (after (audited_from opening m) ended.history) ≡ without_room ended) }
+{}
+
+/// What mirrors of one setup told at their ends, each from its log on, put behind the head of a record
+/// and the match with the commands that arrived, and closed by `done`, is how a record is written whose
+/// logs and worlds are legal; no verdict on that record is another. No two of the commands have one
+/// name, and they are no more than a match may have. That the text is read so is a law of the arena.
+pub fn the_record_of_the_ends_is_legal<G: Game>()
+    ensures told { (show : Showing G) (s : SessionState G) → let ended = after_request s requests.End in
+        (front : List ℕ) × (answer_text show s requests.End ≡ front ++ record_part show s.number ended.mirror) }
+    ensures game { (m : MatchData) (commands : List Command) → IsMatch m → MayBeCommands m commands
+        → IsMatch (with_commands m commands) }
+    ensures text { (show : Showing G) (m : MatchData) (ends : List (SessionState G))
+        → put_together show m ends ≡ record_text (record_of show m ends) }
+    ensures legal { (show : Showing G) (opening : G) (m : MatchData) (commands : List Command)
+        (ends : List (SessionState G))
+        → IsMatch m → MayBeCommands m commands → AreEnds opening m commands 0 ends
+        → IsLegalRecord show opening (record_of show (with_commands m commands) ends) }
+    ensures verdict { (show : Showing G) (opening : G) (m : MatchData) (commands : List Command)
+        (ends : List (SessionState G)) (v : Verdict)
+        → IsMatch m → MayBeCommands m commands → AreEnds opening m commands 0 ends
+        → let made = record_of show (with_commands m commands) ends in
+        Tells show opening made v → v ≡ Legal (event_count made.logs) }
+{}
+
+/// In the arena the text that is put together of what the mirrors of a match told at their ends, one
+/// of each number, is that of a record: reading it gives exactly this record, which is legal, and no
+/// verdict on it is another. So an audit finds it legal. No limit of such a text is passed, whatever
+/// the mirrors were asked: no log has more events than a log may have, each world is shown by lines of
+/// a block, and the text is no longer than one may be.
+pub fn the_text_of_the_ends_is_read_as_a_legal_record()
+    ensures record { (m : MatchData) (commands : List Command) (ends : List (SessionState World))
+        → IsMatch m → MayBeCommands m commands → AreAllEnds opening_world m commands ends
+        → IsRecord (record_of (arena_shown m) (with_commands m commands) ends) }
+    ensures read { (m : MatchData) (commands : List Command) (ends : List (SessionState World))
+        → IsMatch m → MayBeCommands m commands → AreAllEnds opening_world m commands ends
+        → let game = with_commands m commands in
+        read_record (put_together (arena_shown m) game ends) ≡ Ok (record_of (arena_shown m) game ends) }
+    ensures verdict { (m : MatchData) (commands : List Command) (ends : List (SessionState World))
+        (v : Verdict) → IsMatch m → MayBeCommands m commands → AreAllEnds opening_world m commands ends
+        → let made = record_of (arena_shown m) (with_commands m commands) ends in
+        Tells (arena_shown m) (opening_world m.layout) made v ↔ (v ≡ Legal (event_count made.logs)) }
+{}
+
+/// What live mirrors of one setup told that came to their ends, whatever else they were told. Each
+/// closed with what a record has of it, and `done`. Where just these commands were taken or turned away
+/// by them, of which no two have one name and which are no more than a match may have, they stand as
+/// the laws of ends ask.
+pub fn what_live_mirrors_told_closes_with_their_parts<G: Begins>()
+    ensures closes { (m : MatchData) (number : ℕ) (t : EndedTalk G)
+        → let g = staging G.rules G.lines G.opening in IsTalkOf g m number t
+        → (front : List ℕ) × (t.state.number ≡ number) × (live_due g number t.bytes
+        ≡ front ++ (record_part (shown_by g m.names) number t.state.mirror ++ done_line)) }
+    ensures ends { (m : MatchData) (commands : List Command) (talks : List (EndedTalk G))
+        → AreAllTalks (staging G.rules G.lines G.opening) m commands talks
+        → MayBeCommands m commands × AreAllEnds G.opening m commands (states_of talks) }
+{}
+
+/// In the arena the text that is put together of those parts is read as a record that is legal, on
+/// which no verdict is another.
+pub fn what_live_mirrors_told_is_read_as_a_legal_record()
+    ensures read { (m : MatchData) (commands : List Command) (talks : List (EndedTalk World))
+        → IsMatch m → AreAllTalks arena_staging m commands talks
+        → let game = with_commands m commands in
+        read_record (put_together (arena_shown m) game (states_of talks))
+        ≡ Ok (record_of (arena_shown m) game (states_of talks)) }
+    ensures verdict { (m : MatchData) (commands : List Command) (talks : List (EndedTalk World))
+        (v : Verdict) → IsMatch m → AreAllTalks arena_staging m commands talks
+        → let made = record_of (arena_shown m) (with_commands m commands) (states_of talks) in
+        Tells (arena_shown m) (opening_world m.layout) made v ↔ (v ≡ Legal (event_count made.logs)) }
+{}

@@ -1,0 +1,3 @@
+pub mod Draining
+mod Shown
+pub mod Taken
