@@ -133,7 +133,7 @@ class Study:
         self.again = sum(self.again_by_copy)
         self.executed = self.mirrors * len(self.delays) * self.length + self.again
         astray = [count for mirror in mirrors for count in mirror.astray]
-        self.astray = sum(astray) / max(1, len(astray))
+        self.astray, self.most_astray = sum(astray) / max(1, len(astray)), max(astray, default=0)
         self.waits = sorted(wait for mirror in mirrors for wait in mirror.waits)
         self.apart = apart(lines, self.mirrors, len(self.delays) - 1)
         self.memory = self.mirrors * (len(self.delays) + 1) * WORLD_BYTES
