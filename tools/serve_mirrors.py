@@ -10,11 +10,14 @@
 MATCH is a file with a match text, of which the setup is taken: length, grid, mirrors, delays, plans, walls, pickups, players. Each
 mirror is a process `tss_mirror`, which is spoken to line by line; all are ticked by one clock, and linked by TCP. In the first form
 all mirrors run on this machine, and the address of a page is printed on which one plays; in the second one mirror runs here, and is
-linked to those named. With `--broker` their commands go over a broker of messages (MQTT) in place of links. `--lag`, `--jitter` (milliseconds) and `--loss` (0 to 0.5) make the links a net; what is lost is sent again.
+linked to those named. With `--broker` their commands go over a broker of messages (MQTT) in place of links. `--lag`, `--jitter`
+(milliseconds) and `--loss` (0 to 0.5) make the links a net; what is lost is sent again.
 
 At the end of the match, after `--seconds`, or at Ctrl-C every mirror is ended, and one line says whether all end at one world and
-whether `tss audit` finds the record legal. `--out FOLDER` keeps the record, the match with its commands, and the match with a script
-of what happened, for show_match.py and study_delays.py. Where each mirror ran alone, `--gather` puts together what each kept by `--out`.
+whether `tss audit` finds the record legal. A second Ctrl-C ends all at once. `--out FOLDER` keeps the record, the match with its
+commands, and the match with a script of what happened, for show_match.py and study_delays.py; until then it has a journal of each
+mirror. `--gather` puts together what mirrors that ran alone kept, each in its folder; or, where a session's tool was killed, it plays
+the session's journals again.
 
 With `--endless` the session has no end but `--seconds` or Ctrl-C: the mirrors are of `tss live 2`, and the match's length is how many
 ticks they remember. At its end the last copies are brought to one tick; whether they show one world there, and each follows from what
@@ -33,17 +36,23 @@ import sys
 
 from match_lines import PROGRAM, Wrong, end_with, number_in
 from serving.endless import EndlessSession, PlayedWithoutEnd
-from serving.session import Played, Session, Told, setup_of
+from serving.gather import gathered as gathered_with_end, gathered_without_end, write_ended
+from serving.journal import Journal, set_aside, try_folder
+from serving.log import WARNING, Out, Told
+from serving.played import Played, setup_of
+from serving.session import Session
 from serving.wire import Net
 
+OUT = Out(1)
 MIRROR_PROGRAM = os.path.normpath(os.path.join(os.path.dirname(os.path.abspath(__file__)), "..", "crates", "tss_mirror", "out", "tss_mirror"))
 
 
 def place_of(word):
-    found = re.fullmatch(r"([\w.:-]+):(\d{1,5})", word)
-    if not found or not 0 <= int(found.group(2)) < 65536:
-        raise argparse.ArgumentTypeError(f"'{word[:60]}' is no HOST:PORT")
-    return found.group(1), int(found.group(2))
+    """A name or number, or one of IPv6 in brackets, with its port."""
+    found = re.fullmatch(r"(?:\[([0-9A-Fa-f:.]+)\]|([\w.-]+)):(\d{1,5})", word)
+    if not found or not 0 <= int(found.group(3)) < 65536:
+        raise argparse.ArgumentTypeError(f"'{word[:60]}' is no HOST:PORT, nor [IPV6]:PORT")
+    return found.group(1) or found.group(2), int(found.group(3))
 
 
 def peer_of(word):
@@ -63,6 +72,12 @@ def part_of(word):
     return value
 
 
+def origin_of(word):
+    if not re.fullmatch(r"https?://[\w.-]+(:\d{1,5})?", word):
+        raise argparse.ArgumentTypeError(f"'{word[:60]}' is no http://HOST[:PORT] or https://HOST[:PORT]")
+    return word.lower()
+
+
 def parser_of():
     parser = argparse.ArgumentParser(description=__doc__, formatter_class=argparse.RawDescriptionHelpFormatter)
     parser.add_argument("match", metavar="MATCH")
@@ -74,13 +89,17 @@ def parser_of():
     parser.add_argument("--seconds", type=number_in(1, 86400), help="ends after so many seconds")
     parser.add_argument("--no-page", action="store_true", help="serves no page")
     parser.add_argument("--port", type=number_in(0, 65535), default=8020, help="of the page, on the loopback (default: 8020)")
-    parser.add_argument("--out", metavar="FOLDER", help="keeps what was played")
+    parser.add_argument("--origin", type=origin_of, metavar="URL", help="where a proxy shows the page to others, as https://play.example.org")
+    parser.add_argument("--out", metavar="FOLDER", help="keeps what was played, and while it is played a journal of each mirror")
     parser.add_argument("--mirror", type=number_in(0, 7), help="runs this mirror alone")
     parser.add_argument("--listen", type=place_of, metavar="HOST:PORT", help="where the other mirrors reach it")
     parser.add_argument("--peer", type=peer_of, action="append", default=[], metavar="K=HOST:PORT", help="where mirror K is reached; for each other mirror")
+    parser.add_argument("--wait", type=number_in(0, 86400), metavar="S", help="mirror 0 begins after so many seconds, whoever isn't there (default: it waits for all)")
     parser.add_argument("--broker", type=place_of, metavar="HOST:PORT", help="carries commands in place of links")
+    parser.add_argument("--broker-ca", metavar="FILE", help="speaks TLS, with the certificate of who signed the broker's; TSS_BROKER_USER and TSS_BROKER_PASSWORD log in")
+    parser.add_argument("--forget", metavar="SESSION", help="takes away what a session that was killed has left at the broker")
     parser.add_argument("--endless", action="store_true", help="the session has no end; the match's length is the mirrors' window")
-    parser.add_argument("--gather", nargs="+", metavar="FOLDER", help="audits what mirrors that ran alone kept, one folder each")
+    parser.add_argument("--gather", nargs="+", metavar="FOLDER", help="audits what mirrors that ran alone kept, one folder each, or a killed session's journals")
     parser.add_argument("--key", metavar="FILE", help="the shared key by which mirrors know each other")
     parser.add_argument("--program", default=PROGRAM, help="the built program `tss`")
     parser.add_argument("--mirror-program", default=MIRROR_PROGRAM, help="the built program `tss_mirror`")
@@ -94,26 +113,41 @@ def key_of(given):
         return secrets.token_bytes(32)
     try:
         with open(given.key, "rb") as file:
-            key = file.read().strip()
+            key, mode = file.read(), os.fstat(file.fileno()).st_mode
     except OSError as fault:
         raise Wrong(f"{given.key}: {fault.strerror}")
-    if len(key) < 16:
-        raise Wrong(f"{given.key}: a key has at least 16 bytes")
+    if all(byte in range(32, 127) or byte in b"\r\n\t" for byte in key):
+        key = key.strip()  # a line of text; random bytes are taken as they are
+    if len(key) < 16 or len(set(key)) < 6:
+        raise Wrong(f"{given.key}: a key has at least 16 bytes, of at least 6 values; `openssl rand -hex 32` makes one")
+    if mode & 0o077:
+        OUT.line(f"{given.key}: others of this machine may read or change the key; `chmod 600 {given.key}`")
     return key
 
 
-def link_by_broker(session, place):
+def link_by_broker(session, given):
     try:
         from serving.broker import BrokerLink
+        from serving.broker_client import Access
     except ImportError:
         raise Wrong("a broker needs paho: `apt-get install python3-paho-mqtt`")
+    access = Access(given.broker, os.environ.get("TSS_BROKER_USER"), os.environ.get("TSS_BROKER_PASSWORD"), given.broker_ca)
     for room in session.rooms.values():
-        room.out["broker"] = BrokerLink(room, place, session.key)
+        room.out["broker"] = BrokerLink(room, access, given.forget)
+
+
+def look_at_lag(session, given):
+    """A pretended lag may be over the last delay where all mirrors are here, to show what becomes of it."""
+    delay = 1000 * session.match.numbers("delays")[-1] / given.rate
+    if given.mirror is not None and given.lag + given.jitter > delay:
+        raise Wrong(f"--lag and --jitter: {given.lag + given.jitter} ms are over the last delay, {delay:.0f} ms: commands would come late, and the mirrors end at different worlds")
 
 
 async def link_all(session, given):
+    look_at_lag(session, given)
+    session.wait = given.wait
     if given.broker:
-        link_by_broker(session, given.broker)
+        link_by_broker(session, given)
         return
     if given.mirror is None:
         places = {number: await session.listen(number, "127.0.0.1", 0) for number in session.rooms}
@@ -123,7 +157,7 @@ async def link_all(session, given):
                     session.link(number, other, places[other])
         return
     others = set(range(session.match.numbers("mirrors")[0])) - {given.mirror}
-    if given.listen is None or {number for number, _ in given.peer} != others:
+    if given.listen is None or sorted(number for number, _ in given.peer) != sorted(others):
         raise Wrong(f"--mirror {given.mirror} wants --listen and a --peer for each of the mirrors {sorted(others)}")
     await session.listen(given.mirror, *given.listen)
     for number, place in given.peer:
@@ -136,53 +170,69 @@ def page_of(session, given, stop):
     try:
         from serving.web import Page
     except ImportError:
-        raise Wrong("the page needs aiohttp: `apt-get install python3-aiohttp`, or give --no-page")
-    return Page(session, stop)
+        raise Wrong(f"the page needs aiohttp, which {sys.executable} hasn't: `apt-get install python3-aiohttp` and /usr/bin/python3, or give --no-page")
+    return Page(session, stop, given.origin)
 
 
-def gathered(match, given):
-    """What mirrors that ran alone told at their ends, with the commands that each accepted or turned away."""
-    told, commands = {}, {}
-    for folder in given.gather:
-        try:
-            with open(os.path.join(folder, "ended"), encoding="ascii") as file:
-                lines = file.read().split("\n")[:-1]
-        except OSError as fault:
-            raise Wrong(f"{folder}: {fault.strerror}")
-        cut = next(at for at, line in enumerate(lines) if not line.startswith("cmd "))
-        commands.update({tuple(map(int, line.split(" ")[2:4])): line[4:] for line in lines[:cut]})
-        told[next(int(line.split(" ")[1]) for line in lines if line.startswith("mirror "))] = lines[cut:]
-    if sorted(told) != list(range(match.numbers("mirrors")[0])):
-        raise Wrong(f"--gather wants a folder for each mirror; there are those of {sorted(told)}")
-    played = Played(match, told, [commands[name] for name in sorted(commands)], [])
+async def gathered(match, given):
+    """Puts together what was kept, and has it audited."""
     if given.out:
-        played.write(given.out)
-    verdict, is_right = played.verdict(given.program)
-    print(verdict)
-    return 0 if is_right else 1
+        try_folder(given.out)
+    gather = gathered_without_end if given.endless else gathered_with_end
+    is_right, is_kept = await judged(await gather(match, given.mirror_program, given.gather), given)
+    return 0 if is_right and is_kept else 1
+
+
+def journals_of(session, given, told):
+    """Has each mirror's journal kept in the folder; that of a session that didn't end there is set aside."""
+    if given.out is None:
+        return
+    try_folder(given.out)
+    aside = set_aside(given.out)
+    if aside:
+        told(None, f"what a session that didn't end kept is in {aside} now; --gather {aside} plays it again", WARNING)
+    for number, room in session.rooms.items():
+        room.process.journal = Journal(given.out, number, told)
+
+
+def end_by_signals(session, given, stop):
+    """The first ends the session as it is due, the second at once."""
+    def interrupted():
+        if not stop.is_set():
+            session.told(None, "the session is ended: what is on its way is brought; a second interrupt ends it at once")
+            stop.set()
+            return
+        for room in session.rooms.values():
+            room.process.end()
+        OUT.line("ended at once" + (f"; --gather {given.out} plays what was played again" if given.out else ""))
+        OUT.drain(1)
+        os._exit(130)
+    for which in (signal.SIGINT, signal.SIGTERM, signal.SIGHUP):
+        asyncio.get_running_loop().add_signal_handler(which, interrupted)
 
 
 async def serve(given):
     match = setup_of(given.match, given.program)
     if given.gather:
-        return gathered_without_end(match, given) if given.endless else gathered(match, given)
+        return await gathered(match, given)
     if given.endless and given.broker:
         raise Wrong("--endless wants links: a broker keeps each command until the end")
     mirrors = match.numbers("mirrors")[0]
     if given.mirror is not None and given.mirror >= mirrors:
         raise Wrong(f"--mirror {given.mirror}: the match has {mirrors} mirrors")
     numbers = range(mirrors) if given.mirror is None else [given.mirror]
-    told, stop = Told(), asyncio.Event()
+    told, stop = Told(OUT), asyncio.Event()
+    told.hear_asyncio()
     session = (EndlessSession if given.endless else Session)(match, given.mirror_program, numbers, key_of(given), Net(given.lag, given.jitter, given.loss), given.rate, told)
-    for which in (signal.SIGINT, signal.SIGTERM):
-        asyncio.get_running_loop().add_signal_handler(which, stop.set)
     page = page_of(session, given, stop)
     session.add_bots(given.bots)
+    journals_of(session, given, told)
+    end_by_signals(session, given, stop)
     try:
         await link_all(session, given)
         await session.begin()
         if page:
-            print(f"play at {await page.begin(given.port)}", flush=True)
+            OUT.line(f"play at {await page.begin(given.port)}")
         await session.run(given.seconds, stop)
         return await ended(session, given, page)
     finally:
@@ -191,52 +241,59 @@ async def serve(given):
 
 async def ended(session, given, page):
     told = await session.finish()
-    print(session.work_line(), flush=True)
-    if given.endless:
-        return await ended_without_end(session, PlayedWithoutEnd.of(session, told), given, page)
-    played = Played.of(session, told)
-    if given.mirror is not None:
-        return ended_alone(given, session.rooms[given.mirror], told[given.mirror])
-    if given.out:
-        played.write(given.out)
-    verdict, is_right = played.verdict(given.program)
-    print(verdict, flush=True)
+    OUT.line(session.work_line())
+    if given.mirror is not None and not given.endless:
+        return ended_alone(session, given, told.get(given.mirror))
+    played = (PlayedWithoutEnd if given.endless else Played).of(session, told)
+    is_right, is_kept = await judged(played, given, page)
+    if is_kept and not played.missing():
+        remove_journals(session)
+    return 0 if is_right and is_kept else 1
+
+
+async def judged(played, given, page=None):
+    """Prints the verdict, then keeps what was played, then tells the page. Whether all is right, and is kept."""
+    verdict, is_right = await asyncio.to_thread(played.verdict, given.program)
+    OUT.line(verdict)
+    is_kept = kept(given, lambda: played.write(given.out))
     if page:
         await page.tell_end(verdict)
-    return 0 if is_right else 1
+    return is_right, is_kept
 
 
-async def ended_without_end(session, played, given, page):
-    if given.out:
-        played.write(given.out)
-    verdict, is_right = played.verdict()
-    print(verdict, flush=True)
-    if page:
-        await page.tell_end(verdict)
-    return 0 if is_right else 1
+def kept(given, write):
+    try:
+        if given.out:
+            write()
+    except OSError as fault:
+        OUT.line(f"{given.out}: {fault.strerror}; what is to be kept there isn't whole, and --gather may play its journals again")
+        return False
+    return True
 
 
-def gathered_without_end(match, given):
-    played = PlayedWithoutEnd.gathered(match, given.gather)
-    if given.out:
-        played.write(given.out)
-    verdict, is_right = played.verdict()
-    print(verdict)
-    return 0 if is_right else 1
-
-
-def ended_alone(given, room, told):
+def ended_alone(session, given, told):
     """What one mirror of several machines told at its end is kept for `--gather`."""
-    if given.out:
-        os.makedirs(given.out, exist_ok=True)
-        with open(os.path.join(given.out, "ended"), "w", encoding="ascii") as file:
-            file.write("".join(line + "\n" for line in [f"cmd {command}" for command in room.commands.values()] + told))
-    print(next(line for line in told if line.startswith("mirror ")), flush=True)
-    return 0
+    if told is None:
+        return 1
+    OUT.line(next(line for line in told if line.startswith("mirror ")))
+    commands = session.rooms[given.mirror].commands.values()
+    is_kept = kept(given, lambda: write_ended(given.out, session.match, commands, told))
+    if is_kept:
+        remove_journals(session)
+    return 0 if is_kept else 1
+
+
+def remove_journals(session):
+    for room in session.rooms.values():
+        if room.process.journal:
+            room.process.journal.remove()
 
 
 def main():
-    return asyncio.run(serve(parser_of().parse_args()))
+    try:
+        return asyncio.run(serve(parser_of().parse_args()))
+    finally:
+        OUT.drain(5)
 
 
 if __name__ == "__main__":

@@ -5,14 +5,15 @@ the last copies of all that are there are brought to one tick, and what each tel
 """
 
 import asyncio
-import gc
-import os
-import time
+import heapq
 
 from audit_base import BaseText, Unreadable
-from match_lines import Wrong
 
+from .clock import now
+from .journal import write_lines
+from .log import ERROR, WARNING
 from .mirror_process import Died
+from .played import counted
 from .room import Room
 from .session import Session
 
@@ -22,14 +23,14 @@ def time_of(command):
 
 
 class EndlessRoom(Room):
-    """A mirror that remembers a window of ticks. `far` has commands that its window didn't reach yet."""
+    """A mirror that remembers a window of ticks. `far` is a heap, by time, of commands that its window didn't reach yet."""
 
     HEAD, MOST_FAR, WINDOWS_SENT = "tss live 2", 65_536, 2
 
     def __init__(self, *given):
         super().__init__(*given)
         self.plans = [self.delays] + [[int(word) for word in words] for words in self.match.lines_of("plan")]
-        self.far, self.has_left, self.last_tick = [], False, None
+        self.far, self.last_tick = [], None
 
     def is_over(self):
         return self.has_left or (self.last_tick is not None and self.clock >= self.last_tick)
@@ -40,21 +41,19 @@ class EndlessRoom(Room):
     def enter(self, line):
         pass
 
-    def hear(self, command):
-        if not self.has_left:
-            super().hear(command)
-
-    async def turn(self, looks=()):
+    async def accepted(self):
         try:
-            return await self.make_turn(looks)
+            return [line[4:] for line in (await self.process.ask("commands"))[0].lines]
         except Died:
-            self.leave()
-            return {}
+            return []
 
-    def leave(self):
-        """Its links still bring what it told."""
+    async def come_back(self, died):
+        """It can't. Its links still bring what it told."""
+        self.leave(died)
+
+    def leave(self, died):
         self.has_left, self.acts, self.heard, self.far = True, [], [], []
-        self.say("the mirror died, and has left the session; what it had told nobody is lost")
+        self.say(f"the mirror {died}, and has left the session; what it had told nobody is lost", ERROR)
 
     async def make_turn(self, looks):
         self.hear_far()
@@ -69,16 +68,17 @@ class EndlessRoom(Room):
 
     def hear_far(self):
         """What is due by now the window reaches."""
-        self.heard += [command for command in self.far if time_of(command) <= self.clock]
-        self.far = [command for command in self.far if time_of(command) > self.clock]
+        while self.far and self.far[0][0] <= self.clock:
+            self.heard.append(heapq.heappop(self.far)[1])
 
     def take_heard(self, command, answer):
         if not any(line.startswith("far ") for line in answer.lines):
             super().take_heard(command, answer)
         elif len(self.far) < self.MOST_FAR:
-            self.far.append(command)
+            heapq.heappush(self.far, (time_of(command), command))
         else:
             self.notes += answer.lines
+            self.say("commands far ahead are turned away: there are too many", WARNING)
 
     def give_up_old(self):
         """What couldn't be brought for two windows comes late wherever it comes."""
@@ -87,7 +87,7 @@ class EndlessRoom(Room):
             for at in old:
                 del link.waiting[at]
             if old:
-                self.say(f"{len(old)} commands to mirror {link.other} are given up: they are {self.WINDOWS_SENT} windows old")
+                self.say(f"{len(old)} commands to mirror {link.other} are given up: they are {self.WINDOWS_SENT} windows old", WARNING)
 
     # ---- the end
 
@@ -102,19 +102,15 @@ class EndlessRoom(Room):
         while (await self.process.ask(*[f"step {copy}" for copy in range(last + 1)]))[-1].lines != [f"idle {self.number} {last}"]:
             pass
 
-    async def hand_in(self):
-        heard, self.heard = self.heard, []
-        answers = await self.process.ask(*[f"cmd {command}" for command in heard]) if heard else []
-        for command, answer in zip(heard, answers):
-            self.take_heard(command, answer)
-
     async def end(self):
         """What its end tells, from `base` on."""
-        return (await self.process.ask("end"))[0].lines + ["done"]
+        return (await self.process.ask("end", patience=self.process.END_PATIENCE))[0].lines + ["done"]
 
 
 class EndlessSession(Session):
-    ROOM = EndlessRoom
+    """Mirrors of `tss live 2`, ticked until somebody ends them."""
+
+    ROOM, LATE_FOR = EndlessRoom, "its first window"
 
     def length(self):
         return None
@@ -129,32 +125,10 @@ class EndlessSession(Session):
         """The seconds are those of the session, so that mirrors of several machines end at one tick."""
         for room in self.rooms.values():
             room.last_tick = None if seconds is None else seconds * self.rate
-        try:
-            await super().run(None, stop)
-        finally:
-            gc.unfreeze()
+        await super().run(None, stop)
 
-    def spare_collections(self):
-        """A session without an end needs collections, but not of what was there before it."""
-        gc.collect()
-        gc.freeze()
-
-    async def wait_for_start(self, stop):
-        await super().wait_for_start(stop)
-        for room in self.rooms.values():
-            behind = 0 if room.start is None else int((time.time() - room.start) * self.rate)
-            if behind > room.length:
-                raise Wrong(f"the session is at tick {behind}, past its first window: a mirror can't join it any more")
-
-    async def tick(self, room, end, stop):
-        await super().tick(room, end, stop)
-        if room.has_left:
-            for player in [player for player, number in self.claims.items() if number == room.number]:
-                self.release(player)
-            if self.shown_left:
-                self.shown_left(room.number)
-
-    shown_left = None
+    def most_behind(self, room):
+        return room.length
 
     async def finish(self):
         """Brings the last copies of all mirrors that are there to one tick, and ends them. What each told."""
@@ -167,8 +141,8 @@ class EndlessSession(Session):
             try:
                 await room.run_up_to(tick)
                 told[room.number] = await room.end()
-            except Died:
-                room.leave()
+            except Died as died:
+                room.leave(died)
         await self.close()
         return told
 
@@ -177,7 +151,7 @@ class EndlessSession(Session):
         for room in self.there():
             room.acts = []
             while not room.has_left and room.clock < tick + room.plans[room.plan][-1]:
-                await asyncio.sleep(max(0.0, room.start + room.clock / self.rate - time.time()))
+                await asyncio.sleep(max(0.0, (room.start or now()) + room.clock / self.rate - now()))
                 await room.turn()
 
 
@@ -191,28 +165,14 @@ class PlayedWithoutEnd:
     def of(session, told):
         return PlayedWithoutEnd(session.match, told, session.left())
 
-    @staticmethod
-    def gathered(match, folders):
-        """What mirrors that ran alone kept, one in each folder."""
-        played = PlayedWithoutEnd(match, {}, [])
-        for number in range(match.numbers("mirrors")[0]):
-            found = [path for path in (os.path.join(folder, name_of(number)) for folder in folders) if os.path.exists(path)]
-            if not found:
-                played.left.append(number)
-                continue
-            with open(found[0], encoding="ascii") as file:
-                played.texts[number] = file.read().split("\n")[:-1]
-        if not played.texts:
-            raise Wrong(f"--gather finds no '{name_of(0)}' there, nor of another mirror")
-        return played
+    def missing(self):
+        return self.left
 
     def write(self, folder):
-        os.makedirs(folder, exist_ok=True)
         for number, lines in self.texts.items():
-            with open(os.path.join(folder, name_of(number)), "w", encoding="ascii") as file:
-                file.write("".join(line + "\n" for line in lines))
+            write_lines(folder, name_of(number), lines)
 
-    def verdict(self):
+    def verdict(self, tss=None):
         """One line on what mirrors told, and whether all is as it should be. They are compared at the first tick at which one of them
         ended: each of the others is executed from its base up to there."""
         said, is_right = self.judged()
@@ -230,11 +190,21 @@ class PlayedWithoutEnd:
         if ticks[-1] > tick:
             return "the mirrors have no tick in common", False
         is_one = len({tuple(base.world_at(tick)) for base in bases}) == 1
-        said = "one world" if is_one else "different worlds, since commands were late,"
+        said = "one world" if is_one else f"different worlds ({reasons(bases, ticks[-1], tick)})"
         numbers = ", ".join(str(base.mirror) for base in bases)
         who, shown = (f"mirror {numbers}", "shows its world") if len(bases) == 1 else (f"mirrors {numbers}", f"show {said}")
         base = f"tick {ticks[0]}" if ticks[0] == ticks[-1] else f"ticks {ticks[0]} to {ticks[-1]}"
         return f"{who} {shown} at tick {tick}, which follows from the base at {base}", is_one
+
+
+def reasons(bases, first, last):
+    """Which commands of the ticks that all remember which mirror lacks."""
+    held = {base.mirror: {command for command in base.commands if first <= command[0] < last} for base in bases}
+    union, found = set().union(*held.values()), []
+    for mirror, commands in held.items():
+        lacks = [" ".join(map(str, command)) for command in sorted(union - commands)]
+        found += [f"mirror {mirror} lacks {counted(lacks)}"] if lacks else []
+    return "; ".join(found) or f"what parted them lies before tick {first}, and is forgotten"
 
 
 def name_of(number):

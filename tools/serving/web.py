@@ -3,9 +3,13 @@
 A message is a JSON object. From the page: `{"do": "look", "mirror": M}`, `{"do": "claim", "player": P}`, `{"do": "act", "act": ACT, "token":
 TOKEN}`, `{"do": "leave", "token": TOKEN}`, `{"do": "net", "lag": MS, "jitter": MS, "loss": PART}`, `{"do": "plan", "plan": K}`. What is no such
 object, of another shape or for another's player is answered by `{"error": ..}` and changes nothing.
+
+The page is served on the loopback, under the names 127.0.0.1, localhost and [::1] alone, to pages of its own address; `origin`, where a
+proxy shows it to others, is one more address. So no page of another name, even one that is led to the loopback, reaches it.
 """
 
 import asyncio
+import collections
 import json
 import os
 import secrets
@@ -13,9 +17,14 @@ import time
 
 from aiohttp import WSMsgType, web
 
+from .door import Door, Names
+from .mirror_process import Died
+
 PAGE = os.path.join(os.path.dirname(os.path.abspath(__file__)), "page.html")
 ACTS = ("go", "left", "right", "shoot", "dash")
 MOST_MESSAGES_A_SECOND, LONGEST_MESSAGE, HEARD_OUT = 60, 400, 0.5
+PING_SECONDS, SENT_SECONDS = 10, 15
+HEADERS = {"Cache-Control": "no-store", "Content-Security-Policy": "default-src 'self' 'unsafe-inline'; connect-src 'self'; frame-ancestors 'none'"}
 
 
 class Bad(Exception):
@@ -23,16 +32,35 @@ class Bad(Exception):
 
 
 class Viewer:
-    """One page that is open."""
+    """One page that is open. Of what waits for a page that is too slow the oldest tick, note or error is dropped, and nothing else."""
 
-    def __init__(self, socket):
-        self.socket, self.mirror, self.player, self.token = socket, None, None, None
-        self.since, self.messages, self.queue = 0.0, 0, asyncio.Queue(maxsize=40)
+    MOST_WAITING, DROPPED, NEWEST = 40, {"tick", "note", "error"}, {"claims", "net"}
+
+    def __init__(self, socket, transport=None):
+        self.socket, self.transport, self.mirror, self.player, self.token = socket, transport, None, None, None
+        self.since, self.messages, self.waiting, self.some = 0.0, 0, collections.deque(), asyncio.Event()
 
     def put(self, message):
-        if self.queue.full():
-            self.queue.get_nowait()  # a page that is too slow misses a tick, not the newest
-        self.queue.put_nowait(message)
+        kind = next(iter(message))
+        if kind in self.NEWEST or len(self.waiting) >= self.MOST_WAITING:
+            kinds = {kind} if kind in self.NEWEST else self.DROPPED
+            oldest = next((old for old in self.waiting if next(iter(old)) in kinds), None)
+            if oldest is not None:
+                self.waiting.remove(oldest)
+        self.waiting.append(message)
+        self.some.set()
+
+    async def next(self):
+        """The next message; None where there was none for so long."""
+        try:
+            async with asyncio.timeout(PING_SECONDS):
+                await self.some.wait()
+        except TimeoutError:
+            return None
+        message = self.waiting.popleft()
+        if not self.waiting:
+            self.some.clear()
+        return message
 
     def counted(self):
         now = time.monotonic()
@@ -57,8 +85,10 @@ def whole(message, key, most):
 
 
 class Page:
-    def __init__(self, session, stop):
-        self.session, self.stop, self.viewers, self.runner, self.gone = session, stop, set(), None, set()
+    """The page's server: who looks at which mirror, whom they move, and what they are shown."""
+
+    def __init__(self, session, stop, origin=None):
+        self.session, self.stop, self.origin, self.viewers, self.runner, self.gone, self.idle = session, stop, origin, set(), None, set(), set()
         session.shown, session.shown_left, session.told.heard = self.show, self.left, self.tell
         self.does = {"look": self.look, "claim": self.claim, "act": self.act, "leave": self.leave, "net": self.net, "plan": self.plan}
 
@@ -68,20 +98,20 @@ class Page:
         app.router.add_get("/live", self.live)
         self.runner = web.AppRunner(app, access_log=None)
         await self.runner.setup()
-        site = web.TCPSite(self.runner, "127.0.0.1", port)
-        await site.start()
-        return f"http://127.0.0.1:{site._server.sockets[0].getsockname()[1]}/"
+        self.server = await asyncio.get_running_loop().create_server(lambda: Door(self), "127.0.0.1", port)
+        port = self.server.sockets[0].getsockname()[1]
+        self.names = Names(port, self.origin)
+        return f"http://127.0.0.1:{port}/"
 
     async def page(self, request):
-        return web.FileResponse(PAGE, headers={"Cache-Control": "no-store", "Content-Security-Policy": "default-src 'self' 'unsafe-inline'; connect-src 'self'"})
+        self.names.guard(request)
+        return web.FileResponse(PAGE, headers=HEADERS)
 
     async def live(self, request):
-        origin = request.headers.get("Origin")
-        if origin is not None and origin.split("//", 1)[-1] != request.host:
-            raise web.HTTPForbidden(text="a page of another place")
-        socket = web.WebSocketResponse(heartbeat=10, max_msg_size=LONGEST_MESSAGE)
+        self.names.guard(request)
+        socket = web.WebSocketResponse(max_msg_size=LONGEST_MESSAGE)
         await socket.prepare(request)
-        viewer = Viewer(socket)
+        viewer = Viewer(socket, request.transport)
         self.viewers.add(viewer)
         viewer.put(self.opening())
         sender = asyncio.get_running_loop().create_task(self.send_on(viewer))
@@ -95,8 +125,16 @@ class Page:
         return socket
 
     async def send_on(self, viewer):
-        while True:
-            await viewer.socket.send_str(json.dumps(await viewer.queue.get(), separators=(",", ":")))
+        """Sends what waits, and pings where nothing does. A page that takes nothing for a while is closed."""
+        try:
+            while True:
+                message = await viewer.next()
+                async with asyncio.timeout(SENT_SECONDS):
+                    await (viewer.socket.ping() if message is None else viewer.socket.send_str(json.dumps(message, separators=(",", ":"))))
+        except ConnectionError:
+            pass  # it is gone
+        except TimeoutError:
+            viewer.transport.abort()
 
     async def hear(self, viewer):
         async for given in viewer.socket:
@@ -126,7 +164,7 @@ class Page:
             message = json.loads(data)
         except ValueError:
             raise Bad("it is no JSON")
-        if not isinstance(message, dict) or message.get("do") not in self.does:
+        if not isinstance(message, dict) or not isinstance(message.get("do"), str) or message["do"] not in self.does:
             raise Bad("it is no object with a known 'do'")
         done = self.does[message["do"]](viewer, message)
         if asyncio.iscoroutine(done):
@@ -159,10 +197,11 @@ class Page:
 
     def act(self, viewer, message):
         self.own(viewer, message)
-        if message.get("act") not in ACTS:
+        if not isinstance(message.get("act"), str) or message["act"] not in ACTS:
             raise Bad("it is no act")
-        if not self.session.rooms[viewer.mirror].act(viewer.player, message["act"]):
-            raise Bad("too many acts in a tick")
+        room = self.session.rooms[viewer.mirror]
+        if not room.act(viewer.player, message["act"]):
+            raise Bad("the session is over" if room.is_closed or room.is_over() else "too many acts in a tick")
 
     def leave(self, viewer, message):
         self.own(viewer, message)
@@ -176,7 +215,10 @@ class Page:
     async def plan(self, viewer, message):
         if viewer.mirror is None:
             raise Bad("choose a mirror first")
-        refusal = await self.session.rooms[viewer.mirror].restagger(whole(message, "plan", 7))
+        try:
+            refusal = await self.session.rooms[viewer.mirror].restagger(whole(message, "plan", 7))
+        except Died as died:
+            raise Bad(f"the mirror {died}; try again")
         if refusal:
             raise Bad(f"the mirror says '{refusal}'")
 
@@ -204,7 +246,7 @@ class Page:
         self.tell_all({"claims": self.session.claims})
 
     def tell(self, mirror, text):
-        self.tell_all({"note": f"mirror {mirror}: {text}"})
+        self.tell_all({"note": text if mirror is None else f"mirror {mirror}: {text}"})
 
     def left(self, mirror):
         """The mirror has left a session without an end: who looked at it looks at none."""
@@ -233,4 +275,6 @@ class Page:
         await asyncio.sleep(0.5)
         for viewer in list(self.viewers):
             await viewer.socket.close()
+        self.server.close()
+        await self.runner.server.shutdown(1)
         await self.runner.cleanup()

@@ -1,11 +1,12 @@
-"""Links that carry commands from mirror to mirror over TCP, and the net that they pretend to be.
+"""How two mirrors' tools greet each other over TCP, the seal on each line behind the greeting, and the net that links pretend to be.
 
-A line is text, closed by a newline. Whoever connects sends `peer K NONCE`; the other answers `who M NONCE`; both then send `proof
-DIGEST`, an HMAC of the shared key over both nonces and both numbers, and close where the other's is wrong. From then on the
-connecting side sends `cmd SEQUENCE T F N P ACT`, and the other answers `ack SEQUENCE` to each. What isn't acknowledged in time is
-sent again; a mirror takes a command that it has once more without harm. `want` asks for all commands that the other side's mirror
-has, which come as `old T F N P ACT` and then `olds`: for a mirror that begins anew. `ping TIME` is answered by `pong TIME WALL START`,
-with the other's wall clock and the time of its tick 0, or 0 where it knows none.
+A line is text, closed by a newline. Whoever connects says `peer VERSION M RUN NONCE MATCH`: its mirror, a number drawn for this run of
+its tool, a nonce, and a digest of all in which two mirrors of one session agree. The other answers `who VERSION M RUN NONCE MATCH`. Whoever connects
+sends `proof DIGEST`, an HMAC of the shared key over both lines, and only who has seen that it is right answers with its own.
+
+From then on each line is `SEAL TEXT`. The seal is an HMAC, under a key that comes of the shared key, both greetings and the direction, over
+the line's number on this connection and its text. So no line can be changed, left out, put in or sent again without the connection being closed.
+Texts aren't secret. What they say is told in links.py.
 """
 
 import asyncio
@@ -16,12 +17,18 @@ import re
 import secrets
 import time
 
-LONGEST_LINE = 160
+VERSION = 2
+LONGEST_LINE = 200  # bytes, with the seal and the newline
 COMMAND = re.compile(r"(\d{1,10}) (\d) (\d{1,6}) (\d{1,2}) (go|left|right|shoot|dash)")
+HELLO = re.compile(r"(peer|who) (\d{1,4}) ([0-7]) ([0-9a-f]{16}) [0-9a-f]{32} ([0-9a-f]{32})")
 
 
 class Stranger(Exception):
     """Why a connection is closed."""
+
+
+class Refused(Stranger):
+    """Why a mirror that has the key isn't let in. It is told, and gives up."""
 
 
 class Net:
@@ -38,12 +45,69 @@ class Net:
         return max(0.0, self.lag + self.jitter * self.draw.uniform(-1, 1)) / 1000
 
     def patience(self):
-        """After how many seconds a line that isn't acknowledged is sent again."""
+        """After how many seconds a line that the net has lost is sent again."""
         return 0.1 + 3 * (self.lag + self.jitter) / 1000
 
+    def silence(self):
+        """After how many seconds in which nothing came a link counts as lost."""
+        return 5.0 + 2 * (self.lag + self.jitter) / 1000
 
-def proof(key, number, nonce, other, other_nonce):
-    return hmac.new(key, f"{number} {nonce} {other} {other_nonce}".encode("ascii"), hashlib.sha256).hexdigest()
+
+class Bucket:
+    """A token bucket: so many bytes a second, and at most those of a second at once."""
+
+    def __init__(self, rate):
+        self.rate, self.tokens, self.since = rate, rate, time.monotonic()
+
+    def take(self, count):
+        """Whether so many bytes may go now."""
+        now = time.monotonic()
+        self.tokens, self.since = min(self.rate, self.tokens + (now - self.since) * self.rate), now
+        if count > self.tokens:
+            return False
+        self.tokens -= count
+        return True
+
+    async def wait(self, count):
+        while not self.take(count):
+            await asyncio.sleep(0.05)
+
+
+class Identity:
+    """By what one run of a tool is known to the others: its mirror, the session's key and match, and a number drawn for the run."""
+
+    def __init__(self, key, number, match):
+        self.key, self.number, self.match, self.run = key, number, match, secrets.token_hex(8)
+
+
+def digest_of_match(lines):
+    """Of all in which two mirrors of one session agree."""
+    return hashlib.sha256("\n".join([f"links {VERSION}", *lines]).encode("ascii")).hexdigest()[:32]
+
+
+def hmac_of(key, text):
+    return hmac.digest(key, text.encode("ascii"), "sha256").hex()
+
+
+class Wire:
+    """A connection both of whose sides have greeted: `other` is the other's mirror, `run` its run."""
+
+    def __init__(self, reader, writer, identity, hello, keys):
+        self.reader, self.writer, (self.own, self.others) = reader, writer, keys
+        self.other, self.run, self.is_of_match = int(hello.group(3)), hello.group(4), hello.group(5) == identity.match
+        self.sent = self.heard = 0
+
+    def send(self, text):
+        if not self.writer.is_closing():
+            send(self.writer, f"{hmac_of(self.own, f'{self.sent} {text}')[:32]} {text}")
+            self.sent += 1
+
+    async def read(self):
+        seal, _, text = (await read_line(self.reader)).partition(" ")
+        if not hmac.compare_digest(seal, hmac_of(self.others, f"{self.heard} {text}")[:32]):
+            raise Stranger("a line was changed, left out or put in on its way")
+        self.heard += 1
+        return text
 
 
 async def read_line(reader):
@@ -51,7 +115,7 @@ async def read_line(reader):
     try:
         line = await reader.readuntil(b"\n")
     except asyncio.IncompleteReadError:
-        raise ConnectionResetError("closed")
+        raise ConnectionResetError("the other side closed it")
     except asyncio.LimitOverrunError:
         raise Stranger("a line is too long")
     if len(line) > LONGEST_LINE or not line.isascii():
@@ -63,175 +127,52 @@ def send(writer, line):
     writer.write(line.encode("ascii") + b"\n")
 
 
-async def greet(reader, writer, key, number, first):
-    """Both prove that they have the key. The other's number."""
-    nonce = secrets.token_hex(16)
-    word = "peer" if first else "who"
-    if first:
-        send(writer, f"{word} {number} {nonce}")
-    words = (await read_line(reader)).split(" ")
-    if len(words) != 3 or words[0] != ("who" if first else "peer") or not re.fullmatch("[0-7]", words[1]) or not re.fullmatch("[0-9a-f]{32}", words[2]):
+async def read_hello(reader, word):
+    line = await read_line(reader)
+    if line.startswith("closed "):
+        raise Stranger(f"the other side closed it: {line[7:]}")
+    found = HELLO.fullmatch(line)
+    if not found or found.group(1) != word:
         raise Stranger("it doesn't greet as a mirror")
-    other, other_nonce = int(words[1]), words[2]
-    if not first:
-        send(writer, f"{word} {number} {nonce}")
-    send(writer, "proof " + proof(key, number, nonce, other, other_nonce))
-    given = await read_line(reader)
-    if not hmac.compare_digest(given, "proof " + proof(key, other, other_nonce, number, nonce)):
+    if int(found.group(2)) != VERSION:
+        raise Stranger(f"it speaks version {found.group(2)} of the links, and this side {VERSION}")
+    return found
+
+
+async def hear_proof(reader, due):
+    line = await read_line(reader)
+    if line.startswith("closed "):
+        raise Stranger(f"the other side closed it: {line[7:]}")
+    if not hmac.compare_digest(line, f"proof {due}"):
         raise Stranger("it hasn't the key")
-    return other
 
 
-class LinkOut:
-    """Brings a mirror's own commands to one other mirror, until each is acknowledged."""
-
-    def __init__(self, room, other, place, key, net):
-        self.room, self.other, self.place, self.key, self.net = room, other, place, key, net
-        self.waiting, self.next, self.lag_ms, self.is_up, self.away = {}, 0, None, False, None
-        self.changed, self.task = asyncio.Event(), None
-
-    def begin(self):
-        self.task = asyncio.get_running_loop().create_task(self.run())
-
-    def tell_start(self):
-        pass  # each `pong` tells it
-
-    def again(self):
-        """Connects anew."""
-        self.task.cancel()
-        self.begin()
-
-    def put(self, command):
-        self.waiting[self.next] = [command, 0.0]
-        self.next += 1
-        self.changed.set()
-
-    async def run(self):
-        while True:
-            try:
-                await self.connect()
-            except (OSError, Stranger) as fault:
-                self.away = str(fault) or type(fault).__name__
-            self.is_up, self.lag_ms = False, None
-            await asyncio.sleep(0.3)
-
-    async def connect(self):
-        async with asyncio.timeout(5):
-            reader, writer = await asyncio.open_connection(*self.place, limit=LONGEST_LINE + 1)
-        try:
-            async with asyncio.timeout(5):
-                number = await greet(reader, writer, self.key, self.room.number, first=True)
-            if number != self.other:
-                raise Stranger(f"mirror {number} answers in place of mirror {self.other}")
-            self.is_up, self.away = True, None
-            for entry in self.waiting.values():
-                entry[1] = 0.0
-            if self.room.wants:
-                send(writer, "want")
-            sender = asyncio.get_running_loop().create_task(self.keep_sending(writer))
-            try:
-                await self.hear(reader)
-            finally:
-                sender.cancel()
-        finally:
-            writer.close()
-
-    async def keep_sending(self, writer):
-        loop, pinged = asyncio.get_running_loop(), 0.0
-        while True:
-            now = time.monotonic()
-            for sequence, entry in list(self.waiting.items()):
-                if now >= entry[1]:
-                    entry[1] = now + self.net.patience()
-                    way = self.net.way()
-                    if way is not None:
-                        loop.call_later(way, self.deliver, writer, sequence)
-            if now - pinged > 1:
-                pinged = now
-                loop.call_later(self.net.lag / 1000, send, writer, f"ping {now:.6f}")
-            self.changed.clear()
-            try:
-                async with asyncio.timeout(0.05):
-                    await self.changed.wait()
-            except TimeoutError:
-                pass
-
-    def deliver(self, writer, sequence):
-        if sequence in self.waiting and not writer.is_closing():
-            send(writer, f"cmd {sequence} {self.waiting[sequence][0]}")
-
-    def hear_pong(self, sent, wall, start):
-        way = time.monotonic() - sent
-        self.lag_ms = 1000 * way
-        self.room.hear_clock(self.other, wall + way / 2 - time.time(), start)
-
-    async def hear(self, reader):
-        while True:
-            words = (await read_line(reader)).split(" ")
-            if words[0] == "ack" and len(words) == 2 and words[1].isdigit():
-                self.waiting.pop(int(words[1]), None)
-            elif words[0] == "pong" and len(words) == 4:
-                self.hear_pong(*map(float, words[1:]))
-            elif words[0] == "old" and COMMAND.fullmatch(" ".join(words[1:])):
-                self.room.hear_old(" ".join(words[1:]))
-            elif words[0] == "olds":
-                self.room.heard_olds(self.other)
-            else:
-                raise Stranger("it says what no mirror says")
+async def greet(reader, writer, identity, is_first):
+    """Both prove that they have the key, who connects first. The wire behind it."""
+    own_word, other_word = ("peer", "who") if is_first else ("who", "peer")
+    own = f"{own_word} {VERSION} {identity.number} {identity.run} {secrets.token_hex(16)} {identity.match}"
+    if is_first:
+        send(writer, own)
+    hello = await read_hello(reader, other_word)
+    if not is_first:
+        send(writer, own)
+    both = f"{own}\n{hello.group()}" if is_first else f"{hello.group()}\n{own}"
+    proofs, keys = [{word: hmac_of(identity.key, f"{word} {use}\n{both}") for word in ("peer", "who")} for use in ("proves", "seals")]
+    if not is_first:
+        await hear_proof(reader, proofs["peer"])
+    send(writer, f"proof {proofs[own_word]}")
+    if is_first:
+        await hear_proof(reader, proofs["who"])
+    return Wire(reader, writer, identity, hello, [keys[word].encode("ascii") for word in (own_word, other_word)])
 
 
-class LinkIn:
-    """Takes what another mirror sends. What breaks a limit closes it with a reason, which is told."""
-
-    MOST_LINES_A_SECOND = 4000
-
-    def __init__(self, room, key):
-        self.room, self.key, self.other, self.lines, self.since = room, key, None, 0, 0.0
-
-    async def serve(self, reader, writer):
-        try:
-            async with asyncio.timeout(5):
-                self.other = await greet(reader, writer, self.key, self.room.number, first=False)
-            if self.other == self.room.number or self.other >= self.room.mirrors:
-                raise Stranger(f"there is no other mirror {self.other}")
-            while True:
-                self.take(await read_line(reader), writer)
-                await writer.drain()
-        except Stranger as why:
-            self.room.say(f"a connection was closed: {why}")
-            send(writer, f"closed {why}")
-        except (OSError, asyncio.CancelledError):
-            pass  # it went away, and comes back with what wasn't acknowledged; or the session is over
-        finally:
-            writer.close()
-
-    def take(self, line, writer):
-        now = time.monotonic()
-        if now - self.since > 1:
-            self.since, self.lines = now, 0
-        self.lines += 1
-        if self.lines > self.MOST_LINES_A_SECOND:
-            raise Stranger("too many lines in a second")
-        words = line.split(" ", 2)
-        if words[0] == "cmd" and len(words) == 3 and words[1].isdigit() and len(words[1]) < 16:
-            self.take_command(words[2])
-            send(writer, f"ack {words[1]}")
-        elif words[0] == "ping" and len(words) == 2 and len(words[1]) < 32:
-            send(writer, f"pong {words[1]} {time.time():.6f} {self.room.start or 0:.6f}")
-        elif line == "want":
-            asyncio.get_running_loop().create_task(self.tell_all(writer))
-        else:
-            raise Stranger("it says what no mirror says")
-
-    def take_command(self, command):
-        found = COMMAND.fullmatch(command)
-        if not found:
-            raise Stranger("it sends what is no command")
-        if int(found.group(2)) != self.other:
-            raise Stranger(f"mirror {self.other} sends a command of mirror {found.group(2)}")
-        self.room.hear(command)
-
-    async def tell_all(self, writer):
-        for command in await self.room.accepted():
-            send(writer, f"old {command}")
-        send(writer, "olds")
+async def first_of(*works):
+    """Both directions of a wire, until one of them ends or fails: then the other is over too."""
+    tasks = [asyncio.get_running_loop().create_task(work) for work in works]
+    try:
+        done, _ = await asyncio.wait(tasks, return_when=asyncio.FIRST_COMPLETED)
+        done.pop().result()
+    finally:
+        for task in tasks:
+            task.cancel()
+        await asyncio.gather(*tasks, return_exceptions=True)
