@@ -18,7 +18,8 @@ import live_model
 from audit_base import BaseText
 from match_lines import Wrong
 from serving.endless import EndlessSession, PlayedWithoutEnd
-from serving.session import Told, setup_of
+from serving.log import Told
+from serving.played import setup_of
 from serving.wire import Net
 
 # A window of eight ticks, so that a tick forgets once the last copy has run two of them.

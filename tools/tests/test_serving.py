@@ -36,8 +36,10 @@ except ImportError:
 
 from match_lines import MatchText
 from serving import wire
-from serving.mirror_process import MirrorProcess
-from serving.session import Played, Session, Told, setup_of
+from serving.links import LinkIn
+from serving.log import Told
+from serving.played import Played, setup_of
+from serving.session import Session
 from serving.wire import Net
 
 
@@ -111,16 +113,18 @@ class Nets(Sessions):
 
     async def test_strangers_bring_nothing(self):
         session = await self.session(self.match(60), Net(seed=5), numbers=range(4), bots=0)
+        while not all(link.is_up for room in session.rooms.values() for link in room.out.values()):
+            await asyncio.sleep(0.01)
         before = {number: list(room.heard) for number, room in session.rooms.items()}
         place = session.places[0]
+        self.addCleanup(setattr, LinkIn, "MOST_BYTES_A_SECOND", LinkIn.MOST_BYTES_A_SECOND)
 
-        async def said(*lines, key=b"x" * 16, number=1):
+        async def said(*lines, identity=wire.Identity(b"x" * 16, 1, session.rooms[1].peers.identity.match)):
             reader, writer = await asyncio.open_connection(*place)
             try:
-                if key:
-                    await wire.greet(reader, writer, key, number, first=True)
+                sealed = identity and await wire.greet(reader, writer, identity, is_first=True)
                 for line in lines:
-                    writer.write(line)
+                    sealed.send(line[:-1].decode("ascii")) if sealed else writer.write(line)
                 heard = b""
                 while piece := await asyncio.wait_for(reader.read(1 << 16), 3):
                     heard += piece
@@ -131,11 +135,12 @@ class Nets(Sessions):
                 writer.close()
         self.assertIn("it hasn't the key", await said(b"cmd 0 1 1 0 0 go\n"))
         for lines, why in (([b"GET / HTTP/1.1\r\n\r\n"], "doesn't greet as a mirror"), ([b"x" * 5000 + b"\n"], "a line is too long")):
-            await said(*lines, key=None)
+            await said(*lines, identity=None)
             self.assertIn(why, session.told.lines[-1])
         for lines, why in (([b"cmd 0 1 2 0 0 go\n"], "mirror 1 sends a command of mirror 2"), ([b"cmd 0 1 1 0 0 fly\n"], "what is no command"),
-                           ([b"end\n"], "says what no mirror says"), ([b"ping 1\n"] * 5000, "too many lines in a second")):
-            await said(*lines, key=b"k" * 16)
+                           ([b"end\n"], "says what no mirror says"), ([b"ping 1.000000\n"] * 5000, "too many bytes in a second")):
+            LinkIn.MOST_BYTES_A_SECOND = 1 << 16  # a busy machine reads slowly
+            await said(*lines, identity=session.rooms[1].peers.identity)
             self.assertIn(why, session.told.lines[-1])
         self.assertEqual({number: room.heard for number, room in session.rooms.items()}, before)
         await self.played(session)
