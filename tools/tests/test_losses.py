@@ -224,6 +224,7 @@ class Verdicts(Deaths):
 
     async def test_a_verdict_says_which_commands_were_turned_away(self):
         session = await self.session(self.match(2000, last=5), Net(400, 0, 0, seed=3), rate=50, bots=4)
+        session.may_turn = lambda room: True  # as mirrors of other machines, they don't wait for each other
         verdict, is_right = await self.judged(session, ticks=100)
         self.assertRegex(verdict, r"mirror 0 turned away \d+ commands, the first 'cmd \d+ [123] \d+ \d+ \w+'; mirror 1 turned away")
         self.assertTrue(any("a command came late and is turned away: cmd" in line for line in session.told.lines))
