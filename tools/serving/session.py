@@ -146,11 +146,11 @@ class Session:
             self.let_go(room)
 
     def may_turn(self, room):
-        """Whether its turn makes no command of this machine late: none that another mirror is giving, and none on its way to it. Where the
-        machine stands for a while, mirrors would else catch up faster than their commands are brought."""
+        """Whether its turn makes no command of this machine late: none that another mirror is giving, and none on its way to it over a
+        link that is up. Where the machine stands for a while, mirrors would else catch up faster than their commands are brought."""
         others = [other for other in self.rooms.values() if other is not room]
         links = [other.out[room.number] for other in others if room.number in other.out]
-        times = [other.giving for other in others if other.giving is not None] + [link.oldest() for link in links if link.waiting]
+        times = [other.giving for other in others if other.giving is not None] + [link.oldest() for link in links if link.is_up and link.waiting]
         return not room.last_delay or room.clock < min(times, default=room.clock) + room.last_delay
 
     def show(self, room, blocks):

@@ -7,6 +7,7 @@ import asyncio
 import re
 import time
 import unittest
+from unittest import mock
 
 from machines import Linked
 from test_serving import BUILT
