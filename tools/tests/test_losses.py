@@ -14,7 +14,6 @@ import test_endless
 from test_serving import ARENA, BUILT, MIRROR_PROGRAM, Sessions
 
 from serving import endless
-from serving.links import LinkIn
 from serving.log import Told
 from serving.mirror_process import Answer
 from serving.played import Played
@@ -25,7 +24,7 @@ class Deaths(Sessions):
     """A session of 50 ticks a second, whose last delay is two seconds."""
 
     async def begun(self, net=None, bots=8):
-        return await self.session(self.match(2000, last=100), net or Net(60, 30, 0, seed=1), rate=50, bots=bots)
+        return await self.session(self.match(8000, last=100), net or Net(60, 30, 0, seed=1), rate=50, bots=bots)
 
     async def press(self, room, player, every=0.02):
         """Presses keys for ever. How many were taken."""
@@ -38,7 +37,7 @@ class Deaths(Sessions):
             return taken
 
     async def tick_of(self, room, tick):
-        async with asyncio.timeout(60):
+        async with asyncio.timeout(300):  # on a busy machine a session is far behind its clock
             while room.clock < tick:
                 await asyncio.sleep(0.01)
 
@@ -91,7 +90,7 @@ class Begins(Deaths):
     async def test_what_is_pressed_while_a_mirror_is_begun_anew_has_its_time(self):
         session = await self.begun()
         room = session.rooms[2]
-        pressing = asyncio.create_task(self.press(room, 14, 0.005))
+        pressing = asyncio.create_task(self.press(room, 14, 0.02))
 
         async def kill():
             await self.tick_of(room, 110)
@@ -178,7 +177,7 @@ class Hangs(Deaths):
         async def hang():
             await self.tick_of(room, 60)
             os.kill(room.process.process.pid, signal.SIGSTOP)
-        async with asyncio.timeout(60):
+        async with asyncio.timeout(300):
             self.right(await self.judged(session, hang()))
         self.assertGreaterEqual(room.restarts, 1)
         for said in ("mirror 1: the mirror hasn't answered for 1 s", "mirror 1: the mirror hasn't answered for 2 s and was killed, and is begun anew"):
@@ -259,17 +258,20 @@ class VerdictsWithoutEnd(test_endless.Sessions):
 class Strangers(Deaths):
     async def test_what_strangers_leave_is_given_back(self):
         session = await self.begun()
-        place = session.places[0]
+        place, left = session.places[0], []
+        transports = lambda: sum(type(one).__name__ == "_SelectorSocketTransport" for one in gc.get_objects())
 
         async def knock():
-            for _ in range(1500):
+            await self.tick_of(session.rooms[0], 20)
+            before = transports()
+            for _ in range(600):
                 _, writer = await asyncio.open_connection(*place)
                 writer.close()
             await asyncio.sleep(0.5)
-            left.append(sum(isinstance(one, LinkIn) for one in gc.get_objects()))
-        left = []
+            left.append(transports() - before)
+            self.assertFalse(session.rooms[0].is_over())
         self.right(await self.judged(session, knock()))
-        self.assertLess(left[0], 800)
+        self.assertLess(left[0], 600, "of 1,200, on both sides")
 
     async def test_connections_are_limited(self):
         session = await self.begun()
