@@ -145,11 +145,15 @@ def panel(rows, left, title, value, across, widest):
     top, wide, high = 60, 330, 260
     most = max([value(row) for row in rows] + [1])
     out = [text(left, 40, title), f'<rect x="{left}" y="{top}" width="{wide}" height="{high}" fill="none" stroke="#999"/>']
-    out += [text(left - 6, top + high - high * part / 4 + 4, f"{most * part / 4:,.0f}", "end") for part in range(5)]
-    out += [text(left + wide * part / 4, top + high + 18, f"{widest * part / 4:.3g}", "middle") for part in range(5)]
-    out.append(text(left + wide / 2, top + high + 38, "frames until an own act shows", "middle"))
+    out += [text(left - 16, top + high - high * part / 4 + 4, f"{most * part / 4:,.0f}", "end") for part in range(5)]
+    out += [text(left + wide * part / 4, top + high + 24, f"{widest * part / 4:.3g}", "middle") for part in range(5)]
+    out.append(text(left + wide / 2, top + high + 42, "frames until an own act shows", "middle"))
+    taken = []
     for place, row in enumerate(rows):
         x, y = left + wide * across(row) / widest, top + high - high * value(row) / most
+        while any(abs(x - a) < 14 and abs(y - b) < 14 for a, b in taken):  # beside those that stand there already
+            x += 14
+        taken.append((x, y))
         said = f"{row.title}: own act {row.own():.2f}, {value(row):,}"
         out.append(f'<circle cx="{x:.1f}" cy="{y:.1f}" r="9" fill="{COLOURS[row.scheme]}" stroke="white"><title>{said}</title></circle>')
         out.append(text(x, y + 4, place + 1, "middle", "white"))

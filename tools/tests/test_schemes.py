@@ -196,6 +196,10 @@ class Tool(Files):
             self.assertEqual((said, status), ("", 0))
             self.assertIn("".join(f"    {line}\n" for line in printed.split("\n")[:-1]), page, words)
 
+    def test_the_picture_of_the_page_is_what_is_drawn(self):
+        self.compare("--net", "far", *SETS, "--svg", self.path("a.svg"))
+        self.assertEqual(read(self.path("a.svg")), read(os.path.join(TOP, "docs", "pictures", "schemes.svg")))
+
     def test_tss_and_time_warp_end_alike_where_nothing_is_lost(self):
         rows = self.data("--net", "home", "--scheme", "tss", "--scheme", "timewarp", "--delays", "0 60")
         self.assertEqual([(row["lost"], row["apart"]) for row in rows], [(0, 0)] * 3)
