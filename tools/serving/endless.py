@@ -6,6 +6,7 @@ the last copies of all that are there are brought to one tick, and what each tel
 
 import asyncio
 import heapq
+import re
 
 from audit_base import BaseText, Unreadable
 
@@ -14,8 +15,10 @@ from .journal import write_lines
 from .log import ERROR, WARNING
 from .mirror_process import Died
 from .played import counted
-from .room import Room
+from .room import MOST_LINES, Room
 from .session import Session
+
+NO_ROOM = re.compile(r"refused line \d+ cause 7 many")
 
 
 def time_of(command):
@@ -23,14 +26,15 @@ def time_of(command):
 
 
 class EndlessRoom(Room):
-    """A mirror that remembers a window of ticks. `far` is a heap, by time, of commands that its window didn't reach yet."""
+    """A mirror that remembers a window of ticks. `far` and `full` are heaps, by time, of commands that are handed in again: the window
+    didn't reach them yet, or there was no room for them until the mirror forgets."""
 
-    HEAD, MOST_FAR, WINDOWS_SENT = "tss live 2", 65_536, 2
+    HEAD, MOST_KEPT, WINDOWS_SENT = "tss live 2", 65_536, 2
 
     def __init__(self, *given):
         super().__init__(*given)
         self.plans = [self.delays] + [[int(word) for word in words] for words in self.match.lines_of("plan")]
-        self.far, self.last_tick = [], None
+        self.far, self.full, self.last_tick = [], [], None
 
     def is_over(self):
         return self.has_left or (self.last_tick is not None and self.clock >= self.last_tick)
@@ -52,11 +56,11 @@ class EndlessRoom(Room):
         self.leave(died)
 
     def leave(self, died):
-        self.has_left, self.acts, self.heard, self.far = True, [], [], []
+        self.has_left, self.acts, self.heard, self.far, self.full = True, [], [], [], []
         self.say(f"the mirror {died}, and has left the session; what it had told nobody is lost", ERROR)
 
     async def make_turn(self, looks):
-        self.hear_far()
+        self.hear_again()
         blocks = await super().make_turn(looks)
         if self.clock % 256 == 0:
             self.give_up_old()
@@ -66,19 +70,26 @@ class EndlessRoom(Room):
         self.clock += f"over {self.number}" not in lines
         self.notes += lines
 
-    def hear_far(self):
-        """What is due by now the window reaches."""
+    def hear_again(self):
+        """What is due by now the window reaches, and so much as is handed in together of what there was no room for."""
         while self.far and self.far[0][0] <= self.clock:
             self.heard.append(heapq.heappop(self.far)[1])
+        self.heard += [heapq.heappop(self.full)[1] for _ in self.full[:MOST_LINES]]
 
     def take_heard(self, command, answer):
-        if not any(line.startswith("far ") for line in answer.lines):
-            super().take_heard(command, answer)
-        elif len(self.far) < self.MOST_FAR:
-            heapq.heappush(self.far, (time_of(command), command))
+        if answer.refusal is not None and NO_ROOM.fullmatch(answer.refusal):
+            self.keep_for_later(self.full, command, "commands for which there is no room")
+        elif any(line.startswith("far ") for line in answer.lines):
+            self.keep_for_later(self.far, command, "commands far ahead")
         else:
-            self.notes += answer.lines
-            self.say("commands far ahead are turned away: there are too many", WARNING)
+            super().take_heard(command, answer)
+
+    def keep_for_later(self, heap, command, which):
+        if len(heap) < self.MOST_KEPT:
+            heapq.heappush(heap, (time_of(command), command))
+        else:
+            self.notes.append(f"turned away: cmd {command}")
+            self.say(f"{which} are turned away: there are too many", WARNING)
 
     def give_up_old(self):
         """What couldn't be brought for two windows comes late wherever it comes."""
@@ -95,6 +106,7 @@ class EndlessRoom(Room):
         """Turns until the last copy has run all ticks before this one, which the clock has reached at most, and none from there on."""
         last = len(self.delays) - 1
         self.acts = []
+        self.hear_again()
         await self.hand_in()
         while self.clock < tick + self.plans[self.plan][-1]:
             await self.make_turn(())

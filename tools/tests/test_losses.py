@@ -290,20 +290,36 @@ class Strangers(Deaths):
 
 
 class Windows(Files):
-    def test_commands_far_ahead_are_looked_at_once(self):
+    def room(self):
         match = type("Match", (), {"numbers": lambda self, word: {"mirrors": [4], "length": [200], "delays": [0, 100]}[word], "lines_of": lambda self, word: [], "setup": []})()
-        room, looks, time_of = endless.EndlessRoom("none", 0, match, Told(quiet=True)), [], endless.time_of
+        return endless.EndlessRoom("none", 0, match, Told(quiet=True))
+
+    def test_commands_far_ahead_are_looked_at_once(self):
+        room, looks, time_of = self.room(), [], endless.time_of
         try:
             endless.time_of = lambda command: looks.append(command) or time_of(command)
             for number in range(20_000):
                 room.take_heard(f"{300 + number % 7 * 100} 1 {number} 0 go", Answer(f"far 0 1 {number} 99\n".encode(), b"ok"))
             for room.clock in range(0, 400, 10):
-                room.hear_far()
+                room.hear_again()
         finally:
             endless.time_of = time_of
         self.assertLess(len(looks), 50_000)
         self.assertEqual(sorted({command.split(" ")[0] for command in room.heard}), ["300"])
         self.assertEqual(len(room.heard) + len(room.far), 20_000)
+
+    def test_what_there_was_no_room_for_is_handed_in_again(self):
+        room, full = self.room(), Answer(b"", b"refused line 40 cause 7 many")
+        for number in range(600):
+            room.take_heard(f"{600 - number} 1 {number} 0 go", full)
+        room.hear_again()
+        self.assertEqual(room.heard, [f"{time} 1 {600 - time} 0 go" for time in range(1, 257)], "the oldest first, as many as are handed in together")
+        self.assertEqual((len(room.full), list(room.told.lines)), (344, []))
+        room.heard, room.MOST_KEPT = [], 344
+        room.take_heard("7 1 9000 0 go", full)
+        self.assertEqual(list(room.told.lines), ["mirror 0: commands for which there is no room are turned away: there are too many"])
+        room.take_heard("7 1 9000 0 go", Answer(b"", b"refused line 41 cause 3 number"))
+        self.assertEqual(len(room.full), 344, "what has no form is kept by nobody")
 
 
 if __name__ == "__main__":
