@@ -49,6 +49,15 @@ class Statuses(unittest.TestCase):
         status, written, said = ended(["order"], sample("late.match"))
         self.assertEqual((status, written[:6], written[-5:], said), (0, "order ", "done\n", ""))
 
+    def test_0_each_word_is_sent_where_it_belongs(self):
+        """`main` chooses: `score` has its watchers, and `race` writes a record that `audit` finds legal."""
+        status, written, said = ended(["score"], sample("copies.match"))
+        self.assertEqual((status, said), (0, ""))
+        self.assertEqual([line for line in written.split("\n") if line.startswith("watch ")], ["watch first 1", "watch repairs 3", "watch late 0"])
+        status, record, said = ended(["race"], sample("late.match"))
+        self.assertEqual((status, record[:13], said), (0, "tss record 1\n", ""))
+        self.assertEqual(ended(["audit"], record)[0], 0)
+
     def test_1_memory_runs_out(self):
         needed = next(limit for limit in range(1, 4096) if ended(["soak", "0"], limit=limit << 20)[0] == 0)
         for limit in range(needed - 1, 0, -1):
