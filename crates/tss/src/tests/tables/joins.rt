@@ -22,7 +22,7 @@ const TWO_JOINED: &str = "tss match 1\nlength 8\ngrid 9 1\nmirrors 2\ndelays 0 2
     player ann 0 0 e\nplayer bob 8 0 w\ncmd 1 0 0 0 go\ncmd 4 1 0 1 go\n";
 
 // Matches of which a mirror is joined, and what is told.
-pub const JOINS: [Row; 14] = [
+pub const JOINS: [Row; 16] = [
     JOINED,
     Row {
         name: "a command from before the joiner's start",
@@ -31,6 +31,27 @@ pub const JOINS: [Row; 14] = [
         written: "join 0 6 clock 2\nbefore 0 0 1 2\nmirror 0 accepted 0 turned 1 repairs 0\n\
             world 0 2 8\nlive ann 0 0 e 3 5 0\njoiner accepted 0 turned 0 repairs 0\n\
             world joiner 8\nlive ann 0 0 e 3 5 0\nsame yes\ndone\n",
+        ..JOINED
+    },
+    Row {
+        name: "a second mirror's command from before the joiner's start",
+        words: &["join", "0", "7"],
+        front: TWO_JOINED,
+        rest: "script\nturn 0\nturn 0\nturn 0\nturn 0\nturn 0\nturn 0\nturn 0\narrive 0 1 0\nend\n",
+        written: "join 0 7 clock 5\nbefore 1 0 4 5\nmirror 0 accepted 0 turned 1 repairs 0\n\
+            world 0 1 8\nlive ann 0 0 e 3 5 0\nlive bob 8 0 w 3 5 0\n\
+            joiner accepted 0 turned 0 repairs 0\nworld joiner 8\nlive ann 0 0 e 3 5 0\n\
+            live bob 8 0 w 3 5 0\nsame yes\ndone\n",
+        ..JOINED
+    },
+    Row {
+        name: "a mirror joins behind more lines than there are",
+        words: &["join", "0", "100"],
+        front: TWO_JOINED,
+        rest: "script\nturn 0\nturn 0\nturn 0\nturn 0\nturn 0\nturn 0\nturn 0\nend\n",
+        written: "join 0 100 clock 5\nmirror 0 accepted 0 turned 0 repairs 0\nworld 0 1 8\n\
+            live ann 0 0 e 3 5 0\nlive bob 8 0 w 3 5 0\njoiner accepted 0 turned 0 repairs 0\n\
+            world joiner 8\nlive ann 0 0 e 3 5 0\nlive bob 8 0 w 3 5 0\nsame yes\ndone\n",
         ..JOINED
     },
     Row {

@@ -48,7 +48,7 @@ const REFUSED_NET: Row = Row {
 };
 
 // Lossy texts, and what is printed of each.
-pub const NETS: [Row; 22] = [
+pub const NETS: [Row; 27] = [
     REPEATED,
     Row {
         name: "a command that the net brings too late",
@@ -88,6 +88,54 @@ pub const NETS: [Row; 22] = [
         kept: "1.0 1.1 t s0 t s0 t s0 s1 t s0 s1 t s1 t s1\n\
             1.0 1.1 t s0 t s0 t s0 s1 t s0 s1 t s1 t s1\n",
         ..REPEATED
+    },
+    Row {
+        name: "a second mirror's first command is issued again",
+        front: AHEAD_FRONT,
+        rest: "net 3\nissue 1 0\nissue 1 0\nissue 1 1\ndone\n",
+        written: "again 1 0\nmirror 0 accepted 2 turned 0 repairs 0\nworld 0 0 4\n\
+            live ann 0 0 e 3 5 0\nlive bob 3 0 s 3 5 0\nworld 0 1 4\n\
+            live ann 0 0 e 3 5 0\nlive bob 3 0 s 3 5 0\n\
+            mirror 1 accepted 2 turned 0 repairs 0\nworld 1 0 4\nlive ann 0 0 e 3 5 0\n\
+            live bob 3 0 s 3 5 0\nworld 1 1 4\nlive ann 0 0 e 3 5 0\n\
+            live bob 3 0 s 3 5 0\ndone\n",
+        kept: "1.0 1.1 t s0 t s0 t s0 s1 t s0 s1 t s1 t s1\n\
+            1.0 1.1 t s0 t s0 t s0 s1 t s0 s1 t s1 t s1\n",
+        ..REPEATED
+    },
+    Row {
+        name: "the greatest number of a packet and of a count",
+        front: AHEAD_FRONT,
+        rest: "net 3\nsend 1 0 999999\ncarry 1 0 999999\nhear 1 0 999999\ndone\n",
+        written: "nothing\nnothing\nnothing\nmirror 0 accepted 0 turned 0 repairs 0\n\
+            world 0 0 4\nlive ann 0 0 e 3 5 0\nlive bob 4 0 w 3 5 0\nworld 0 1 4\n\
+            live ann 0 0 e 3 5 0\nlive bob 4 0 w 3 5 0\n\
+            mirror 1 accepted 0 turned 0 repairs 0\nworld 1 0 4\nlive ann 0 0 e 3 5 0\n\
+            live bob 4 0 w 3 5 0\nworld 1 1 4\nlive ann 0 0 e 3 5 0\n\
+            live bob 4 0 w 3 5 0\ndone\n",
+        kept: "t s0 t s0 t s0 s1 t s0 s1 t s1 t s1\nt s0 t s0 t s0 s1 t s0 s1 t s1 t s1\n",
+        ..REPEATED
+    },
+    Row {
+        name: "cause 3: a number of a packet that is sent, one above the greatest",
+        front: AHEAD_FRONT,
+        rest: "net 1\nsend 1 0 1000000\ndone\n",
+        written: "refused line 14 cause 3 number\n",
+        ..REFUSED_NET
+    },
+    Row {
+        name: "cause 3: the same of one that is carried",
+        front: AHEAD_FRONT,
+        rest: "net 1\ncarry 1 0 1000000\ndone\n",
+        written: "refused line 14 cause 3 number\n",
+        ..REFUSED_NET
+    },
+    Row {
+        name: "cause 3: the same of a count that is heard",
+        front: AHEAD_FRONT,
+        rest: "net 1\nhear 1 0 1000000\ndone\n",
+        written: "refused line 14 cause 3 number\n",
+        ..REFUSED_NET
     },
     Row {
         name: "an older count is heard",
