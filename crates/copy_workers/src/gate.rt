@@ -7,7 +7,8 @@
 pub trait Gate {
     /// Passes the gate: worker c of a mirror is the worker of its copy c, and the one behind all
     /// copies' is the feeder. Turns count from 0, and are passed in order. It may wait: the others
-    /// wait for one that is held as long as its work lets them, and each naps 4,096 times at most.
+    /// wait for one that is held as long as its work lets them, and each naps 4,096 times at most until
+    /// it finds something to do again.
     fn pass(&self, mirror: u8, worker: u8, turn: u64);
 }
 

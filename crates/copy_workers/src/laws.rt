@@ -21,8 +21,8 @@ ghost use Rattle.copy_workers.specs.Feeding.{joined};
 ghost use Rattle.copy_workers.specs.Fed.{FeederEnds, least_last, misses_between};
 
 /// The worker of a copy ends no earlier than where the copy has run all ticks or the budget is spent,
-/// and no later: each turn began with fewer ticks run than the match has. One call of its post stands
-/// for 64 turns at most.
+/// and no later: each turn began with fewer ticks run than the match has, and no more are run. One call
+/// of its post stands for 64 turns at most.
 pub fn a_copy_worker_ends_where_it_is_done()
     ensures early { (job : CopyJob) (end : CopyEnd) (calls calls_now : ℕ)
         (asked asked_now : List Asked) (trail trail_now : List TrailMark)
@@ -44,6 +44,10 @@ pub fn a_copy_worker_ends_where_it_is_done()
         × (trail_now ≡ trail ++ flat_map (marks_of job.copy) h.works.turns)
         × (asked_now ≡ asked ++ flat_map (asked_of job.copy) h.works.turns)
         × (end.ran ≡ runs_in (flat_map (asked_of job.copy) h.works.turns)) }
+    ensures most { (job : CopyJob) (end : CopyEnd) (calls calls_now : ℕ)
+        (asked asked_now : List Asked) (trail trail_now : List TrailMark)
+        → CopyEnds job end calls calls_now asked asked_now trail trail_now
+        → end.ran ≤ job.length }
 {}
 
 /// A feeder ends no earlier than where the clock is at its end or the budget is spent. A turn has one

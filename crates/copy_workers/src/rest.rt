@@ -9,7 +9,7 @@ use game_trait::Game;
 // The most naps before a turn of a copy's worker, behind which it may take one more.
 const MOST_WAITS: u32 = 64;
 
-// How many naps of a worker its rests may have in all.
+// How many naps a worker may take until it finds something to do.
 const ALL_NAPS: u32 = 4_096;
 
 // How many turns in a row are made without a nap by a worker that hurries.
@@ -17,16 +17,17 @@ const AT_ONCE: u64 = 64;
 
 /// How a worker rests that finds nothing to do: by naps, in which it sleeps, so that others have
 /// the processor and the lock. One that napped for so long in a row as its post finds worth while,
-/// or so long in all, hurries: it makes many turns one after the other as long as nothing comes, so
+/// or all of its naps, hurries: it makes many turns one after the other as long as nothing comes, so
 /// that it is soon done with them. A copy's worker makes them by one call. One that finds something
-/// to do begins a new row of naps; those that are left in all aren't given back.
+/// to do begins anew, with a new row and all of its naps: so a worker that waits once a tick naps as
+/// long as the match lasts, and one that finds nothing any more comes to the end of its naps.
 #[derive(Clone, Copy)]
 pub struct Rest {
     // Who rests: a copy, or the feeder, whose number is that of copies.
     worker: u8,
     // How many naps it took in a row.
     taken: u32,
-    // How many are left in all.
+    // How many are left until it finds something to do.
     left: u32,
 }
 
@@ -40,7 +41,7 @@ impl Rest {
         }
     }
 
-    // Whether no nap is left, in all or in a row.
+    // Whether no nap is left, until something is found or in a row.
     fn hurries<P: Post>(&self, post: &P) -> bool {
         self.left == 0 || self.taken >= post.patience(self.worker)
     }
@@ -56,7 +57,7 @@ impl Rest {
     /// to be made as long as nothing comes: several where it hurries, and else none.
     pub fn after<P: Post>(&mut self, post: &P, idle: bool) -> u64 {
         if !idle {
-            self.taken = 0;
+            *self = Rest::new(self.worker);
             return 0;
         }
         if self.hurries(post) {

@@ -7,7 +7,7 @@ ghost use Rattle.game_trait.specs.Ordered.{time_ordered};
 ghost use Rattle.sync_model.specs.Change.{said, answers};
 ghost use Rattle.sync_model.specs.Drafts.{run_of};
 ghost use Rattle.sync_model.specs.History.{repairs as repairs_of};
-ghost use Rattle.sync_model.specs.Turns.{turn_events, is_drained, drain, drain_bound};
+ghost use Rattle.sync_model.specs.Turns.{turn_events, is_drained, drain};
 ghost use Rattle.late_joiner.specs.Joiner.{full_length, accepted_at, all_accepted, joined, told_from, joiner_next, joiner_after, FitsJoiner, world_of_run, IsShort};
 
 use crate::joined::Joined;
@@ -150,28 +150,6 @@ impl<G: Game> Joiner<G> {
         ensures { self.new ≡ record self.old { inner = drain self.old.inner } }
     {
         self.inner.drain();
-    }
-
-    /// How many more arrivals there is room for.
-    pub fn spare(&self) -> u32
-        ensures { result ≡ self.now.inner.spare }
-    {
-        self.inner.spare()
-    }
-
-    /// How many turns are enough to drain the joiner. A turn is a tick, and then a step of each copy
-    /// from copy 0 on.
-    pub fn turns_to_drain(&self) -> u32
-        ensures { result ≡ drain_bound self.now.inner }
-    {
-        self.inner.turns_to_drain()
-    }
-
-    /// Whether every copy has run the whole match.
-    pub fn drained(&self) -> bool
-        ensures { result ≡ is_drained self.now.inner }
-    {
-        self.inner.drained()
     }
 
     /// How many commands were accepted, the snapshot's rest among them.

@@ -1,10 +1,11 @@
 //! What a net promises. Each law is the contract of a function without parameters that does
 //! nothing.
 
-ghost use Rattle.std.specs.Prelude.{◌≡◌, ◌⊎◌, ◌<◌, ◌≤◌, ◌+◌, ◌++◌, ℕ, List, [], Some, true, false, length, slice_get, take, drop, filter};
+ghost use Rattle.std.specs.Prelude.{◌≡◌, ◌⊎◌, ◌<◌, ◌≤◌, ◌+◌, ◌++◌, ◌∷◌, ℕ, List, [], Some, true, false, length, slice_get, take, drop, filter};
 ghost use Rattle.std.specs.List.{AllByRecursion};
 ghost use Rattle.game_trait.specs.declared.command.Command.{Command};
 ghost use Rattle.game_trait.specs.Count.{times};
+ghost use Rattle.game_trait.specs.CommandList.{command_named, has_command};
 ghost use Rattle.game_trait.specs.Keys.{is_named, NamesDiffer};
 ghost use Rattle.game_trait.specs.Run.{world_of};
 ghost use Rattle.game_trait.specs.Ordered.{time_ordered};
@@ -13,11 +14,11 @@ ghost use Rattle.match_data.specs.Data.{MatchData};
 ghost use Rattle.match_hall.specs.Headline.{IsPlayed};
 ghost use Rattle.lossy_text.specs.Data.{LossyData, IsLossy};
 ghost use Rattle.lossy_text.specs.declared.net_line.NetLine.{NetLine};
-ghost use Rattle.lossy_text.specs.declared.net_line.NetLine.TheVariants.{Carry};
+ghost use Rattle.lossy_text.specs.declared.net_line.NetLine.TheVariants.{Issue, Carry};
 ghost use Rattle.lossy_link.specs.declared.packet.Heard.TheVariants.{Moved, Old};
 ghost use Rattle.lossy_link.specs.Ends.{OutState, heard, after_heard};
-ghost use Rattle.lossy_link.specs.Link.{LinkState, has_flown, brought, after_carry, after_send, after_hear};
-ghost use Rattle.lossy_link.specs.Links.{NetLinks, link_at, is_from, next_links};
+ghost use Rattle.lossy_link.specs.Link.{LinkState, IsLinked, has_flown, brought, after_carry, after_send, after_ack, after_hear};
+ghost use Rattle.lossy_link.specs.Links.{NetLinks, row_at, link_at, is_from, next_links};
 ghost use Rattle.lossy_link.specs.Net.{NetState, net_mirror, opening_net, after_net, made_net, HasEach, AreLinked};
 ghost use Rattle.lossy_link.specs.Finish.{ended_net, is_turned, IsEndedNet};
 ghost use Rattle.lossy_link.specs.Way.{IsNet, IsThere};
@@ -96,6 +97,34 @@ pub fn no_count_is_wild()
         has_flown l.counts count ≡ true
         → let e : OutState = record { room = l.room; sent = l.sent; acked = l.acked } in
         (heard e count ≡ Old) ⊎ (heard e count ≡ Moved) }
+{}
+
+/// What net lines do of which all else is said: `issue` issues a command of the match that wasn't
+/// issued, and nothing where it was; no other line issues. Behind `ack` the count of what was
+/// received has flown, and behind `hear` of a count that has, at least so many are known to have been
+/// received.
+pub fn lines_do_as_named()
+    ensures issued { (commands : List Command) (n : NetLinks) (from number : ℕ) (x : Command)
+        → has_command n.issued from number ≡ false
+        → command_named commands from number ≡ Some x
+        → (next_links commands n (Issue from number)).issued ≡ n.issued ++ x ∷ [] }
+    ensures again { (commands : List Command) (n : NetLinks) (from number : ℕ)
+        → has_command n.issued from number ≡ true
+        → next_links commands n (Issue from number) ≡ n }
+    ensures other { (commands : List Command) (n : NetLinks) (line : NetLine)
+        → ((from number : ℕ) → line ≡ Issue from number → ⊥)
+        → (next_links commands n line).issued ≡ n.issued }
+    ensures ack { (l : LinkState) → IsLinked l
+        → has_flown (after_ack l).counts (length l.received) ≡ true }
+    ensures hear { (k : ℕ) (l : LinkState) → has_flown l.counts k ≡ true
+        → k ≤ (after_hear k l).acked }
+{}
+
+/// What a net of so many mirrors has: each of them, and a link from each to each.
+pub fn a_net_has_each_mirror_and_link<G: Game>()
+    ensures { (mirrors from : ℕ) (n : NetState G) → HasEach mirrors n → from < mirrors
+        → (length n.mirrors ≡ mirrors) × (length n.links.rows ≡ mirrors)
+        × (length (row_at n.links.rows from) ≡ mirrors) }
 {}
 
 /// At its end a net has lost nothing: all that was sent was received, each command that was issued

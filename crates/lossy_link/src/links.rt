@@ -124,13 +124,6 @@ impl Links {
         })
     }
 
-    /// How many mirrors there are.
-    pub fn mirrors(&self) -> usize
-        ensures { result ≡ length self.now.rows }
-    {
-        self.rows.len()
-    }
-
     /// The link from one mirror to another. Both are there.
     pub fn link(&self, from: MirrorId, to: MirrorId) -> &Link
         requires from { from < length self.now.rows }

@@ -133,7 +133,8 @@ pub fn a_script_stops_at_a_line<G: Game>()
 {}
 
 /// Each arrival in the log of a mirror that was played was answered Late exactly where the command
-/// was older than the last copy's clock, and else it was taken.
+/// was older than the last copy's clock, and else it was taken. After each front of the log any
+/// command would be answered so.
 pub fn late_exactly_in_a_log<G: Game>()
     ensures late { (m : MatchData) (start end : MirrorState G) (log front rest : List Event)
         (x : Command)
@@ -147,6 +148,12 @@ pub fn late_exactly_in_a_log<G: Game>()
         → IsPlayed G.rules m start end log → log ≡ front ++ Arrive x ∷ rest
         → last_clock (after start front).runs ≤ x.time
         → (repaired : ℕ) × (said (after start front) (Arrive x) ≡ ToArrive (Taken repaired)) }
+    ensures any { (m : MatchData) (start end : MirrorState G) (log : List Event) (n : ℕ)
+        (x : Command) (bound : ℕ) → IsPlayed G.rules m start end log
+        → (said (after start (take n log)) (Arrive x) ≡ ToArrive (Late bound))
+        ↔ ((is_repeat (after start (take n log)) x ≡ false)
+        × (x.time < last_clock (after start (take n log)).runs)
+        × (bound ≡ last_clock (after start (take n log)).runs)) }
 {}
 
 /// The mirrors of a match, played along its script and drained, began with its world, have some

@@ -3,6 +3,7 @@
 ghost use Rattle.std.specs.Prelude.{◌≡◌, ◌<◌, [], length, slice_index_or};
 ghost use Rattle.game_trait.specs.Run.{world_of};
 ghost use Rattle.sync_model.specs.Turns.{IsDrained, drain};
+ghost use Rattle.mirror_core.specs.Drained.{AreInOrder};
 
 use crate::mirror_with::MirrorWith;
 use crate::policy::Deferred;
@@ -39,10 +40,13 @@ impl<G: Game> DeferredMirror<G> {
         self.core.stack.world(copy)
     }
 
-    /// Makes turns until every copy has run the whole match.
+    /// Makes turns until every copy has run the whole match. Each copy's world is then the
+    /// time-ordered execution of what was accepted.
     pub fn drain(&mut self)
-        ensures { self.new ≡ drain self.old }
+        ensures state { self.new ≡ drain self.old }
+        ensures worlds { AreInOrder G.rules self.new }
     {
+        self.always();
         self.run_to_the_end();
     }
 }

@@ -6,6 +6,7 @@ mod deferred;
 mod drafts;
 mod epochs;
 mod inner;
+mod laws;
 mod lists;
 mod mirror;
 mod mirror_with;
@@ -16,6 +17,7 @@ mod turns;
 
 pub use deferred::DeferredMirror;
 pub use drafts::{Committed, Draft, Drafted, MOST_DRAFTED, Ready};
+pub use laws::{a_deferred_mirror_defers, a_drained_mirror_is_in_order};
 pub use mirror::Mirror;
 pub use mirror_with::MirrorWith;
 pub use mirrored::Mirrored;

@@ -4,7 +4,6 @@ ghost use Rattle.std.specs.Prelude.{◌≡◌, ◌<◌, ◌≤◌, ◌^◌, ◌�
 ghost use Rattle.game_trait.specs.Run.{world_of};
 ghost use Rattle.sync_model.specs.State.{copy_clock as clock_of};
 ghost use Rattle.sync_model.specs.Change.{next, said};
-ghost use Rattle.sync_model.specs.Consistent.{IsConsistent};
 ghost use Rattle.sync_model.specs.History.{repairs as repairs_of};
 ghost use Rattle.sync_model.specs.Turns.{drain};
 ghost use Rattle.sync_model.specs.Drafts.{epoch as epoch_of, ready_of, FitsReady};
@@ -23,15 +22,6 @@ use sync_model::Turned;
 pub type Mirror<G> = MirrorWith<G, Eager>;
 
 impl<G: Game> Mirror<G> {
-    /// What always holds of a mirror: it is staggered, its plans are those of a match, and its
-    /// state is the one that its history leads to, of which each event changed the state in which
-    /// it stood. It does nothing.
-    pub fn always(&self)
-        ensures { IsConsistent self.now }
-    {
-        let _ = &self.core.clock;
-    }
-
     /// What `arrive` does, for a command that may be due at any tick: `None`, and nothing changes,
     /// where it isn't due within the match or no room is left for an arrival (this project's own).
     pub fn try_arrive(&mut self, x: &Command) -> Option<Arrived>

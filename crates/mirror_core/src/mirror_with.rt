@@ -5,6 +5,7 @@ ghost use Rattle.std.specs.List.{AllByRecursion};
 ghost use Rattle.game_trait.specs.CommandList.{has_command};
 ghost use Rattle.sync_model.specs.State.{opening_state};
 ghost use Rattle.sync_model.specs.Change.{next, said, after, answers, Fits};
+ghost use Rattle.sync_model.specs.Consistent.{IsConsistent};
 ghost use Rattle.sync_model.specs.History.{HasRoom, HasRoomAlong};
 ghost use Rattle.sync_model.specs.Turns.{turn, turn_events, is_drained, drain, drain_bound};
 ghost use Rattle.mirror_core.specs.Kept.{delays_of_each, ticks_of_first, copies_of_first};
@@ -74,6 +75,15 @@ impl<G: Game, P: RefreshPolicy> MirrorWith<G, P> {
         let policy = P::new();
         policy.settle(&mut core);
         Ok(MirrorWith { core, policy })
+    }
+
+    /// What always holds of a mirror: it is staggered, its plans are those of a match, and its
+    /// state is the one that its history leads to, of which each event changed the state in which
+    /// it stood. It does nothing.
+    pub fn always(&self)
+        ensures { IsConsistent self.now }
+    {
+        let _ = &self.core.clock;
     }
 
     /// The clock goes on by one tick, answered Moved. Where it stands at its end or past it, the

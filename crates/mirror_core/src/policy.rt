@@ -12,6 +12,9 @@ pub trait RefreshPolicy: Drop {
     /// has run the whole match, and how many copies there are.
     ghost allows: { Self → Bool → ℕ → ℕ → Type 0 };
 
+    /// What a call that may have made steps makes of the policy: told both.
+    ghost counts: { Self → Self → Type 0 };
+
     /// The policy of a new mirror.
     fn new() -> Self;
 
@@ -23,6 +26,7 @@ pub trait RefreshPolicy: Drop {
 
     /// Sees to the stale copies, behind a call that may have made steps, and counts the call.
     fn settle_steps<G: Game>(&mut self, core: &mut MirrorCore<G>)
+        ensures counted { counts self.old self.new }
         ensures state { core.new.state ≡ core.old.state }
         ensures stale { allows self.new (is_drained core.new.state) (length core.new.state.runs)
             core.new.stale };
@@ -36,6 +40,7 @@ impl RefreshPolicy for Eager {
     ghost use Rattle.std.specs.Prelude.{◌≡◌};
 
     ghost allows = { λ policy ended copies stale. stale ≡ 0 };
+    ghost counts = { λ old new. old ≡ new };
 
     fn new() -> Eager {
         Eager
@@ -84,9 +89,11 @@ impl Deferred {
 }
 
 impl RefreshPolicy for Deferred {
+    ghost use Rattle.std.specs.Prelude.{◌≡◌, ◌-◌};
     ghost use Rattle.mirror_core.specs.Deferred.{AreDeferred};
 
     ghost allows = { λ policy ended copies stale. AreDeferred ended copies stale policy.looked };
+    ghost counts = { λ old new. new.looked ≡ old.looked - 1 };
 
     fn new() -> Deferred {
         Deferred { looked: 0 }

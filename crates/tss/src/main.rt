@@ -1,6 +1,6 @@
 //! The program `tss`: the real arguments, streams and exit code. What it does with them is
-//! `words_behind`, and `run` where the words are the one word `race`, which alone may wait, or else
-//! `run_watched`, which returns. What follows a run is `Done::finish`.
+//! `words_behind`, and `run_race` where the words are the one word `race`, which alone may wait, or
+//! else `run_watched`, which returns: neither takes the other's words. What follows a run is `Done::finish`.
 #![tactic(auto)]
 
 #[cfg(test)]
@@ -13,7 +13,7 @@ use std::rt::Env;
 use std::{env, io};
 use tss_base::NoMemory;
 use tss_io::{StdSink, StdSource};
-use tss_program::{Done, asks_race, run, run_watched, words_behind};
+use tss_program::{Done, asks_race, run_race, run_watched, words_behind};
 
 // The program's own name and the words behind it, as the system tells them.
 fn arguments(rt: &(impl Env + Alloc<A = Global>)) -> io::Result<Vec<String>> {
@@ -27,8 +27,7 @@ fn main(rt: HostRuntime) -> ExitCode {
     let mut sink = StdSink::new(rt.stdout());
     let done = match words_behind(&arguments) {
         Ok(words) if asks_race(words) => {
-            let untold = Vec::new(alloc);
-            run(&rt, alloc, words, &mut source, &mut sink, &OpenGate, untold)
+            run_race(&rt, alloc, words, &mut source, &mut sink, &OpenGate)
         }
         Ok(words) => run_watched(alloc, words, &mut source, &mut sink),
         Err(NoMemory) => Done::unbegun(alloc),

@@ -58,7 +58,7 @@ ghost use Rattle.tss_program.specs.declared.due.Due.{Due};
 ghost use Rattle.tss_words.specs.Subcommands.{subcommand_of, most_asked, races};
 ghost use Rattle.tss_program.specs.declared.status.Status.TheVariants.{Complete};
 ghost use Rattle.tss_program.specs.Due.{IsAnswer, IsDue, IsMatchText, IsNoMatch, IsRecordText, IsNoRecord, IsLossyText, IsNoLossy, IsLegalOne, IsRaced, IsJoined, arena_shown, refusal_due, due_of_rewind, due_of_verdict, code, net_of, order_text};
-ghost use Rattle.tss_program.specs.Finish.{failure_line, IsSaid};
+ghost use Rattle.tss_program.specs.Finish.{failure_line, IsSaid, Says};
 ghost use Rattle.tss_program.specs.Run.{Run, Taken, IsRun, IsPut, ReadsAtMost, behind, asked};
 ghost use Rattle.tss_program.specs.Promises.{keeps_logs, Keeps, KeepsPlayed, KeepsPainted, KeepsRaced, KeepsAMatch, KeepsSome, KeepsNet, LacksWhatIsAsked, SoaksWhole, AuditsARecord, IsLegalAnswer, EndsWith, IsComplete};
 
@@ -467,6 +467,9 @@ pub fn failures_are_said_in_words()
         × (failure_line 4 ≡ Some (as_line (codes "tss: writing standard output failed"))) }
     ensures nothing { (failure_line 0 ≡ None) × (failure_line 2 ≡ None)
         × (failure_line 5 ≡ None) × (failure_line 6 ≡ None) × (failure_line 7 ≡ None) }
+    ensures none { (old new : Taken) → Says (λ (t : Taken). t) None old new → new ≡ old }
+    ensures some { (line : List ℕ) (old new : Taken)
+        → Says (λ (t : Taken). t) (Some line) old new → IsSaid line old new }
     ensures put { (line bytes : List ℕ) (old new : Taken) → IsSaid line old new
         → old.bytes ≡ Some bytes
         → ((new.faults ≡ old.faults) × (new.bytes ≡ Some (bytes ++ line)))

@@ -15,7 +15,7 @@ mod watched;
 pub use done::Done;
 pub use due::Due;
 pub use plain::run_plain;
-pub use race::{asks_race, run};
+pub use race::{asks_race, run_race};
 pub use status::Status;
 pub use stop::Stop;
 pub use tss_words::words_behind;

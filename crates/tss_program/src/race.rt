@@ -1,8 +1,8 @@
 //! One run of the program that may race.
 
-ghost use Rattle.std.specs.Prelude.{◌≡◌, [], map, Some};
+ghost use Rattle.std.specs.Prelude.{◌≡◌, [], map, Some, true};
 ghost use Rattle.std.specs.String.{string_bytes};
-ghost use Rattle.tss_words.specs.Subcommands.{subcommand_of, most_asked, most_read, races};
+ghost use Rattle.tss_words.specs.Subcommands.{subcommand_of, most_read, races};
 ghost use Rattle.tss_words.specs.declared.subcommand.MatchTask.TheVariants.{Race};
 ghost use Rattle.tss_words.specs.declared.subcommand.Subcommand.TheVariants.{OfMatch};
 ghost use Rattle.tss_program.specs.Due.{IsRaced};
@@ -11,7 +11,7 @@ ghost use Rattle.tss_program.specs.Run.{seen, taken, Answers, Gives, ReadsAtMost
 use crate::asked::read_match_text;
 use crate::done::Done;
 use crate::due::Due;
-use crate::plain::{ended, run_plain};
+use crate::plain::ended;
 use crate::status::Status;
 use crate::stop::Stop;
 use arena_rules::Arena;
@@ -24,7 +24,6 @@ use std::thread::Threads;
 use tss_io::{Sink, Source};
 use tss_race::{Raced, race_match};
 use tss_words::{MatchTask, Subcommand};
-use watch_board::Watcher;
 
 // The line of a match text that states the pace.
 const PACE_LINE: u32 = 6;
@@ -79,21 +78,21 @@ fn answer_race<R: Threads + Wait + Sync, S: Source, P: Gate + Sync>(
     race(rt, alloc, m, gate)
 }
 
-/// Runs the program on the words behind its name. The one word `race` reads a match text with a
-/// pace above 0, races it, and puts the record of that race: the whole of it at status 0, a proper
-/// front of it at status 4, and nothing at status 1 or 3; another text is refused, at status 5. All
-/// other words are answered by `run_plain`. A race drops the watchers as they are.
-pub fn run<R: Threads + Wait + Sync, S: Source, K: Sink, P: Gate + Sync>(
+/// Runs the program on the words behind its name, which are the one word `race`. It reads a match
+/// text with a pace above 0, races it, and puts the record of that race: the whole of it at status 0,
+/// a proper front of it at status 4, and nothing at status 1 or 3; another text is refused, at status
+/// 5. All other words are `run_watched`'s.
+pub fn run_race<R: Threads + Wait + Sync, S: Source, K: Sink, P: Gate + Sync>(
     rt: &R,
     alloc: Global,
     words: &[String],
     source: &mut S,
     sink: &mut K,
     gate: &P,
-    watchers: Vec<Box<dyn Watcher>>,
 ) -> Done
-    ensures run { IsRun (record {
-      watchers = map (λ w. behaviour w) watchers.items;
+    requires { races (subcommand_of (map string_bytes words.now)) ≡ true }
+    ensures { IsRun (record {
+      watchers = [];
       words = map string_bytes words.now;
       source_old = seen S.left S.faults S.calls source.old;
       source_new = seen S.left S.faults S.calls source.new;
@@ -102,12 +101,7 @@ pub fn run<R: Threads + Wait + Sync, S: Source, K: Sink, P: Gate + Sync>(
       status = result.status;
       kept = result.kept;
     }) }
-    ensures untouched { most_asked (subcommand_of (map string_bytes words.now)) ≡ 0
-        → source.new ≡ source.old }
 {
-    if asks_race(words) {
-        ended(alloc, sink, answer_race(rt, alloc, source, gate))
-    } else {
-        run_plain(alloc, words, source, sink, watchers)
-    }
+    let _ = words;
+    ended(alloc, sink, answer_race(rt, alloc, source, gate))
 }

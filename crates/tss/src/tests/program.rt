@@ -20,7 +20,7 @@ use std::process::{Abort, ExitCode};
 use std::sync::Wait;
 use std::thread::Threads;
 use tss_io::{MemSink, MemSource};
-use tss_program::{Done, asks_race, run, run_watched};
+use tss_program::{Done, asks_race, run_race, run_watched};
 
 // What a run is given, and how it has to end. Its text is a front that other rows may have, too,
 // and the rest.
@@ -68,7 +68,7 @@ fn ran<R: Threads + Wait + Sync + Abort>(
     }
     let words = owned.as_slice();
     if asks_race(words) {
-        run(rt, alloc, words, source, sink, &OpenGate, Vec::new(alloc))
+        run_race(rt, alloc, words, source, sink, &OpenGate)
     } else {
         run_watched(alloc, words, source, sink)
     }

@@ -21,4 +21,5 @@ returns c = record {
   late = λ job end calls calls_now asked asked_now trail trail_now h front rest turn whole. omega (arith, late job.copy job.length 0 front rest turn (rw whole at h.works.going));
   often = λ job end calls calls_now asked asked_now trail trail_now h. h.works.often;
   within = λ job end calls calls_now asked asked_now trail trail_now h. (h.works.count, h.works.within, h.works.marks, h.works.asks, h.works.ran);
+  most = λ job end calls calls_now asked asked_now trail trail_now h. h.works.most;
 }
