@@ -14,6 +14,10 @@ use Rattle.match_data.proofs.Plans.{delays-of_schedules}
 use Rattle.rolling_mirror.specs.declared.arrival.Arrival.{Arrival}
 use Rattle.rolling_mirror.specs.declared.arrival.Arrival.TheVariants.{Taken, Repeat, Late, Far, Full}
 use Rattle.rolling_mirror.specs.Rolling.{RollState, left_after, left_after_all, forgets, rolled, ready, is_held, ticked, turned, steps_of_each, in_window, arrived}
+use Rattle.std.specs.List.{AllByRecursion, list_all}
+use Rattle.std.proofs.lemmas.Bool.{and_parts, leb-true}
+use Rattle.rolling_mirror.specs.Rolling.{LetsTurnsGoOn}
+use Rattle.endless_mirror.specs.Way.{lets_run}
 use Rattle.endless_mirror.specs.Session.{SessionState, IsSession, number_behind, opening_roll, opening_session}
 
 -- another state of the mirror with the same plans
@@ -84,3 +88,8 @@ opened {W} opening m number mirror ps names version mirrors room keep made plans
     ∙ ap (λ (n : ℕ). record { base = 0; left = opening_state opening m.length (all_plans m) 0 0; spare = n; keep = keep }) room_is
     ∙ ap (λ (k : ℕ). record { base = 0; left = opening_state opening m.length (all_plans m) 0 0; spare = most_commands m.version; keep = k }) keep_is in
     λ i. record { mirror = mirror_is i; names = names_is i; number = number; version = version_is i; mirrors = mirrors_is i; next = 0 }
+
+-- the window lets the last copy run under each plan
+pub let-run : (plans : List Schedule) → list_all lets_run plans ≡ true → AllByRecursion LetsTurnsGoOn plans
+let-run [] all = tt
+let-run (plan ∷ plans) all = (let parts = and_parts _ _ all in (leb-true _ _ parts.0, let-run plans parts.1))
