@@ -6,7 +6,11 @@ use Rattle.game_trait.specs.declared.event.Event.{Event}
 use Rattle.game_trait.specs.declared.event.Event.TheVariants.{Tick, Arrive}
 use Rattle.game_trait.specs.declared.limits.TheConstants.{GREATEST_NUMBER}
 use Rattle.game_trait.specs.Game.{Rules}
-use Rattle.sync_model.specs.State.{opening_state}
+use Rattle.std.specs.Prelude.{is_some}
+use Rattle.sync_model.specs.Forgetting.{arrive_from}
+use Rattle.sync_model.specs.State.{MirrorState, opening_state}
+use Rattle.rolling_mirror.specs.Rolling.{as_arrived}
+use Rattle.endless_mirror.specs.Stands.{arrival_made, arrived_from}
 use Rattle.sync_model.specs.Schedule.{Schedule, ticks_of_first, delays_of_each}
 use Rattle.sync_model.proofs.Cases.{next-fixed}
 use Rattle.match_data.specs.Data.{MatchData, all_plans, schedules, most_commands}
@@ -93,3 +97,19 @@ opened {W} opening m number mirror ps names version mirrors room keep made plans
 pub let-run : (plans : List Schedule) → list_all lets_run plans ≡ true → AllByRecursion LetsTurnsGoOn plans
 let-run [] all = tt
 let-run (plan ∷ plans) all = (let parts = and_parts _ _ all in (leb-true _ _ parts.0, let-run plans parts.1))
+
+-- what is answered has come to the mirror that remembers all, and what waits hasn't
+module _ {W : Type 0} (b : ℕ) (whole : MirrorState W) (x : Command) where
+  pub has-come : (a : Arrival) → is_some (as_arrived a) ≡ true → (arrival_made x a ≡ Arrive x ∷ []) × (arrived_from b whole x a ≡ arrive_from b whole x)
+  has-come (Taken repaired) some = (refl, refl)
+  has-come Repeat some = (refl, refl)
+  has-come (Late bound) some = (refl, refl)
+  has-come (Far end) some = absurd (let k = some in cc)
+  has-come Full some = absurd (let k = some in cc)
+
+  pub has-waited : (a : Arrival) → is_some (as_arrived a) ≡ false → (arrival_made x a ≡ []) × (arrived_from b whole x a ≡ whole)
+  has-waited (Taken repaired) none = absurd (let k = none in cc)
+  has-waited Repeat none = absurd (let k = none in cc)
+  has-waited (Late bound) none = absurd (let k = none in cc)
+  has-waited (Far end) none = (refl, refl)
+  has-waited Full none = (refl, refl)

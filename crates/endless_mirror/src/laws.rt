@@ -1,7 +1,8 @@
 //! What always holds of a mirror of a session without an end that answers lines. Each is the contract of
 //! a function without parameters that does nothing.
 
-ghost use Rattle.std.specs.Prelude.{◌≡◌, ◌+◌, ◌*◌, ◌/◌, ◌<◌, ◌≤◌, ◌↔◌, ℕ, true, false, List, ◌∷◌, length};
+ghost use Rattle.std.specs.Prelude.{◌≡◌, ◌+◌, ◌*◌, ◌/◌, ◌<◌, ◌≤◌, ◌↔◌, ◌⊎◌, ℕ, true, false, List, [], ◌∷◌, length, is_some};
+ghost use Rattle.game_trait.specs.declared.event.Event.{Event};
 ghost use Rattle.std.specs.List.{AllByRecursion};
 ghost use Rattle.game_trait.specs.Ordered.{ordered};
 ghost use Rattle.game_trait.specs.Run.{world_of};
@@ -12,13 +13,15 @@ ghost use Rattle.sync_model.specs.Change.{after, is_repeat};
 ghost use Rattle.sync_model.specs.State.{MirrorState};
 ghost use Rattle.report_text.specs.Replies.{arrival_text};
 ghost use Rattle.report_text.specs.Worlds.{Showing, showing, block_text, copy_head};
+ghost use Rattle.rolling_mirror.specs.declared.arrival.Arrival.{Arrival};
 ghost use Rattle.rolling_mirror.specs.declared.arrival.Arrival.TheVariants.{Taken, Late, Far};
-ghost use Rattle.rolling_mirror.specs.Rolling.{IsWindowOf, last_tick, window_end, said_to_arrival};
+ghost use Rattle.rolling_mirror.specs.Rolling.{IsWindowOf, as_arrived, last_tick, window_end, said_to_arrival};
 ghost use Rattle.live_text.specs.Requests.{FitsTerms};
 ghost use Rattle.live_text.specs.declared.request.Request.{Request};
 ghost use Rattle.live_text.specs.declared.request.Request.TheVariants as requests;
-ghost use Rattle.endless_mirror.specs.Session.{SessionState, circle, is_past, terms_of, own_command, after_request, opening_session};
-ghost use Rattle.endless_mirror.specs.Stands.{Stands, events_made, BringsKnown, whole_after};
+ghost use Rattle.endless_mirror.specs.Session.{SessionState, circle, last_of_session, is_past, terms_of, own_command, after_request, opening_session};
+ghost use Rattle.endless_mirror.specs.Stands.{Stands, arrival_made, events_made, BringsKnown, arrived_from, whole_after};
+ghost use Rattle.sync_model.specs.Forgetting.{IsRemembered, arrive_from};
 ghost use Rattle.endless_mirror.specs.Told.{answer_text, far_line, copy_told, last_copy, remembered};
 ghost use Rattle.endless_mirror.specs.Numbers.{number_moved, numbers_moved};
 ghost use Rattle.endless_mirror.specs.Talk.{after_requests, FitAlong, whole_along, opening_whole, IsWholeOf, told_of_whole};
@@ -87,6 +90,48 @@ pub fn requests_are_those_of_a_whole<G: Game>()
         → FitsTerms (terms_of s) r → BringsKnown whole s r
         → IsWindowOf G.rules (after whole (events_made (length whole.runs) s r))
         (after_request G.rules s r).mirror }
+{}
+
+/// All that comes but commands is known, and so is a command of which no forgotten one has the name, or that
+/// the last copy has run past.
+pub fn what_comes_is_known<G: Game>()
+    ensures tick { (whole : MirrorState G) (s : SessionState G) → BringsKnown whole s requests.Tick }
+    ensures turn { (whole : MirrorState G) (s : SessionState G) → BringsKnown whole s requests.Turn }
+    ensures step { (whole : MirrorState G) (s : SessionState G) (copy : ℕ)
+        → BringsKnown whole s (requests.Step copy) }
+    ensures restagger { (whole : MirrorState G) (s : SessionState G) (plan : ℕ)
+        → BringsKnown whole s (requests.Restagger plan) }
+    ensures plans { (b : ℕ) (whole : MirrorState G) (plan : ℕ)
+        → IsRemembered b whole (Event.Restagger plan) }
+    ensures command { (whole : MirrorState G) (s : SessionState G) (x : Command)
+        → (IsRemembered s.mirror.base whole (Event.Arrive x)) ⊎ (x.time < last_tick s.mirror)
+        → BringsKnown whole s (requests.Cmd x) }
+{}
+
+/// A command that is answered as one that is taken, a repeat or late has come to the mirror that remembers
+/// all, and one that may come again hasn't.
+pub fn what_is_answered_has_come<G: Game>()
+    ensures came { (b : ℕ) (whole : MirrorState G) (x : Command) (a : Arrival)
+        → is_some (as_arrived a) ≡ true
+        → (arrival_made x a ≡ Event.Arrive x ∷ [])
+        × (arrived_from b whole x a ≡ arrive_from b whole x) }
+    ensures waits { (b : ℕ) (whole : MirrorState G) (x : Command) (a : Arrival)
+        → is_some (as_arrived a) ≡ false
+        → (arrival_made x a ≡ []) × (arrived_from b whole x a ≡ whole) }
+{}
+
+/// What a session begins with: the match's ticks for its window, of which it keeps a quarter, and room for as
+/// many commands at once as a match of its version may have. It lasts to the last tick of 32 bits.
+pub fn what_a_session_begins_with<G: Game>()
+    ensures window { (opening : G) (m : MatchData) (number : ℕ)
+        → (opening_session opening m number).mirror.left.length ≡ m.length }
+    ensures keeps { (opening : G) (m : MatchData) (number : ℕ)
+        → (opening_session opening m number).mirror.keep ≡ m.length / 4 }
+    ensures room { (opening : G) (m : MatchData) (number : ℕ) → m.version ≡ 1
+        → (opening_session opening m number).mirror.spare ≡ 16384 }
+    ensures room_2 { (opening : G) (m : MatchData) (number : ℕ) → m.version ≡ 2
+        → (opening_session opening m number).mirror.spare ≡ 32768 }
+    ensures last { last_of_session ≡ 4294967295 }
 {}
 
 /// The same of every request, whatever names its commands have: the mirror that remembers all asks of names only
