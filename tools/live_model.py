@@ -227,13 +227,13 @@ class RollingMirror(Mirror):
 
     def __init__(self, match, opening):
         super().__init__(match, opening)
-        self.window, self.keep, self.base, self.remembered = match.length, match.length // 4, 0, {}
+        self.window, self.keep, self.room, self.base, self.remembered = match.length, match.length // 4, room_of(match), 0, {}
 
     def tick(self):
         passed, is_full = beats(self.runs[-1]) - self.base, self.clock + 1 == self.base + self.window
         if passed == 0 and is_full or self.clock == LAST_TICK:
             return False
-        if passed > 0 and (passed >= self.keep or is_full):
+        if passed > 0 and (passed >= self.keep or is_full or len(self.remembered) == self.room):
             self.base += passed
             self.remembered = {name: x for name, x in self.remembered.items() if x[0] >= self.base}
         self.clock += 1
@@ -274,7 +274,7 @@ class AskedWithoutEnd(Asked):
 
     def arrive(self, x):
         kind, value = self.mirror.arrive(x)
-        if x[1] == self.name and x[2] >= self.next:
+        if x[1] == self.name and (x[2] - self.next) % (LAST_NUMBER + 1) < (LAST_NUMBER + 1) // 2:
             self.next = 0 if x[2] == LAST_NUMBER else x[2] + 1
         return [f"far {self.name} {x[1]} {x[2]} {value}"] if kind == "far" else arrival_lines(self.name, x, (kind, value))
 

@@ -107,7 +107,7 @@ def full_talk_of(version):
     room = room_of(match)
     lines = ["tss live 2", *match.lines(), *[f"cmd {number % 4} 1 {number} 0 left" for number in range(room - 2)], "own 0 go", "own 0 right"]
     full = ["own 0 go", "cmd 0 1 0 0 left", f"cmd 9 1 {room} 0 go", "cmd 9 9 0 0 go", "restagger 0"]
-    lines += [*full, *["turn", "own 0 go"] * 12, *full, "cmd 9 0 999999 0 go", "own 0 go", "own 0 left"]
+    lines += [*full, *["turn", "own 0 go"] * 12, *full, "cmd 9 0 499999 0 go", "cmd 9 0 999999 0 go", "own 0 go", "own 0 left"]
     lines += [*["cmd 12 0 999999 0 go", "own 0 go"] * 2, "turn", "commands", "end"]
     return "0", "\n".join([*lines, ""]).encode()
 

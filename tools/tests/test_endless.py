@@ -33,10 +33,10 @@ TALK = [  # worked by hand: a line, and its answer
     ("turn", ["ok"]), ("commands", ["cmd 0 0 0 0 go", "cmd 0 1 7 1 right", "cmd 7 1 8 1 left", "cmd 0 1 10 0 shoot", "ok"]),
     ("turn", ["ok"]), ("commands", ["cmd 7 1 8 1 left", "ok"]), ("cmd 0 1 7 1 right", ["late 0 1 7 3", "ok"]), ("cmd 8 1 9 1 left", ["ok"]),
     ("cmd 10 1 12 0 go", ["far 0 1 12 10", "ok"]), ("step 1", ["idle 0 1", "ok"]), ("restagger 1", ["ok"]),
-    ("cmd 5 0 999999 0 left", ["ok"]), ("own 0 go", ["cmd 5 0 0 0 go", "ok"]), ("cmd 5 0 999999 0 left", ["repeat 0 0 999999", "ok"]),
-    ("own 0 go", ["refused line 39 cause 7 many"]),
+    ("cmd 5 0 999999 0 left", ["ok"]), ("cmd 5 0 499999 0 left", ["ok"]), ("cmd 5 0 999998 0 left", ["ok"]),
+    ("own 0 go", ["refused line 39 cause 7 many"]), ("cmd 5 0 999999 0 left", ["repeat 0 0 999999", "ok"]), ("own 0 go", ["cmd 5 0 0 0 go", "ok"]),
     ("end", ["base 0 2", "world 0 1 2", "live ann 1 0 e 3 4 1", "live bob 4 0 n 3 5 0", "shot ann 3 0 e 6", "item 1 0 gold 18",
-             "log 0 4", "cmd 7 1 8 1 left", "cmd 8 1 9 1 left", "cmd 5 0 999999 0 left", "cmd 5 0 0 0 go",
+             "log 0 6", "cmd 7 1 8 1 left", "cmd 8 1 9 1 left", "cmd 5 0 999999 0 left", "cmd 5 0 499999 0 left", "cmd 5 0 999998 0 left", "cmd 5 0 0 0 go",
              "world 0 1 3", "live ann 1 0 e 3 4 1", "live bob 4 0 n 2 5 0", "item 1 0 gold 17", "done"]),
 ]
 

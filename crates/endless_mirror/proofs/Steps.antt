@@ -6,7 +6,11 @@ use Rattle.game_trait.specs.declared.event.Event.{Event}
 use Rattle.game_trait.specs.declared.event.Event.TheVariants.{Tick, Arrive}
 use Rattle.game_trait.specs.declared.limits.TheConstants.{GREATEST_NUMBER}
 use Rattle.game_trait.specs.Game.{Rules}
-use Rattle.sync_model.specs.State.{opening_state}
+use Rattle.std.specs.Prelude.{is_some}
+use Rattle.sync_model.specs.Forgetting.{arrive_from}
+use Rattle.sync_model.specs.State.{MirrorState, opening_state}
+use Rattle.rolling_mirror.specs.Rolling.{as_arrived}
+use Rattle.endless_mirror.specs.Stands.{arrival_made, arrived_from}
 use Rattle.sync_model.specs.Schedule.{Schedule, ticks_of_first, delays_of_each}
 use Rattle.sync_model.proofs.Cases.{next-fixed}
 use Rattle.match_data.specs.Data.{MatchData, all_plans, schedules, most_commands}
@@ -14,6 +18,10 @@ use Rattle.match_data.proofs.Plans.{delays-of_schedules}
 use Rattle.rolling_mirror.specs.declared.arrival.Arrival.{Arrival}
 use Rattle.rolling_mirror.specs.declared.arrival.Arrival.TheVariants.{Taken, Repeat, Late, Far, Full}
 use Rattle.rolling_mirror.specs.Rolling.{RollState, left_after, left_after_all, forgets, rolled, ready, is_held, ticked, turned, steps_of_each, in_window, arrived}
+use Rattle.std.specs.List.{AllByRecursion, list_all}
+use Rattle.std.proofs.lemmas.Bool.{and_parts, leb-true}
+use Rattle.rolling_mirror.specs.Rolling.{LetsTurnsGoOn}
+use Rattle.endless_mirror.specs.Way.{lets_run}
 use Rattle.endless_mirror.specs.Session.{SessionState, IsSession, number_behind, opening_roll, opening_session}
 
 -- another state of the mirror with the same plans
@@ -84,3 +92,24 @@ opened {W} opening m number mirror ps names version mirrors room keep made plans
     ∙ ap (λ (n : ℕ). record { base = 0; left = opening_state opening m.length (all_plans m) 0 0; spare = n; keep = keep }) room_is
     ∙ ap (λ (k : ℕ). record { base = 0; left = opening_state opening m.length (all_plans m) 0 0; spare = most_commands m.version; keep = k }) keep_is in
     λ i. record { mirror = mirror_is i; names = names_is i; number = number; version = version_is i; mirrors = mirrors_is i; next = 0 }
+
+-- the window lets the last copy run under each plan
+pub let-run : (plans : List Schedule) → list_all lets_run plans ≡ true → AllByRecursion LetsTurnsGoOn plans
+let-run [] all = tt
+let-run (plan ∷ plans) all = (let parts = and_parts _ _ all in (leb-true _ _ parts.0, let-run plans parts.1))
+
+-- what is answered has come to the mirror that remembers all, and what waits hasn't
+module _ {W : Type 0} (b : ℕ) (whole : MirrorState W) (x : Command) where
+  pub has-come : (a : Arrival) → is_some (as_arrived a) ≡ true → (arrival_made x a ≡ Arrive x ∷ []) × (arrived_from b whole x a ≡ arrive_from b whole x)
+  has-come (Taken repaired) some = (refl, refl)
+  has-come Repeat some = (refl, refl)
+  has-come (Late bound) some = (refl, refl)
+  has-come (Far end) some = absurd (let k = some in cc)
+  has-come Full some = absurd (let k = some in cc)
+
+  pub has-waited : (a : Arrival) → is_some (as_arrived a) ≡ false → (arrival_made x a ≡ []) × (arrived_from b whole x a ≡ whole)
+  has-waited (Taken repaired) none = absurd (let k = none in cc)
+  has-waited Repeat none = absurd (let k = none in cc)
+  has-waited (Late bound) none = absurd (let k = none in cc)
+  has-waited (Far end) none = (refl, refl)
+  has-waited Full none = (refl, refl)

@@ -5,12 +5,12 @@ use Rattle.std.proofs.lemmas.Bool.Decides.{nat_tests}
 use Rattle.game_trait.specs.declared.command.Command.{Command}
 use Rattle.game_trait.specs.declared.event.Event.TheVariants as events
 use Rattle.game_trait.specs.declared.event.Ticked.TheVariants.{Moved, Over}
-use Rattle.game_trait.specs.declared.event.Reply.TheVariants.{Arrive as ToArrive}
+use Rattle.game_trait.specs.declared.event.Reply.TheVariants.{Tick as ToTick, Arrive as ToArrive}
 use Rattle.game_trait.specs.Game.{Rules}
 use Rattle.game_trait.specs.Later.{later_event}
 use Rattle.game_trait.specs.Run.{beats}
 use Rattle.sync_model.specs.State.{MirrorState, last_clock}
-use Rattle.sync_model.specs.Change.{next, said, after}
+use Rattle.sync_model.specs.Change.{next, said, after, answers}
 use Rattle.sync_model.specs.Turns.{steps_from, turn_events}
 use Rattle.sync_model.proofs.Forgetting.{as-many}
 use Rattle.sync_model.proofs.Forgotten.{last-all}
@@ -29,15 +29,15 @@ use Rattle.endless_mirror.specs.Stands.{Stands, arrival_made, events_made, IsKno
 
 -- a clock that isn't held, after and without forgetting
 rolled-room :
-    (clock window k keep : ℕ) (last : Bool) → k ≤ clock → clock < window → ltb 0 k && (leb keep k || eqb (clock + 1) window) ≡ true
+    (clock window k keep spare : ℕ) (last : Bool) → k ≤ clock → clock < window → ltb 0 k && (leb keep k || (eqb (clock + 1) window || eqb spare 0)) ≡ true
     → (clock - k) + 1 < window
-rolled-room clock window k keep last behind within e = grind (arith, nat_tests)
+rolled-room clock window k keep spare last behind within e = grind (arith, nat_tests)
 
 still-room :
-    (clock window k keep : ℕ) (last : Bool) → k ≤ clock → clock < window → ltb 0 k && (leb keep k || eqb (clock + 1) window) ≡ false
+    (clock window k keep spare : ℕ) (last : Bool) → k ≤ clock → clock < window → ltb 0 k && (leb keep k || (eqb (clock + 1) window || eqb spare 0)) ≡ false
     → (eqb k 0 && eqb (clock + 1) window) || last ≡ false
     → clock + 1 < window
-still-room clock window k keep last behind within e held = grind (arith, nat_tests)
+still-room clock window k keep spare last behind within e held = grind (arith, nat_tests)
 
 module _ {W : Type 0} (rules : Rules W) (r : RollState W) (is : Stands r) (whole : MirrorState W)
     (h : IsWindowOf rules whole r) (before : whole.clock + 1 < whole.length) where
@@ -56,8 +56,8 @@ module _ {W : Type 0} (rules : Rules W) (r : RollState W) (is : Stands r) (whole
       let within = is.within_window in
       let k = last_clock r.left.runs in
       elim (forgets r) as (λ v. forgets r ≡ v → (cond v (rolled rules r) r).left.clock + 1 < (cond v (rolled rules r) r).left.length) [
-        | true ↦ λ e. rolled-room r.left.clock r.left.length k r.keep false behind within e
-        | false ↦ λ e. still-room r.left.clock r.left.length k r.keep (eqb (r.base + r.left.clock) (2 ^ 32 - 1)) behind within e held
+        | true ↦ λ e. rolled-room r.left.clock r.left.length k r.keep r.spare false behind within e
+        | false ↦ λ e. still-room r.left.clock r.left.length k r.keep r.spare (eqb (r.base + r.left.clock) (2 ^ 32 - 1)) behind within e held
       ] refl
 
   moved-window : is_held r ≡ false → IsWindowOf rules (next whole events.Tick) (left_after (ready rules r) events.Tick)
@@ -73,7 +73,7 @@ module _ {W : Type 0} (rules : Rules W) (r : RollState W) (is : Stands r) (whole
         | false ↦ moved-window
       ] refl
 
-  ticked-within : (ticked rules r).left.clock < (ticked rules r).left.length
+  pub ticked-within : (ticked rules r).left.clock < (ticked rules r).left.length
   ticked-within =
       elim (is_held r) as (λ v. is_held r ≡ v → (cond v r (left_after (ready rules r) events.Tick)).left.clock < (cond v r (left_after (ready rules r) events.Tick)).left.length) [
         | true ↦ λ e. is.within_window
@@ -83,25 +83,30 @@ module _ {W : Type 0} (rules : Rules W) (r : RollState W) (is : Stands r) (whole
       ] refl
 
   -- a turn whose tick moves the clock, and one whose tick doesn't
-  went-window : is_held r ≡ false → IsWindowOf rules (after whole (turn_events (length whole.runs))) (turned rules r)
-  went-window held =
+  pub went-both :
+      is_held r ≡ false
+      → IsWindowOf rules (after whole (turn_events (length whole.runs))) (turned rules r) × (said_to_turn rules r ≡ answers whole (turn_events (length whole.runs)))
+  went-both held =
       let room = ready-room held in
       let both = tick-window rules (ready rules r) (left_after (ready rules r) events.Tick) refl (omega arith) whole ready-window (omega arith) in
       let tick : left_after (ready rules r) events.Tick ≡ ticked rules r = rw held refl in
       let moved : said_to_tick r ≡ Moved = rw held refl in
-      (turn-window rules r (ticked rules r) (turned rules r) refl ticked-within whole before
-      (subst (IsWindowOf rules (next whole events.Tick)) tick both.0) both.1 (said_to_turn rules r) refl refl moved).0
+      turn-window rules r (ticked rules r) (turned rules r) refl ticked-within whole before
+      (subst (IsWindowOf rules (next whole events.Tick)) tick both.0) both.1 (said_to_turn rules r) refl refl moved
 
-  held-window : is_held r ≡ true → IsWindowOf rules (after whole (steps_from 0 (length whole.runs))) (turned rules r)
-  held-window held =
+  pub held-both :
+      is_held r ≡ true
+      → IsWindowOf rules (after whole (steps_from 0 (length whole.runs))) (turned rules r)
+      × (said_to_turn rules r ≡ ToTick Over ∷ answers whole (steps_from 0 (length whole.runs)))
+  held-both held =
       let over : said_to_tick r ≡ Over = rw held refl in
-      (over-window rules r (ticked rules r) (turned rules r) refl ticked-within whole h (omega arith) (said_to_turn rules r) refl refl over).0
+      over-window rules r (ticked rules r) (turned rules r) refl ticked-within whole h (omega arith) (said_to_turn rules r) refl refl over
 
   turned-window : IsWindowOf rules (after whole (cond (is_held r) (steps_from 0 (length whole.runs)) (turn_events (length whole.runs)))) (turned rules r)
   turned-window =
       elim (is_held r) as (λ v. is_held r ≡ v → IsWindowOf rules (after whole (cond v (steps_from 0 (length whole.runs)) (turn_events (length whole.runs)))) (turned rules r)) [
-        | true ↦ held-window
-        | false ↦ went-window
+        | true ↦ λ e. (held-both e).0
+        | false ↦ λ e. (went-both e).0
       ] refl
 
   -- a step of a copy that is there

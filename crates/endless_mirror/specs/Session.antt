@@ -83,11 +83,23 @@ mirror_after rules s End = s.mirror
 abbrev pub number_behind : ℕ → ℕ
 number_behind n = if nat_le GREATEST_NUMBER n then 0 else n + 1
 
+-- how many numbers there are, in a circle
+abbrev pub circle : ℕ
+circle = GREATEST_NUMBER + 1
+
+-- how far a number stands ahead of another one, round the circle
+abbrev pub how_far : ℕ → ℕ → ℕ
+how_far next n = if nat_le next n then n - next else (n + circle) - next
+
+-- a number is ahead: less far than half of the circle
+abbrev pub is_ahead : ℕ → ℕ → Bool
+is_ahead next n = nat_lt (how_far next n) (circle / 2)
+
 -- the number of the own next command of the mirror of this number, which was this, after a command
--- came: where that is its own and not below, the one behind it
+-- came: where that is its own and ahead, the one behind it
 abbrev pub next_behind : ℕ → ℕ → Command → ℕ
 next_behind own next x =
-    if (x.from == own) && nat_le next x.number then number_behind x.number else next
+    if (x.from == own) && is_ahead next x.number then number_behind x.number else next
 
 -- the number of its own next command after a request
 unfoldable pub next_after : {W : Type 0} → SessionState W → Request → ℕ

@@ -5,7 +5,7 @@ ghost use Rattle.std.specs.List.{list_all};
 ghost use Rattle.game_trait.specs.declared.limits.TheConstants.{GREATEST_NUMBER};
 ghost use Rattle.tss_io.specs.Reading.{Answers};
 ghost use Rattle.match_data.specs.Data.{schedules};
-ghost use Rattle.endless_mirror.specs.Session.{is_past, number_behind, next_behind};
+ghost use Rattle.endless_mirror.specs.Session.{is_past, number_behind, how_far, is_ahead, next_behind};
 ghost use Rattle.endless_mirror.specs.Way.{but_for_runs, lets_run, may_open};
 
 use crate::session::EndlessSession;
@@ -34,12 +34,28 @@ fn number_behind(number: Number) -> Number
     }
 }
 
+// How many numbers there are, in a circle.
+const CIRCLE: Number = GREATEST_NUMBER + 1;
+
+// How far a number stands ahead of another one, round the circle.
+fn how_far(next: Number, number: Number) -> Number
+    requires { next ≤ GREATEST_NUMBER }
+    ensures { result ≡ how_far next number }
+{
+    if next <= number {
+        number - next
+    } else {
+        number + CIRCLE - next
+    }
+}
+
 // The number of the own next command of the mirror of this number, which was this, after a command came.
 fn next_behind(own: MirrorId, next: Number, x: &Command) -> Number
+    requires { next ≤ GREATEST_NUMBER }
     ensures next { result ≡ next_behind own next x.now }
-    ensures few { next ≤ GREATEST_NUMBER → result ≤ GREATEST_NUMBER }
+    ensures few { result ≤ GREATEST_NUMBER }
 {
-    if x.from == own && next <= x.number {
+    if x.from == own && how_far(next, x.number) < CIRCLE / 2 {
         number_behind(x.number)
     } else {
         next
@@ -164,6 +180,7 @@ impl<G: Begins> Asked for EndlessSession<G> {
     #[tactic(auto, unfolding(crate::specs::Session::mirror_after, crate::specs::Session::next_after, crate::specs::Told::answer_text))]
     fn world(&mut self, copy: u8, out: &mut Vec<u8>) -> Result<(), NoMemory> {
         self.always();
+        self.mirror.refresh();
         push_copy(out, self.number, &self.mirror, copy, &self.roster)
     }
 

@@ -1,8 +1,11 @@
 //! What a mirror of a session without an end is behind its head.
 
-ghost use Rattle.std.specs.Prelude.{◌≡◌, ◌<◌, ◌≤◌, IfOk, length};
+ghost use Rattle.std.specs.Prelude.{◌≡◌, ◌<◌, ◌≤◌, true, IfOk, length};
 ghost use Rattle.endless_mirror.specs.Session.{terms_of, opening_session};
 ghost use Rattle.endless_mirror.specs.Stands.{Stands};
+ghost use Rattle.endless_mirror.specs.Way.{lets_run};
+ghost use Rattle.match_data.specs.Data.{schedules};
+ghost use Rattle.std.specs.List.{list_all};
 
 use game_trait::{Game, MirrorId, Number, Tick};
 use live_talk::room_of;
@@ -52,14 +55,15 @@ impl<G: Game> Model for EndlessSession<G> {
 
 impl<G: Game> EndlessSession<G> {
     /// The mirror of this number, which the match has, as the session begins: its window is as long as
-    /// the match.
+    /// the match, two ticks longer or more than each plan's last delay.
     pub fn open(
         alloc: Global,
         opening: &G,
         m: Match,
         number: MirrorId,
     ) -> Result<EndlessSession<G>, NoMemory>
-        requires { number < m.mirrors }
+        requires number { number < m.mirrors }
+        requires windows { list_all lets_run (schedules m) ≡ true }
         ensures { IfOk result (λ s. s ≡ opening_session opening.now m number) }
     {
         let plans = plans_of(alloc, &m)?;

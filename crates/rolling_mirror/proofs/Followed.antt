@@ -88,7 +88,7 @@ last-at s n many some = last-is s.runs n many (omega arith)
 -- ---- the steps of a turn
 
 -- delays that don't fall
-abbrev DontFall : List ℕ → ℕ → Type 0
+abbrev pub DontFall : List ℕ → ℕ → Type 0
 DontFall ds n = (c : ℕ) → c < n → get_or ds c 0 ≤ get_or ds (n - 1) 0
 
 -- a copy that stands where the last one may run a tick, and whose copy ahead has gone on, isn't idle
@@ -115,7 +115,7 @@ stays s n (suc c) k last room at =
 
 -- what the steps of a turn keep: the copies trail, there are n of them, the delays don't fall, and the
 -- last copy may run up to here
-record InTurn {W : Type 0} (n room : ℕ) (s : MirrorState W) : Type 0 where
+pub record InTurn {W : Type 0} (n room : ℕ) (s : MirrorState W) : Type 0 where
   pub trails : Trails s
   pub many : n ≡ length s.runs
   pub order : DontFall (delays_of s) n
@@ -134,7 +134,7 @@ turn-step n room s c h =
     }
 
 -- the last copy runs a tick where it may
-abbrev went : ℕ → ℕ → ℕ
+abbrev pub went : ℕ → ℕ → ℕ
 went room k = cond {A = ℕ} (ltb k room) (k + 1) k
 
 -- a step of the last copy
@@ -164,7 +164,7 @@ last-step n room k c s h upto last ahead =
     refl
 
 -- the steps from a copy on
-steps-last :
+pub steps-last :
     {W : Type 0} (j c n room k : ℕ) (s : MirrorState W) → InTurn n room s → c + suc j ≡ n → last_clock s.runs ≡ k
     → (k < room → (i : ℕ) → i < c → k < copy_clock s.runs i)
     → last_clock (after s (steps_from c (suc j))).runs ≡ went room k
@@ -481,7 +481,7 @@ unfolding last_of
 last-here d ds = refl
 
 -- the last of so many delays that rise is none shorter than another
-dont-fall : (ds : List ℕ) (n : ℕ) → DelaysRise ds → length ds ≡ n → DontFall ds n
+pub dont-fall : (ds : List ℕ) (n : ℕ) → DelaysRise ds → length ds ≡ n → DontFall ds n
 dont-fall [] n rise many = λ c there. absurd (omega arith)
 dont-fall (d ∷ ds) n rise many = λ c there.
     let back : n - 1 ≡ length ds = omega arith in

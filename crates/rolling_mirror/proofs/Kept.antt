@@ -63,18 +63,18 @@ behind-of {W} is h = subst (λ (s : RollState W). last_clock s.left.runs ≤ s.l
 
 -- a clock that isn't held, after and without forgetting
 rolled-room :
-    (b clock window k keep : ℕ) → k ≤ clock → clock < window → b + clock < 2 ^ 32
-    → ltb 0 k && (leb keep k || eqb (clock + 1) window) ≡ true
+    (b clock window k keep spare : ℕ) → k ≤ clock → clock < window → b + clock < 2 ^ 32
+    → ltb 0 k && (leb keep k || (eqb (clock + 1) window || eqb spare 0)) ≡ true
     → (eqb k 0 && eqb (clock + 1) window) || eqb (b + clock) (2 ^ 32 - 1) ≡ false
     → ((clock - k) + 1 < window) × ((b + k) + ((clock - k) + 1) < 2 ^ 32)
-rolled-room b clock window k keep behind within fits e held = (grind (arith, nat_tests), grind (arith, nat_tests))
+rolled-room b clock window k keep spare behind within fits e held = (grind (arith, nat_tests), grind (arith, nat_tests))
 
 still-room :
-    (b clock window k keep : ℕ) → k ≤ clock → clock < window → b + clock < 2 ^ 32
-    → ltb 0 k && (leb keep k || eqb (clock + 1) window) ≡ false
+    (b clock window k keep spare : ℕ) → k ≤ clock → clock < window → b + clock < 2 ^ 32
+    → ltb 0 k && (leb keep k || (eqb (clock + 1) window || eqb spare 0)) ≡ false
     → (eqb k 0 && eqb (clock + 1) window) || eqb (b + clock) (2 ^ 32 - 1) ≡ false
     → (clock + 1 < window) × (b + (clock + 1) < 2 ^ 32)
-still-room b clock window k keep behind within fits e held = (grind (arith, nat_tests), grind (arith, nat_tests))
+still-room b clock window k keep spare behind within fits e held = (grind (arith, nat_tests), grind (arith, nat_tests))
 
 module _ {W : Type 0} {r : RollState W} {plans : List Schedule} {names : NamesOfTree} {start : ℕ} (h : IsRolling r plans names start) where
   -- the last copy isn't ahead of the clock
@@ -108,8 +108,8 @@ module _ {W : Type 0} {r : RollState W} {plans : List Schedule} {names : NamesOf
       elim (forgets r) as (λ v. forgets r ≡ v
       → ((if v then rolled rules r else r).left.clock + 1 < (if v then rolled rules r else r).left.length)
       × ((if v then rolled rules r else r).base + ((if v then rolled rules r else r).left.clock + 1) < 2 ^ 32)) [
-        | true ↦ λ e. rolled-room r.base r.left.clock r.left.length k r.keep behind within fits e held
-        | false ↦ λ e. still-room r.base r.left.clock r.left.length k r.keep behind within fits e held
+        | true ↦ λ e. rolled-room r.base r.left.clock r.left.length k r.keep r.spare behind within fits e held
+        | false ↦ λ e. still-room r.base r.left.clock r.left.length k r.keep r.spare behind within fits e held
       ]
       refl
 

@@ -7,3 +7,5 @@ mod Opened
 mod Joined
 mod Followed
 mod Told
+mod Onward
+pub mod Standing

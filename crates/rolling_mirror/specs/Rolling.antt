@@ -1,5 +1,5 @@
 -- What contracts see of a mirror of a session without an end, and the mirror that remembers all of it.
-use Rattle.std.specs.Prelude.{ℕ, ◌+◌, ◌-◌, ◌^◌, Bool, nat_le, nat_lt, ◌==◌, ◌&&◌, ◌||◌, if◌then◌else◌, List, [], ◌∷◌, ◌++◌, length, Option, Some, None}
+use Rattle.std.specs.Prelude.{ℕ, ◌+◌, ◌-◌, ◌^◌, ◌≤◌, Bool, nat_le, nat_lt, ◌==◌, ◌&&◌, ◌||◌, if◌then◌else◌, List, [], ◌∷◌, ◌++◌, length, Option, Some, None}
 use Rattle.game_trait.specs.declared.command.Command.{Command}
 use Rattle.game_trait.specs.declared.event.Event.{Event}
 use Rattle.game_trait.specs.declared.event.Event.TheVariants.{Tick, Arrive}
@@ -12,7 +12,7 @@ use Rattle.game_trait.specs.declared.event.Ticked.TheVariants.{Moved, Over}
 use Rattle.game_trait.specs.Game.{Rules}
 use Rattle.game_trait.specs.Later.{earlier, left_commands}
 use Rattle.game_trait.specs.Shifted.{ShiftedWorld}
-use Rattle.sync_model.specs.Schedule.{Schedule, delays_of_each}
+use Rattle.sync_model.specs.Schedule.{Schedule, delays_of_each, longest_delay}
 use Rattle.sync_model.specs.State.{MirrorState, last_clock}
 use Rattle.sync_model.specs.Settle.{repaired}
 use Rattle.sync_model.specs.Change.{next, said, is_repeat, proposed_by_arrival}
@@ -33,6 +33,10 @@ pub record RollState (W : Type 0) : Type 0 where
   pub spare : ℕ
   -- how many ticks of the window the last copy runs before a tick forgets
   pub keep : ℕ
+
+-- the window lets turns go on: it is longer by two ticks than the delay of the last copy
+abbrev pub LetsTurnsGoOn : Schedule → Type 0
+LetsTurnsGoOn plan = longest_delay plan.delays + 2 ≤ plan.length
 
 -- a mirror of these parts: its base, its copies, its plans and which is in force, its clock, and how
 -- many ticks it keeps
@@ -97,10 +101,11 @@ abbrev pub is_full : {W : Type 0} → RollState W → Bool
 is_full r = r.left.clock + 1 == r.left.length
 
 -- a tick forgets where the last copy has run some tick of the window, and as many as are kept, or where
--- the window is full
+-- the window is full or there is no room for a command
 abbrev pub forgets : {W : Type 0} → RollState W → Bool
 forgets r =
-    nat_lt 0 (last_clock r.left.runs) && (nat_le r.keep (last_clock r.left.runs) || is_full r)
+    nat_lt 0 (last_clock r.left.runs)
+    && (nat_le r.keep (last_clock r.left.runs) || (is_full r || (r.spare == 0)))
 
 abbrev pub ready : {W : Type 0} → Rules W → RollState W → RollState W
 ready rules r = if forgets r then rolled rules r else r

@@ -18,7 +18,8 @@ use game_trait::{Command, Event, Game, Reply, Stepped, Tick, Ticked};
 
 impl<G: Game> RollingMirror<G> {
     /// The clock goes on by one tick, after the mirror forgot what lies behind its last copy, where
-    /// that has run as many ticks of the window as are kept, or the window is full. `Over` comes where
+    /// that has run as many ticks of the window as are kept, or some while the window is full or there
+    /// is no room for a command. `Over` comes where
     /// the last copy is a whole window behind the clock, until steps take it on, and where the clock
     /// stands at the last tick that a `u32` tells: nothing changed.
     pub fn tick(&mut self) -> Ticked

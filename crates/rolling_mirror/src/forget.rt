@@ -43,7 +43,7 @@ impl<G: Game> RollingMirror<G> {
         ensures { result ≡ forgets self.now }
     {
         let passed = self.last_clock();
-        0 < passed && (self.keep <= passed || self.is_full())
+        0 < passed && (self.keep <= passed || self.is_full() || self.stack.spare() == 0)
     }
 
     // Whether the clock stands at the window's last tick.

@@ -7,7 +7,7 @@ ghost use Rattle.game_trait.specs.declared.limits.TheConstants.{MOST_ROOM};
 ghost use Rattle.game_trait.specs.Later.{later};
 ghost use Rattle.sync_model.specs.Schedule.{Schedule, delays_of_each, ticks_of_first, copies_of_first};
 ghost use Rattle.sync_model.specs.State.{MirrorState};
-ghost use Rattle.rolling_mirror.specs.Rolling.{IsWindowOf};
+ghost use Rattle.rolling_mirror.specs.Rolling.{IsWindowOf, LetsTurnsGoOn};
 ghost use Rattle.rolling_mirror.specs.Snapshot.{due_from, snapshot_of, IsSnapshotOf, IsOpenable, opened_with, opened_at, rolled_back};
 
 use crate::handed::SessionSnapshot;
@@ -85,6 +85,7 @@ impl<G: Game> RollingMirror<G> {
         requires equal_copies { AllByRecursion
             (λ plan. length plan.delays ≡ copies_of_first plans.now)
             plans.now }
+        requires goes_on { AllByRecursion LetsTurnsGoOn plans.now }
         requires room { room ≤ MOST_ROOM }
         requires openable { IsOpenable snap.now plans.now room }
         ensures state { IfOk result (λ m. m ≡ opened_at snap.now plans.now room keep) }

@@ -1,15 +1,15 @@
 //! What the promises of a mirror of a session without an end are made of. Each is the contract of a
 //! function without parameters that does nothing.
 
-ghost use Rattle.std.specs.Prelude.{◌≡◌, ℕ, ◌+◌, ◌<◌, List, Some, length};
+ghost use Rattle.std.specs.Prelude.{◌≡◌, ℕ, ◌+◌, ◌<◌, true, List, Some, length};
 ghost use Rattle.std.specs.List.{AllByRecursion};
 ghost use Rattle.game_trait.specs.declared.event.Arrived.{Arrived};
-ghost use Rattle.sync_model.specs.State.{MirrorState};
+ghost use Rattle.sync_model.specs.State.{MirrorState, delays_of, schedule_of, last_clock};
 ghost use Rattle.sync_model.specs.Forgetting.{IsLeft};
 ghost use Rattle.sync_model.specs.Schedule.{DelaysRise};
 ghost use Rattle.sync_model.specs.Staggered.{IsTrailing};
 ghost use Rattle.rolling_mirror.specs.declared.arrival.Arrival.{Arrival};
-ghost use Rattle.rolling_mirror.specs.Rolling.{RollState, IsWindowOf, as_arrived};
+ghost use Rattle.rolling_mirror.specs.Rolling.{RollState, IsWindowOf, LetsTurnsGoOn, as_arrived, is_full, turned};
 ghost use Rattle.rolling_mirror.specs.Snapshot.{rolled_back};
 ghost use Rattle.rolling_mirror.specs.Moves.{Move, after_moves, said_to_moves, stepped, AreAtOne};
 
@@ -50,4 +50,23 @@ pub fn a_joiner_follows<G: Game>()
         → AllByRecursion (λ delays. length delays ≡ length whole.runs) whole.plans
         → AllByRecursion (λ copy. copy + 1 < length whole.runs) copies
         → said_to_moves whole moves ≡ said_to_moves (stepped copies (rolled_back whole)) moves }
+{}
+
+/// The windows that let turns go on are those that are longer by two ticks or more than the delay of the
+/// last copy. Where this one is a whole window behind, a turn takes it on, so that the next one moves the
+/// clock; in a shorter window it stays where it is, for ever while this plan is in force.
+pub fn a_window_that_lets_turns_go_on<G: Game>()
+    ensures goes_on { (r : RollState G)
+        → IsTrailing r.left.accepted r.left.runs → 0 < length r.left.runs
+        → DelaysRise (delays_of r.left) → length (delays_of r.left) ≡ length r.left.runs
+        → last_clock r.left.runs ≡ 0 → is_full r ≡ true
+        → LetsTurnsGoOn (schedule_of r.left)
+        → last_clock (turned G.rules r).left.runs ≡ 1 }
+    ensures stops { (r : RollState G)
+        → IsTrailing r.left.accepted r.left.runs → 0 < length r.left.runs
+        → DelaysRise (delays_of r.left) → length (delays_of r.left) ≡ length r.left.runs
+        → last_clock r.left.runs ≡ 0 → is_full r ≡ true
+        → (LetsTurnsGoOn (schedule_of r.left) → ⊥)
+        → (last_clock (turned G.rules r).left.runs ≡ 0)
+        × (is_full (turned G.rules r) ≡ true) }
 {}

@@ -12,7 +12,7 @@ ghost use Rattle.sync_model.specs.Schedule.{delays_of_each, ticks_of_first, copi
 ghost use Rattle.sync_model.specs.State.{MirrorState, opening_state, schedule_of, step_limit};
 ghost use Rattle.sync_model.specs.State.{copy_clock as copy_clock_of, last_clock as last_clock_of};
 ghost use Rattle.sync_model.specs.Staggered.{IsTrailing};
-ghost use Rattle.rolling_mirror.specs.Rolling.{IsWindowOf};
+ghost use Rattle.rolling_mirror.specs.Rolling.{IsWindowOf, LetsTurnsGoOn};
 
 use game_trait::{Command, Game, MirrorId, NameTree, Number, Shifted, Tick};
 use stagger_clock::Stagger;
@@ -60,7 +60,8 @@ impl<G: Game> Model for RollingMirror<G> {
 
 impl<G: Game> RollingMirror<G> {
     /// A mirror before any event. Its plans, the first of which is in force, are of as many copies, and
-    /// of as many ticks, which are its window's. It remembers at most `room` commands at once, at most
+    /// of as many ticks, which are its window's: two more than each plan's last delay, or turns would
+    /// stop for ever. It remembers at most `room` commands at once, at most
     /// 1,048,576. A tick forgets once the last copy has run `keep` ticks of the window, so that what
     /// that costs is spread over so many. On `NoMemory` nothing is created.
     pub fn new(
@@ -76,6 +77,7 @@ impl<G: Game> RollingMirror<G> {
         requires equal_copies { AllByRecursion
             (λ plan. length plan.delays ≡ copies_of_first plans.now)
             plans.now }
+        requires goes_on { AllByRecursion LetsTurnsGoOn plans.now }
         requires room { room ≤ MOST_ROOM }
         ensures state { IfOk result (λ m. m ≡ record {
           base = 0;

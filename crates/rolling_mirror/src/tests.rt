@@ -1,7 +1,7 @@
 //! A long session beside a plain model that executes everything in time order, and commands at the
 //! edges of the window.
 
-ghost use Rattle.std.specs.Prelude.{◌+◌, ◌*◌, ◌%◌, ◌^◌};
+ghost use Rattle.std.specs.Prelude.{◌+◌, ◌*◌, ◌%◌, ◌^◌, ◌≤◌};
 
 use crate::{Arrival, RollingMirror};
 use game_trait::{Act, Command, Game, MirrorId, Number, Tick};
@@ -53,9 +53,17 @@ const ROUND: Tick = 1_000;
 
 const PAUSE: Tick = 50;
 
-fn opened(rt: &impl Abort, alloc: Global) -> RollingMirror<Sum> {
+// A mirror with room for so many commands, that keeps so many ticks.
+#[tactic(auto, unfolding(sync_model::specs::Lists::last_of))]
+fn mirror_of(rt: &impl Abort, alloc: Global, room: u32, keep: Tick) -> RollingMirror<Sum>
+    requires { room ≤ 1024 }
+{
     let plan = Stagger::try_new(&DELAYS, WINDOW).expect(rt, "a plan");
-    RollingMirror::new(alloc, &Sum { value: 0 }, &[plan], 1_024, KEEP).expect(rt, "memory")
+    RollingMirror::new(alloc, &Sum { value: 0 }, &[plan], room, keep).expect(rt, "memory")
+}
+
+fn opened(rt: &impl Abort, alloc: Global) -> RollingMirror<Sum> {
+    mirror_of(rt, alloc, 1_024, KEEP)
 }
 
 fn go(time: Tick, from: MirrorId, number: Number) -> Command {
@@ -175,6 +183,47 @@ fn a_million_ticks(rt: HostRuntime) {
         play_tick(&rt, &mut mirror, &mut plain, tick);
     }
     assert!(rt; mirror.base() > SESSION - WINDOW);
+}
+
+// Asserts that this was answered to a command.
+fn assert_arrival(rt: &impl Abort, found: Arrival, due: Arrival) {
+    assert!(rt; found == due);
+}
+
+// A command of each tick fills the room long before the window is full. The tick behind forgets what the
+// last copy has run, and there is room again.
+#[test]
+fn a_full_mirror_forgets(rt: HostRuntime) {
+    let mut mirror = mirror_of(&rt, rt.alloc(), 32, WINDOW);
+    for tick in 0..32 {
+        let _replies = mirror.turn();
+        let x = go(tick + 1, 0, tick);
+        assert_arrival(&rt, mirror.arrive(&x), Arrival::Taken { repaired: 0 });
+    }
+    let x = go(32, 1, 0);
+    assert!(rt; mirror.base() == 0);
+    assert_arrival(&rt, mirror.arrive(&x), Arrival::Full);
+    let _replies = mirror.turn();
+    assert!(rt; mirror.base() == 12);
+    assert_arrival(&rt, mirror.arrive(&x), Arrival::Taken { repaired: 0 });
+}
+
+// After so many commands a mirror's names come again: these were forgotten long before.
+const NAMES: u32 = 500;
+
+// A command of a name that was forgotten is taken, and executed at its time, each time that the names went
+// round.
+#[test]
+fn names_go_round(rt: HostRuntime) {
+    let mut mirror = opened(&rt, rt.alloc());
+    let mut plain = Plain::new(rt.alloc());
+    for tick in 0..4 * NAMES {
+        let x = go(tick, 0, tick % NAMES);
+        assert_arrival(&rt, mirror.arrive(&x), Arrival::Taken { repaired: 0 });
+        plain.waiting.push(x).expect(&rt, "memory");
+        let _replies = mirror.turn();
+        assert_last(&rt, &mirror, &mut plain);
+    }
 }
 
 // Right after the mirror forgot, commands come that are due a tick before the base, at it and one

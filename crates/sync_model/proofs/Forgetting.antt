@@ -625,3 +625,12 @@ based-left rules b whole left h = (let some = h.some_copy in record {
       ap (map (λ (run : List Item). ordered whole.accepted 0 b)) h.runs
       ∙ put-runs (ordered whole.accepted 0 b) b (whole_run (ordered whole.accepted 0 b) b) left.runs;
 })
+
+-- where no name of what was forgotten comes again, asking of all names is asking of those from there on
+pub remembered-decides :
+    {W : Type 0} (b : ℕ) (s : MirrorState W) (x : Command) → list_any (same_name x) (filter (λ y. ltb y.time b) s.accepted) ≡ false
+    → (arrive_from b s x ≡ next s (Arrive x)) × (said_from b s x ≡ said s (Arrive x))
+unfolding arrive_from said_from next said
+remembered-decides b s x known =
+    let same : is_repeat s x ≡ is_repeat_from b s x = any-split b (same_name x) s.accepted ∙ ap (λ (v : Bool). v || is_repeat_from b s x) known in
+    (rw same refl, rw same refl)

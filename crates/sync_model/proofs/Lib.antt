@@ -28,3 +28,5 @@ pub mod Following
 pub mod HostWorlds
 pub mod Forgetting
 pub mod Forgotten
+pub mod TimeOrder
+pub mod Openings

@@ -15,3 +15,5 @@ pub mod Worked
 pub mod Pinned
 pub mod Host
 pub mod Forgetting
+pub mod TimeOrder
+pub mod Openings

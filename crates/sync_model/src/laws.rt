@@ -6,6 +6,7 @@ mod draining;
 mod forgetting;
 mod history;
 mod hosts;
+mod ordering;
 mod room;
 mod settling;
 mod staggered;
@@ -23,7 +24,7 @@ pub use forgetting::{
     a_mirror_put_at_its_base_is_a_window, forgetting_changes_no_answer,
     forgetting_changes_no_answer_to_the_end, forgetting_is_exact, nothing_is_forgotten_yet,
     what_is_left_has_the_worlds_of_the_whole, what_is_left_tells_of_the_whole,
-    what_lies_behind_the_last_copy_is_forgotten,
+    what_is_remembered_decides, what_lies_behind_the_last_copy_is_forgotten,
 };
 pub use history::{
     answers_in_kind, changing_events_are_a_log, changing_events_suffice, history_grows,
@@ -32,6 +33,10 @@ pub use history::{
 pub use hosts::{
     runs_begin_with_those_behind, the_last_copy_is_never_repaired, unrepaired_runs_grow,
     world_goes_on, worlds_follow, worlds_follow_a_match,
+};
+pub use ordering::{
+    keys_go_on_differing, last_copies_at_one_tick_show_one_world,
+    while_nothing_comes_late_copies_are_in_time_order, worlds_decide_nothing,
 };
 pub use room::{
     from_history_kept, from_history_reached, opening_from_history, room_decides_nothing, room_spent,

@@ -85,8 +85,18 @@ pub fn forgetting_is_exact<G: Game>()
 {}
 
 /// What is left of a mirror, put at its base, is left of the whole with all copies put at that tick in time
-/// order.
+/// order, where they trail one another.
 pub fn a_mirror_put_at_its_base_is_a_window<G: Game>()
-    ensures { (b : ℕ) (whole left : MirrorState G) → IsLeft G.rules b whole left
+    ensures window { (b : ℕ) (whole left : MirrorState G) → IsLeft G.rules b whole left
         → IsLeft G.rules b (at_base b whole) (left_at_base left) }
+    ensures trailing { (b : ℕ) (s : MirrorState G) → IsTrailing s.accepted (at_base b s).runs }
+{}
+
+/// Where no command that was forgotten has the name of one that comes, asking of names only what is due
+/// from a tick on is asking of all.
+pub fn what_is_remembered_decides<G: Game>()
+    ensures { (b : ℕ) (s : MirrorState G) (x : Command)
+        → IsRemembered b s (Event.Arrive x)
+        → (arrive_from b s x ≡ next s (Event.Arrive x))
+        × (said_from b s x ≡ said s (Event.Arrive x)) }
 {}

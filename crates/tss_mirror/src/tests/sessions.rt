@@ -59,15 +59,18 @@ const HELD: Row = Row {
     ..EACH
 };
 
-// Behind 999999 own numbers begin again, and a name that is remembered isn't given again.
+// Behind 999999 own numbers begin again, and a name that is remembered isn't given again. A number that
+// comes again from behind takes them nowhere.
 const NUMBERS: Row = Row {
     name: "own numbers behind the greatest one",
-    rest: "own 0 go\ncmd 0 0 999998 0 left\nown 0 go\nown 0 go\ncmd 0 0 0 0 go\nturn\nturn\n\
-        turn\nturn\nturn\nturn\nturn\nturn\nturn\nown 0 go\ncommands\nend\n",
-    told: "ok\ncmd 0 0 0 0 go\nok\nok\ncmd 0 0 999999 0 go\nok\nrefused line 14 cause 7 many\n\
-        repeat 0 0 0\nok\nok\nok\nok\nok\nok\nok\nok\nok\nok\ncmd 9 0 1 0 go\nok\n\
-        cmd 9 0 1 0 go\nok\nbase 0 4\nworld 0 2 4\nlive ann 1 0 n 3 5 0\nlog 0 1\n\
-        cmd 9 0 1 0 go\nworld 0 2 5\nlive ann 1 0 n 3 5 0\ndone\n",
+    rest: "own 0 go\ncmd 0 0 499999 0 left\ncmd 0 0 999998 0 left\nown 0 go\nown 0 go\n\
+        cmd 0 0 0 0 go\nturn\nturn\nturn\nturn\nturn\nturn\nturn\nturn\nturn\nown 0 go\n\
+        cmd 0 0 900000 0 go\nown 0 left\ncommands\nend\n",
+    told: "ok\ncmd 0 0 0 0 go\nok\nok\nok\ncmd 0 0 999999 0 go\nok\n\
+        refused line 15 cause 7 many\nrepeat 0 0 0\nok\nok\nok\nok\nok\nok\nok\nok\nok\nok\n\
+        cmd 9 0 1 0 go\nok\nlate 0 0 900000 5\nok\ncmd 9 0 2 0 left\nok\n\
+        cmd 9 0 1 0 go\ncmd 9 0 2 0 left\nok\nbase 0 4\nworld 0 2 4\nlive ann 0 0 w 3 5 0\n\
+        log 0 2\ncmd 9 0 1 0 go\ncmd 9 0 2 0 left\nworld 0 2 5\nlive ann 0 0 w 3 5 0\ndone\n",
     ..EACH
 };
 

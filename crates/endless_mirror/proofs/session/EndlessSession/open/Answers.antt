@@ -1,10 +1,11 @@
 use Rattle.std.proofs.Common.{◌≡◌, length, sym, ap, subst, ◌∙◌, List}
 use Rattle.std.specs.List.{AllByRecursion}
-use Rattle.match_data.specs.Data.{MatchData, IsMatch, most_commands}
+use Rattle.match_data.specs.Data.{MatchData, IsMatch, most_commands, schedules}
 use Rattle.match_data.proofs.Plans.{equal-ticks, equal-copies}
 use Rattle.sync_model.specs.Schedule.{Schedule, ticks_of_first, copies_of_first}
 use Rattle.endless_mirror.specs.Session.{opening_roll}
-use Rattle.endless_mirror.proofs.Steps.{opened}
+use Rattle.rolling_mirror.specs.Rolling.{LetsTurnsGoOn}
+use Rattle.endless_mirror.proofs.Steps.{opened, let-run}
 use Rattle.endless_mirror.proofs.session.EndlessSession.open.Goals as goal
 
 pub new-requires-clause-equal_ticks : goal.new-requires-clause-equal_ticks
@@ -24,3 +25,8 @@ returns g c =
     (ap (λ (m : MatchData). m.mirrors) c.m.view_is)
     (c.room_of-room.ensures.room ∙ ap (λ (m : MatchData). most_commands m.version) c.m.view_is)
     (ap (λ (m : MatchData). (opening_roll c.args.opening.now m).keep) c.m.view_is)
+
+pub new-requires-clause-goes_on : goal.new-requires-clause-goes_on
+new-requires-clause-goes_on g c =
+    subst (λ (ps : List Schedule). AllByRecursion LetsTurnsGoOn ps) (sym (c.as_slice.ensures.value ∙ c.in_ok-plans.ensures.plans))
+    (let-run (schedules c.args.m) c.requires.windows)

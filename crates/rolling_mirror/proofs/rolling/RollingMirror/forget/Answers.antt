@@ -1,4 +1,4 @@
-use Rattle.std.proofs.Common.{◌≡◌, ◌+◌, ◌^◌, ◌<◌, refl, arith}
+use Rattle.std.proofs.Common.{◌+◌, ◌^◌, ◌<◌, refl, arith}
 use Rattle.sync_model.specs.State.{last_clock}
 use Rattle.rolling_mirror.proofs.Kept.{trailing-of, behind-of, last-behind, renamed-room, rolling-rolled}
 use Rattle.rolling_mirror.proofs.Told.{last-world, start-short}
