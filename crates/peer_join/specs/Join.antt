@@ -1,27 +1,35 @@
 -- A peer that joins by a snapshot of another one.
-use Rattle.std.specs.Prelude.{◌≡◌, ℕ, List, [], ◌++◌, map}
-use Rattle.game_trait.specs.declared.command.Item.{Item}
+use Rattle.std.specs.Prelude.{◌≡◌, ℕ, Bool, List, [], ◌++◌, length, replicate, slice_index_or}
+use Rattle.game_trait.specs.declared.command.Command.{Command}
+use Rattle.game_trait.specs.Count.{times}
 use Rattle.sync_model.specs.Lists.{last_of}
 use Rattle.sync_model.specs.State.{MirrorState}
 use Rattle.peer_model.specs.Queue.{Sent, have_of, trimmed}
 use Rattle.peer_model.specs.Peer.{Peer, clock_of, bound_of}
 use Rattle.peer_model.specs.Net.{Net}
 
--- its mirror stands at the clock of the other's last copy, and each of its runs is that copy's
-abbrev pub joined_mirror : {W : Type 0} → ℕ → MirrorState W → MirrorState W
-joined_mirror clock s = record s {
-  runs = map (λ run. last_of [] s.runs) s.runs;
-  clock = clock;
+-- the same commands, in whatever order
+abbrev pub AreSame : List Command → List Command → Type 0
+AreSame xs ys = (test : Command → Bool) → times test xs ≡ times test ys
+
+-- its mirror has plans of its own, the first in force, stands at the clock of the other's last copy, and each of its
+-- runs is that copy's; it accepted what the other had, in an order of its own
+abbrev pub joined_mirror : {W : Type 0} → List (List ℕ) → List Command → ℕ → MirrorState W → MirrorState W
+joined_mirror plans accepted clock s = record s {
+  plans = plans;
   plan = 0;
+  clock = clock;
+  accepted = accepted;
+  runs = replicate (length (slice_index_or plans 0 [])) (last_of [] s.runs);
 }
 
 -- it has what the other had, of which it remembers what is due from there on, and heard nothing yet
-abbrev pub joined_peer : {W : Type 0} → Peer W → Peer W
-joined_peer m = record {
+abbrev pub joined_peer : {W : Type 0} → List (List ℕ) → List Command → Peer W → Peer W
+joined_peer plans accepted m = record {
   queues = λ o. trimmed (bound_of m) (m.queues o);
   known = λ j o. 0;
   heard = λ j. 0;
-  whole = joined_mirror (bound_of m) m.whole;
+  whole = joined_mirror plans accepted (bound_of m) m.whole;
 }
 
 -- more was issued

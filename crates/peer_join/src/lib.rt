@@ -2,3 +2,6 @@
 #![tactic(auto)]
 
 pub mod laws;
+mod open;
+
+pub use open::open_mirror;

@@ -102,7 +102,7 @@ due_at-alike some other t left right same =
     (λ p. times-in_key_order p (filter (λ x. x.time == t) some) ∙ times-filter p (λ x. x.time == t) some ∙ same p
     ∙ sym (times-filter p (λ x. x.time == t) other) ∙ sym (times-in_key_order p (filter (λ x. x.time == t) other)))
 
-ticks-alike :
+pub ticks-alike :
     (some other : List Command) (t n : ℕ) → NamesDiffer some → NamesDiffer other
     → ((j : ℕ) → j < t + n → (p : Command → Bool) → times (λ x. p x && (x.time == j)) some ≡ times (λ x. p x && (x.time == j)) other)
     → ticks some t n ≡ ticks other t n

@@ -1,5 +1,5 @@
 -- Counts both ways.
-use Rattle.std.proofs.Common.{◌≡◌, ℕ, zero, suc, ◌+◌, ◌*◌, ◌^◌, ◌%◌, ◌/◌, ◌-◌, ◌<◌, ◌≤◌, Bool, true, false, cond, ltb, eqb, List, [], ◌∷◌, ◌++◌, length, take, drop, get_or, Result, Ok, Err, refl, sym, ap, subst, ◌∙◌, append_assoc, arith}
+use Rattle.std.proofs.Common.{◌≡◌, ℕ, zero, suc, ◌+◌, ◌*◌, ◌^◌, ◌%◌, ◌/◌, ◌-◌, ◌<◌, ◌≤◌, Bool, true, false, cond, eqb, List, [], ◌∷◌, ◌++◌, length, take, drop, get_or, Ok, refl, sym, ap, subst, ◌∙◌, append_assoc, arith}
 use Rattle.std.specs.Prelude.{nat_lt}
 use Rattle.std.specs.Int.{w32, w64, to_le_bytes}
 use Rattle.std.specs.List.{AllByRecursion}
@@ -8,11 +8,10 @@ use Rattle.std.proofs.lemmas.Nat.{div-add-mod', mod_below, div-mul-add, mod-mul-
 use Rattle.std.proofs.Math.Nat.{pow-suc, pow-le-pow_right}
 use Rattle.std.proofs.lemmas.List.{append-nil, take_more, drop_more, drop_all, take-append-drop, length-append, length-drop}
 use Rattle.tss_io.specs.Results.{◌>>=◌}
-use Rattle.tss_io.proofs.Results.{bind_ok, then, unless_ok, ok_is}
-use Rattle.peer_packet.specs.declared.fault.Fault.{Fault}
+use Rattle.tss_io.proofs.Results.{bind_ok, unless_ok, ok_is}
 use Rattle.peer_packet.specs.declared.fault.Fault.TheVariants as faults
 use Rattle.peer_packet.specs.Packet.{bit_of, mask_of, count_bytes, counts_bytes, vector_bytes}
-use Rattle.peer_packet.specs.Reading.{number_at, check, count_at, counts_at, vector_at}
+use Rattle.peer_packet.specs.Reading.{number_at, count_at, counts_at, vector_at}
 use Rattle.peer_packet.proofs.FieldLaws.{IsBytes, Takes, Takes-then, check_ok, wide32, wide64, number_takes, number_again}
 
 count_takes : (b : Bool) (bytes : List ℕ) (x : ℕ × List ℕ) → IsBytes bytes → count_at b bytes ≡ Ok x → Takes bytes (count_bytes x.0) x.1 × (x.0 < 2 ^ 32) × (nat_lt 0 x.0 ≡ b)

@@ -7,3 +7,4 @@ pub mod LoopLaws
 pub mod PutLaws
 pub mod WalkLaws
 pub mod SnapLaws
+pub mod QueueWalks

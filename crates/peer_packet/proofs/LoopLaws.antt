@@ -1,5 +1,5 @@
 -- Reading one after the other, as loops do.
-use Rattle.std.proofs.Common.{◌≡◌, ℕ, zero, suc, ◌-◌, ◌+◌, ◌≤◌, ◌<◌, ◌%◌, ◌/◌, Bool, true, false, cond, eqb, List, [], ◌∷◌, ◌++◌, length, Result, Ok, Err, refl, sym, ap, ◌∙◌, append_assoc, arith}
+use Rattle.std.proofs.Common.{◌≡◌, ℕ, zero, suc, ◌-◌, ◌+◌, ◌≤◌, ◌<◌, ◌%◌, ◌/◌, Bool, true, false, eqb, List, [], ◌∷◌, ◌++◌, length, Result, Ok, Err, refl, sym, ap, ◌∙◌, append_assoc, arith}
 use Rattle.std.specs.Prelude.{IfOk, IfErr}
 use Rattle.std.proofs.lemmas.Bool.{eqb-true, eqb-false}
 use Rattle.std.proofs.lemmas.List.{append-nil}
@@ -10,7 +10,7 @@ use Rattle.peer_packet.specs.declared.fault.Fault.{Fault}
 use Rattle.peer_packet.specs.declared.fault.Fault.TheVariants as faults
 use Rattle.peer_packet.specs.declared.part.PartHead.{PartHead}
 use Rattle.peer_packet.specs.Packet.{Sent, Part}
-use Rattle.peer_packet.specs.Reading.{check, sent_at, sents_at, part_at, parts_at, count_at, counts_at, behind, passed, ended}
+use Rattle.peer_packet.specs.Reading.{sent_at, sents_at, part_at, parts_at, count_at, counts_at, behind, passed, ended}
 
 -- ---- commands
 

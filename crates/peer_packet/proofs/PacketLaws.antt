@@ -1,9 +1,9 @@
 -- Packets both ways.
-use Rattle.std.proofs.Common.{◌≡◌, ℕ, zero, suc, ◌+◌, ◌^◌, ◌<◌, ◌≤◌, Bool, true, false, cond, ltb, eqb, List, [], ◌∷◌, ◌++◌, length, Option, Some, None, Result, Ok, Err, refl, sym, ap, subst, ◌∙◌, append_assoc, length-append, arith}
+use Rattle.std.proofs.Common.{◌≡◌, ℕ, ◌+◌, ◌^◌, ◌<◌, ◌≤◌, Bool, true, false, cond, eqb, List, [], ◌∷◌, ◌++◌, length, Option, Some, None, Result, Ok, Err, refl, sym, ap, subst, ◌∙◌, append_assoc, length-append, arith}
 use Rattle.std.specs.Prelude.{nat_le, IfSome, IfOk}
 use Rattle.std.specs.Int.{w32, w64, to_le_bytes}
-use Rattle.std.specs.List.{AllByRecursion, flat_map}
-use Rattle.std.proofs.lemmas.Bool.{eqb-true, eqb-false, eq-eqb, leb-true, le-leb}
+use Rattle.std.specs.List.{flat_map}
+use Rattle.std.proofs.lemmas.Bool.{eqb-true, eqb-false, eq-eqb, leb-true}
 use Rattle.tss_io.specs.Results.{◌>>=◌}
 use Rattle.tss_io.specs.Reading.{Answers}
 use Rattle.tss_io.proofs.Results.{bind_ok, then, ok_is}
@@ -12,7 +12,7 @@ use Rattle.peer_packet.specs.declared.fault.Fault.TheVariants as faults
 use Rattle.peer_packet.specs.declared.front.Front.{Front}
 use Rattle.peer_packet.specs.declared.terms.Terms.{Terms}
 use Rattle.peer_packet.specs.Packet.{Part, Packet, part_bytes, vector_bytes, flag_of, mark_bytes, front_text, front_of, bytes_of, are_ends, is_part, AreTerms, IsPacket}
-use Rattle.peer_packet.specs.Reading.{byte_at, number_at, check, front_at, vector_at, mark_at, parts_at, packet_at, plain_parts, parts_in, IsShown, ended}
+use Rattle.peer_packet.specs.Reading.{number_at, front_at, vector_at, mark_at, parts_at, packet_at, parts_in, IsShown, ended}
 use Rattle.peer_packet.proofs.FieldLaws.{IsBytes, Takes, Takes-then, check_ok, byte_takes, wide32, wide64, number_takes, number_again}
 use Rattle.peer_packet.proofs.PartLaws.{parts_take, parts_again, parts_few, parts_plain}
 use Rattle.peer_packet.proofs.CountLaws.{vector_takes, vector_again}

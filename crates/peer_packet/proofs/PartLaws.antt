@@ -1,17 +1,14 @@
 -- Parts both ways.
-use Rattle.std.proofs.Common.{◌≡◌, ℕ, zero, suc, ◌+◌, ◌^◌, ◌<◌, ◌≤◌, Bool, true, false, cond, ltb, ◌&&◌, List, [], ◌∷◌, ◌++◌, length, Result, Ok, Err, refl, sym, ap, subst, ◌∙◌, append_assoc, arith}
-use Rattle.std.specs.Prelude.{nat_le, nat_lt}
+use Rattle.std.proofs.Common.{◌≡◌, ℕ, zero, suc, ◌+◌, ◌^◌, ◌<◌, ◌≤◌, Bool, List, [], ◌∷◌, ◌++◌, length, Ok, refl, sym, ap, subst, ◌∙◌, append_assoc, arith}
 use Rattle.std.specs.Int.{w16, w32, to_le_bytes}
 use Rattle.std.specs.List.{flat_map}
 use Rattle.std.proofs.lemmas.Bool.{leb-true, ltb-true, and_parts}
 use Rattle.std.proofs.lemmas.List.Concat.{flat_map-cons}
-use Rattle.tss_io.specs.Results.{◌>>=◌}
 use Rattle.tss_io.proofs.Results.{bind_ok, then, ok_is}
-use Rattle.peer_packet.specs.declared.fault.Fault.{Fault}
 use Rattle.peer_packet.specs.declared.fault.Fault.TheVariants as faults
 use Rattle.peer_packet.specs.declared.part.PartHead.{PartHead}
-use Rattle.peer_packet.specs.Packet.{Sent, Part, sent_bytes, head_of, head_bytes, part_bytes, is_part, AreSent, IsPart, AreParts}
-use Rattle.peer_packet.specs.Reading.{byte_at, number_at, check, sents_at, head_at, part_at, parts_at, any_part, plain_parts, parts_in}
+use Rattle.peer_packet.specs.Packet.{Part, sent_bytes, head_of, head_bytes, part_bytes, is_part, IsPart, AreParts}
+use Rattle.peer_packet.specs.Reading.{head_at, part_at, parts_at, any_part, plain_parts}
 use Rattle.peer_packet.proofs.FieldLaws.{IsBytes, Takes, Takes-then, check_ok, byte_takes, wide16, wide32, number_takes, number_again}
 use Rattle.peer_packet.proofs.SentLaws.{sents_take, sents_again, AreSent-wider}
 

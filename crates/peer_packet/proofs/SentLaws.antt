@@ -1,16 +1,14 @@
 -- Commands both ways.
-use Rattle.std.proofs.Common.{◌≡◌, ℕ, zero, suc, ◌+◌, ◌^◌, ◌<◌, ◌≤◌, Bool, true, false, cond, ltb, ◌&&◌, List, [], ◌∷◌, ◌++◌, length, Result, Ok, Err, refl, sym, ap, subst, ◌∙◌, append_assoc, arith}
+use Rattle.std.proofs.Common.{◌≡◌, ℕ, zero, suc, ◌^◌, ◌≤◌, true, ◌&&◌, List, [], ◌∷◌, ◌++◌, length, Ok, refl, sym, ap, subst, ◌∙◌, append_assoc, arith}
 use Rattle.std.specs.Prelude.{nat_le}
 use Rattle.std.specs.Int.{w32, to_le_bytes}
 use Rattle.std.specs.List.{flat_map}
 use Rattle.std.proofs.lemmas.Bool.{leb-true, le-leb, and_parts, and_from}
 use Rattle.std.proofs.lemmas.List.Concat.{flat_map-cons}
-use Rattle.tss_io.specs.Results.{◌>>=◌}
 use Rattle.tss_io.proofs.Results.{bind_ok, ok_is}
-use Rattle.peer_packet.specs.declared.fault.Fault.{Fault}
 use Rattle.peer_packet.specs.declared.fault.Fault.TheVariants as faults
 use Rattle.peer_packet.specs.Packet.{Sent, sent_bytes, IsSent, AreSent}
-use Rattle.peer_packet.specs.Reading.{byte_at, number_at, piece_at, check, sent_at, sents_at}
+use Rattle.peer_packet.specs.Reading.{sent_at, sents_at}
 use Rattle.peer_packet.proofs.FieldLaws.{IsBytes, Takes, Takes-then, check_ok, byte_takes, wide32, number_takes, number_again, piece_takes, piece_again}
 
 sent_takes : (payload before : ℕ) (bytes : List ℕ) (x : Sent × List ℕ) → IsBytes bytes → sent_at payload before bytes ≡ Ok x → Takes bytes (sent_bytes x.0) x.1 × IsSent payload before x.0

@@ -1,8 +1,8 @@
 -- Snapshots both ways.
-use Rattle.std.proofs.Common.{◌≡◌, ℕ, zero, suc, ◌+◌, ◌^◌, ◌<◌, ◌≤◌, Bool, true, false, cond, ltb, eqb, ◌&&◌, List, [], ◌∷◌, ◌++◌, length, drop, get_or, Result, Ok, Err, refl, sym, ap, subst, ◌∙◌, append_assoc, arith}
+use Rattle.std.proofs.Common.{◌≡◌, ℕ, ◌+◌, ◌^◌, ◌<◌, ◌≤◌, Bool, true, false, cond, eqb, ◌&&◌, List, [], ◌∷◌, ◌++◌, length, drop, get_or, Result, Ok, Err, refl, sym, ap, subst, ◌∙◌, append_assoc}
 use Rattle.std.specs.Prelude.{nat_le, nat_lt, IfOk}
 use Rattle.std.specs.Int.{w16, w32, w64, to_le_bytes}
-use Rattle.std.specs.List.{AllByRecursion, flat_map}
+use Rattle.std.specs.List.{flat_map}
 use Rattle.std.proofs.lemmas.Bool.{eqb-true, eq-eqb, and_parts}
 use Rattle.std.proofs.lemmas.List.{append-nil, nil_from_length, drop_more, drop_all}
 use Rattle.std.proofs.lemmas.List.Concat.{flat_map-cons}
@@ -14,18 +14,18 @@ use Rattle.peer_packet.specs.declared.fault.Fault.TheVariants as faults
 use Rattle.peer_packet.specs.declared.snapshot.Opening.{Opening}
 use Rattle.peer_packet.specs.declared.snapshot.QueueHead.{QueueHead}
 use Rattle.peer_packet.specs.declared.terms.Terms.{Terms}
-use Rattle.peer_packet.specs.Packet.{Sent, sent_bytes, vector_bytes, AreTerms}
-use Rattle.peer_packet.specs.Reading.{byte_at, number_at, check, sents_at, vector_at, behind, in_front}
+use Rattle.peer_packet.specs.Packet.{sent_bytes, vector_bytes, AreTerms}
+use Rattle.peer_packet.specs.Reading.{vector_at, behind, in_front}
 use Rattle.peer_packet.specs.Snapshot.{Queue, Snapshot, issued, queue_head, queue_head_bytes, queue_bytes, opening_bytes, opening_of, snapshot_bytes, is_queue, IsQueue, AreQueues, IsSnapshot, queue_head_at, queue_at, queues_at, opening_at, snapshot_at}
 use Rattle.peer_packet.specs.Slots.{slot_behind}
 use Rattle.peer_packet.proofs.FieldLaws.{IsBytes, Takes, Takes-then, check_ok, byte_takes, wide16, wide32, wide64, number_takes, number_again}
 use Rattle.peer_packet.proofs.SentLaws.{sents_take, sents_again}
 use Rattle.peer_packet.proofs.CountLaws.{vector_takes, vector_again}
 
-record IsHead (h : QueueHead) : Type 0 where
-  late : h.late < 2 ^ 32
-  count : h.count < 2 ^ 16
-  before : h.before < 2 ^ 32
+pub record IsHead (h : QueueHead) : Type 0 where
+  pub late : h.late < 2 ^ 32
+  pub count : h.count < 2 ^ 16
+  pub before : h.before < 2 ^ 32
 
 head_takes : (bytes : List ℕ) (x : QueueHead × List ℕ) → IsBytes bytes → queue_head_at bytes ≡ Ok x → Takes bytes (queue_head_bytes x.0) x.1 × IsHead x.0
 unfolding queue_head_at
@@ -41,7 +41,7 @@ head_takes bytes x fits e =
     let made : QueueHead × List ℕ = (record { late = a.0.0; count = b.0.0; before = c.0.0 }, c.0.1) in
     subst (λ (y : QueueHead × List ℕ). Takes bytes (queue_head_bytes y.0) y.1 × IsHead y.0) (ok_is made x c.2) (e13, record { late = t1.1; count = t2.1; before = t3.1 })
 
-head_again : (h : QueueHead) (rest : List ℕ) → IsHead h → queue_head_at (queue_head_bytes h ++ rest) ≡ Ok (h, rest)
+pub head_again : (h : QueueHead) (rest : List ℕ) → IsHead h → queue_head_at (queue_head_bytes h ++ rest) ≡ Ok (h, rest)
 unfolding queue_head_at
 head_again h rest fits =
     let regrouped : queue_head_bytes h ++ rest ≡ to_le_bytes w32 h.late ++ (to_le_bytes w16 h.count ++ (to_le_bytes w32 h.before ++ rest)) =
@@ -77,7 +77,7 @@ queue_again payload base n q rest fits =
     let head = head_again (queue_head q) (flat_map sent_bytes q.commands ++ rest) (record { late = fits.late; count = fits.count; before = fits.before }) in
     ap (queue_at payload base n) regrouped ∙ rw (head, fits.head, sents_again payload base q.commands rest fits.commands) refl
 
-queues_take : (payload base : ℕ) (ns bytes : List ℕ) (x : List Queue × List ℕ) → IsBytes bytes → queues_at payload base ns bytes ≡ Ok x → Takes bytes (flat_map queue_bytes x.0) x.1 × AreQueues payload base ns x.0
+pub queues_take : (payload base : ℕ) (ns bytes : List ℕ) (x : List Queue × List ℕ) → IsBytes bytes → queues_at payload base ns bytes ≡ Ok x → Takes bytes (flat_map queue_bytes x.0) x.1 × AreQueues payload base ns x.0
 unfolding queues_at
 queues_take payload base [] bytes x fits e =
     subst (λ (y : List Queue × List ℕ). Takes bytes (flat_map queue_bytes y.0) y.1 × AreQueues payload base [] y.0) (ok_is ([], bytes) x e) (record { parts = refl; rest_fits = fits }, tt)
@@ -101,7 +101,7 @@ queues_again payload base (n ∷ ns) (q ∷ qs) rest fits =
 
 -- ---- the opening
 
-record IsOpening (terms : Terms) (o : Opening) : Type 0 where
+pub record IsOpening (terms : Terms) (o : Opening) : Type 0 where
   maker : nat_lt o.maker terms.slots ≡ true
   base : o.base < 2 ^ 32
   clock : o.clock < 2 ^ 32
@@ -110,7 +110,7 @@ record IsOpening (terms : Terms) (o : Opening) : Type 0 where
 abbrev text_by : ℕ → ℕ → ℕ → ℕ → Opening → List ℕ
 text_by kind session slots payload o = kind ∷ to_le_bytes w64 session ++ (slots ∷ payload ∷ o.maker ∷ to_le_bytes w32 o.base ++ to_le_bytes w32 o.clock)
 
-opening_takes : (terms : Terms) (bytes : List ℕ) (x : Opening × List ℕ) → IsBytes bytes → opening_at terms bytes ≡ Ok x → Takes bytes (opening_bytes terms x.0) x.1 × IsOpening terms x.0
+pub opening_takes : (terms : Terms) (bytes : List ℕ) (x : Opening × List ℕ) → IsBytes bytes → opening_at terms bytes ≡ Ok x → Takes bytes (opening_bytes terms x.0) x.1 × IsOpening terms x.0
 unfolding opening_at
 opening_takes terms bytes x fits e =
     let kind = bind_ok _ _ _ e in
@@ -250,7 +250,7 @@ queues_err : (r : Result (List Queue × List ℕ) Fault) (f : Fault) → behind 
 queues_err (Ok x) f e = absurd cc
 queues_err (Err g) f e = cc
 
-queues_ok : (r : Result (List Queue × List ℕ) Fault) (rest : List ℕ) → behind r ≡ Ok rest → r ≡ Ok (in_front r, rest)
+pub queues_ok : (r : Result (List Queue × List ℕ) Fault) (rest : List ℕ) → behind r ≡ Ok rest → r ≡ Ok (in_front r, rest)
 queues_ok (Ok x) rest e = ap (λ (y : List ℕ). Ok (x.0, y)) (ok_is x.1 rest e)
 queues_ok (Err g) rest e = absurd cc
 

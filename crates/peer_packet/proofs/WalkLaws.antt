@@ -1,11 +1,11 @@
 -- Walks over what bytes show.
-use Rattle.std.proofs.Common.{◌≡◌, ℕ, zero, suc, ◌+◌, ◌-◌, ◌≤◌, ◌<◌, Bool, true, false, List, [], ◌∷◌, ◌++◌, length, Result, Ok, Err, refl, sym, ap, subst, ◌∙◌, arith}
+use Rattle.std.proofs.Common.{◌≡◌, ℕ, zero, suc, ◌+◌, ◌-◌, List, [], ◌∷◌, length, Result, Ok, Err, refl, sym, ap, ◌∙◌, arith}
 use Rattle.tss_io.specs.Results.{◌>>=◌}
 use Rattle.tss_io.proofs.Results.{bind_ok, then, ok_is}
 use Rattle.peer_packet.specs.declared.fault.Fault.{Fault}
 use Rattle.peer_packet.specs.declared.part.PartHead.{PartHead}
 use Rattle.peer_packet.specs.Packet.{Sent, Part}
-use Rattle.peer_packet.specs.Reading.{check, sent_at, sents_at, head_at, part_at, parts_at, any_part, plain_parts, parts_in, plain_sents, sents_in, AreCommands, behind, in_front, or_none}
+use Rattle.peer_packet.specs.Reading.{sent_at, sents_at, head_at, part_at, parts_at, any_part, plain_parts, parts_in, plain_sents, sents_in, AreCommands, behind, in_front, or_none}
 
 -- ---- commands
 
@@ -35,7 +35,7 @@ commands_on (suc k) last bytes c after some are e =
     let now : sents_in (suc k) last bytes ≡ c ∷ b.0.0 = ap in_front total in
     rw one ((b.0.1, b.1 ∙ ap (λ (x : List Sent). Ok (x, b.0.1)) (sym seen)), now ∙ ap (λ (x : List Sent). c ∷ x) (sym seen))
 
-behind_ok : (r : Result (List Sent × List ℕ) Fault) (rest : List ℕ) → behind r ≡ Ok rest → (cs : List Sent) × (r ≡ Ok (cs, rest))
+pub behind_ok : (r : Result (List Sent × List ℕ) Fault) (rest : List ℕ) → behind r ≡ Ok rest → (cs : List Sent) × (r ≡ Ok (cs, rest))
 behind_ok (Ok x) rest e = (x.0, ap (λ (y : List ℕ). Ok (x.0, y)) (ok_is x.1 rest e))
 behind_ok (Err f) rest e = absurd cc
 
@@ -69,7 +69,7 @@ part_shown bytes commands rest h head e =
       whole ∙ ap (λ (cs : List Sent). Ok (record { origin = h.origin; first = h.first; before = h.before; commands = cs }, rest)) (sym seen),
     )
 
-behind_err : (r : Result (List Sent × List ℕ) Fault) (f : Fault) → behind r ≡ Err f → r ≡ Err f
+pub behind_err : (r : Result (List Sent × List ℕ) Fault) (f : Fault) → behind r ≡ Err f → r ≡ Err f
 behind_err (Ok x) f e = absurd cc
 behind_err (Err g) f e = cc
 

@@ -4,3 +4,4 @@ pub mod Seen
 pub mod Putting
 pub mod Snapshot
 pub mod Slots
+pub mod Fields

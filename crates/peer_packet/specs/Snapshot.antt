@@ -1,5 +1,5 @@
 -- What a snapshot is, its bytes, and its reading.
-use Rattle.std.specs.Prelude.{Bool, Err, List, Ok, Result, [], length, if◌then◌else◌, nat_le, nat_lt, suc, true, zero, ℕ, ◌&&◌, ◌+◌, ◌++◌, ◌<◌, ◌==◌, ◌^◌, ◌||◌, not, ◌∷◌, ◌≡◌}
+use Rattle.std.specs.Prelude.{Bool, Err, List, Ok, Result, [], length, if◌then◌else◌, nat_le, nat_lt, suc, true, zero, ℕ, ◌&&◌, ◌+◌, ◌++◌, ◌<◌, ◌==◌, ◌^◌, ◌∷◌, ◌≡◌, ◌≤◌}
 use Rattle.std.specs.Int.{to_le_bytes, w16, w32, w64}
 use Rattle.std.specs.List.{AllByRecursion, flat_map}
 use Rattle.tss_io.specs.Results.{◌>>=◌}
@@ -9,7 +9,7 @@ use Rattle.peer_packet.specs.declared.snapshot.Opening.{Opening}
 use Rattle.peer_packet.specs.declared.snapshot.QueueHead.{QueueHead}
 use Rattle.peer_packet.specs.declared.terms.Terms.{Terms}
 use Rattle.peer_packet.specs.Packet.{Sent, sent_bytes, vector_bytes, AreSent}
-use Rattle.peer_packet.specs.Reading.{byte_at, number_at, check, sents_at, vector_at}
+use Rattle.peer_packet.specs.Reading.{byte_at, number_at, check, sents_at, vector_at, or_none}
 
 -- what is handed over of a slot's queue: how many of its commands were late, the tick that the one
 -- before is due at, and its commands
@@ -106,6 +106,36 @@ queues_at payload base (n ∷ ns) bytes = do
   q ← queue_at payload base n bytes
   more ← queues_at payload base ns q.1
   Ok (q.0 ∷ more.0, more.1)
+
+-- a queue, read by nothing but its lengths
+unfoldable pub any_queue_at : ℕ → List ℕ → Result (Queue × List ℕ) Fault
+any_queue_at base bytes = do
+  head ← queue_head_at bytes
+  commands ← sents_at 255 head.0.count base head.1
+  Ok (record { late = head.0.late; before = head.0.before; commands = commands.0 }, commands.1)
+
+-- queues to the end, at most so many
+unfoldable pub any_queues_at : ℕ → ℕ → List ℕ → Result (List Queue) Fault
+any_queues_at base zero [] = Ok []
+any_queues_at base zero (b ∷ bytes) = Err faults.Rest
+any_queues_at base (suc most) [] = Ok []
+any_queues_at base (suc most) (b ∷ bytes) = do
+  q ← any_queue_at base (b ∷ bytes)
+  more ← any_queues_at base most q.1
+  Ok (q.0 ∷ more)
+
+-- queues whose bytes these are
+unfoldable pub plain_queues : ℕ → List ℕ → Result (List Queue) Fault
+plain_queues base bytes = any_queues_at base 64 bytes
+
+abbrev pub queues_in : ℕ → List ℕ → List Queue
+queues_in base bytes = or_none (plain_queues base bytes)
+
+-- what always holds of a snapshot over its bytes
+pub record AreShown (base : ℕ) (have queues : List ℕ) : Type 0 where
+  pub few : length have ≤ 64
+  pub plain : plain_queues base queues ≡ Ok (queues_in base queues)
+  pub bytes : queues ≡ flat_map queue_bytes (queues_in base queues)
 
 unfoldable pub opening_at : Terms → List ℕ → Result (Opening × List ℕ) Fault
 opening_at terms bytes = do

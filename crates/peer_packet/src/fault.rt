@@ -1,5 +1,8 @@
 //! Why bytes are refused.
 
+ghost use Rattle.std.specs.Prelude.{◌≡◌};
+ghost use Rattle.peer_packet.specs.Fields.{field_of};
+
 /// Why bytes are no packet of the session: the first fault from left to right, by the field where it
 /// was found.
 #[derive(Clone, Copy, Debug, PartialEq, Eq)]
@@ -24,4 +27,25 @@ pub enum Fault {
     Command,
     /// Bytes behind a snapshot's end.
     Rest,
+}
+
+impl Fault {
+    /// The number of the field where it was found, 1 to 9 in the order of the bytes, as the library for C
+    /// tells it; 0 where the bytes are of another session.
+    pub fn number(self) -> u8
+        ensures { result ≡ field_of self }
+    {
+        match self {
+            Fault::OtherSession => 0,
+            Fault::Kind => 1,
+            Fault::Session => 2,
+            Fault::Ends => 3,
+            Fault::Head => 4,
+            Fault::Vector => 5,
+            Fault::Mark => 6,
+            Fault::Part => 7,
+            Fault::Command => 8,
+            Fault::Rest => 9,
+        }
+    }
 }

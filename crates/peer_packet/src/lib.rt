@@ -11,15 +11,17 @@ mod snapshot;
 mod terms;
 mod vector;
 mod views;
+mod walk;
 
 pub use fault::Fault;
 pub use front::Front;
 pub use packet::PacketView;
 pub use part::{PartHead, SentView};
-pub use put::{put_front, put_head, put_mark, put_sent, put_vector};
-pub use snapshot::SnapshotView;
+pub use put::{put_front, put_head, put_mark, put_opening, put_queue_head, put_sent, put_vector};
+pub use snapshot::{Opening, QueueHead, SnapshotView};
 pub use terms::Terms;
 pub use views::{CommandsView, PartView, PartsView};
+pub use walk::{QueueView, QueuesView};
 
 #[cfg(test)]
 mod tests;

@@ -5,9 +5,12 @@ ghost use Rattle.std.specs.Int.{w16, w32, w64, to_le_bytes};
 ghost use Rattle.std.specs.List.{flat_map};
 ghost use Rattle.peer_packet.specs.Packet.{bit_of, mask_of, count_bytes, counts_bytes, vector_bytes, mark_bytes, head_bytes, sent_bytes, front_text};
 ghost use Rattle.peer_packet.specs.Putting.{Puts};
+ghost use Rattle.peer_packet.specs.Snapshot.{opening_bytes, queue_head_bytes};
 
 use crate::front::Front;
 use crate::part::PartHead;
+use crate::snapshot::{Opening, QueueHead};
+use crate::terms::Terms;
 
 /// Puts bytes at a place, and answers the place behind them.
 pub fn put(out: &mut [u8], at: usize, bytes: &[u8]) -> usize
@@ -20,7 +23,7 @@ pub fn put(out: &mut [u8], at: usize, bytes: &[u8]) -> usize
     at + bytes.len()
 }
 
-/// Puts what a packet begins with, up to its counts: 27 bytes less than 8 of its mask.
+/// Puts what a packet begins with, up to its counts: 20 bytes.
 pub fn put_front(out: &mut [u8], at: usize, session: u64, front: &Front) -> usize
     requires { at + 20 ≤ length out.old }
     ensures { Puts out.old out.new at result (front_text session front.now) }
@@ -30,6 +33,18 @@ pub fn put_front(out: &mut [u8], at: usize, session: u64, front: &Front) -> usiz
     let at = put(out, at, &[front.from, front.to, front.flag]);
     let at = put(out, at, &front.clock.to_le_bytes());
     put(out, at, &front.echo.to_le_bytes())
+}
+
+/// Puts what a snapshot begins with, up to its counts: 20 bytes.
+pub fn put_opening(out: &mut [u8], at: usize, terms: &Terms, opening: &Opening) -> usize
+    requires { at + 20 ≤ length out.old }
+    ensures { Puts out.old out.new at result (opening_bytes terms.now opening.now) }
+{
+    let at = put(out, at, &[2]);
+    let at = put(out, at, &terms.session.to_le_bytes());
+    let at = put(out, at, &[terms.slots, terms.payload, opening.maker]);
+    let at = put(out, at, &opening.base.to_le_bytes());
+    put(out, at, &opening.clock.to_le_bytes())
 }
 
 fn bit_of(count: u32) -> u64
@@ -105,6 +120,16 @@ pub fn put_head(out: &mut [u8], at: usize, head: &PartHead) -> usize
     let at = put(out, at, &[head.origin]);
     let at = put(out, at, &head.count.to_le_bytes());
     let at = put(out, at, &head.first.to_le_bytes());
+    put(out, at, &head.before.to_le_bytes())
+}
+
+/// Puts what a slot's queue begins with in a snapshot.
+pub fn put_queue_head(out: &mut [u8], at: usize, head: &QueueHead) -> usize
+    requires { at + 10 ≤ length out.old }
+    ensures { Puts out.old out.new at result (queue_head_bytes head.now) }
+{
+    let at = put(out, at, &head.late.to_le_bytes());
+    let at = put(out, at, &head.count.to_le_bytes());
     put(out, at, &head.before.to_le_bytes())
 }
 

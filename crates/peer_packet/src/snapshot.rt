@@ -1,6 +1,6 @@
 //! A snapshot, read in place.
 
-ghost use Rattle.std.specs.Prelude.{◌≡◌, Ok, Err, IfOk, IfErr};
+ghost use Rattle.std.specs.Prelude.{◌≡◌, ◌≤◌, Ok, Err, IfOk, IfErr, length, take};
 ghost use Rattle.tss_io.specs.Reading.{Answers};
 ghost use Rattle.peer_packet.specs.Packet.{AreTerms};
 ghost use Rattle.peer_packet.specs.Reading.{behind};
@@ -10,8 +10,10 @@ ghost use Rattle.peer_packet.specs.Slots.{slot_behind};
 use crate::fault::Fault;
 use crate::fields::{byte_of, check, u16_of, u32_of, u64_of};
 use crate::part::pass_sents;
+use crate::put::{put, put_opening, put_vector};
 use crate::terms::Terms;
 use crate::vector::{Counts, vector_of};
+use crate::walk::QueuesView;
 use std::marker::Model;
 
 /// What a snapshot begins with.
@@ -40,14 +42,12 @@ pub struct QueueHead {
 #[derive(Debug, Drop)]
 pub struct SnapshotView<'a> {
     opening: Opening,
-    payload: u8,
     have: Counts,
     queues: &'a [u8],
 }
 
 impl<'a> Model for SnapshotView<'a> {
-    ghost use Rattle.peer_packet.specs.Reading.{in_front};
-    ghost use Rattle.peer_packet.specs.Snapshot.{Snapshot, issued, queues_at};
+    ghost use Rattle.peer_packet.specs.Snapshot.{Snapshot, AreShown, queues_in};
 
     ghost Value = { Snapshot };
 
@@ -56,12 +56,14 @@ impl<'a> Model for SnapshotView<'a> {
       base = s.opening.base;
       clock = s.opening.clock;
       have = s.have.items;
-      queues = in_front (queues_at s.payload s.opening.base (issued s.have.items) s.queues.now);
+      queues = queues_in s.opening.base s.queues.now;
     } };
+
+    ghost invariant = { λ s. AreShown s.opening.base s.have.items s.queues.now };
 }
 
 #[tactic(auto, unfolding(crate::specs::Snapshot::queue_head_at))]
-fn queue_head_of(bytes: &[u8]) -> Result<(QueueHead, &[u8]), Fault>
+pub fn queue_head_of(bytes: &[u8]) -> Result<(QueueHead, &[u8]), Fault>
     ensures { Answers (λ x. (x.0, x.1.now)) result (queue_head_at bytes.now) }
 {
     let (late, rest) = u32_of(Fault::Part, bytes)?;
@@ -156,7 +158,6 @@ fn snapshot_of<'a>(terms: &Terms, bytes: &'a [u8]) -> Result<SnapshotView<'a>, F
     check(rest.is_empty(), Fault::Rest)?;
     Ok(SnapshotView {
         opening,
-        payload: terms.payload,
         have,
         queues,
     })
@@ -175,5 +176,51 @@ impl<'a> SnapshotView<'a> {
         ensures refused { IfErr result (λ fault. snapshot_at terms.now bytes.now ≡ Err fault) }
     {
         snapshot_of(terms, bytes)
+    }
+
+    /// The slot of who made it.
+    pub fn maker(&self) -> u8
+        ensures { result ≡ self.now.maker }
+    {
+        self.opening.maker
+    }
+
+    /// Its maker's last copy's clock, at which a joiner begins.
+    pub fn base(&self) -> u32
+        ensures { result ≡ self.now.base }
+    {
+        self.opening.base
+    }
+
+    /// Its maker's clock, from which a joiner's commands are taken.
+    pub fn clock(&self) -> u32
+        ensures { result ≡ self.now.clock }
+    {
+        self.opening.clock
+    }
+
+    /// How many commands of each slot its maker had.
+    pub fn have(&self) -> &[u32]
+        ensures { result.now ≡ self.now.have }
+    {
+        self.have.as_slice()
+    }
+
+    /// The queues of the slots that have issued, in their order.
+    pub fn queues(&self) -> QueuesView<'a>
+        ensures { result ≡ self.now.queues }
+    {
+        QueuesView::of(self.opening.base, self.queues)
+    }
+
+    /// Puts its bytes at the front of a buffer, and answers how many they are.
+    pub fn put(&self, terms: &Terms, out: &mut [u8]) -> usize
+        requires { length (snapshot_bytes terms.now self.now) ≤ length out.old }
+        ensures bytes { take result out.new ≡ snapshot_bytes terms.now self.now }
+        ensures length { result ≡ length (snapshot_bytes terms.now self.now) }
+    {
+        let at = put_opening(out, 0, terms, &self.opening);
+        let at = put_vector(out, at, self.have.as_slice());
+        put(out, at, self.queues)
     }
 }

@@ -3,7 +3,7 @@
 ghost use Rattle.std.specs.Prelude.{◌≡◌, Ok};
 ghost use Rattle.tss_io.specs.Reading.{Answers};
 ghost use Rattle.peer_packet.specs.Packet.{Part, Sent, head_of};
-ghost use Rattle.peer_packet.specs.Reading.{IsNext, any_part, part_at, plain_parts, parts_in};
+ghost use Rattle.peer_packet.specs.Reading.{AreCommands, IsNext, any_part, part_at, plain_parts, parts_in, sents_in};
 ghost use Rattle.peer_packet.specs.Seen.{IsNextSent};
 
 use crate::fault::Fault;
@@ -46,11 +46,7 @@ impl<'a> PartView<'a> {
     pub fn commands(&self) -> CommandsView<'a>
         ensures { result ≡ self.now.commands }
     {
-        CommandsView {
-            left: self.head.count,
-            last: self.head.before,
-            rest: self.commands,
-        }
+        CommandsView::of(self.head.count, self.head.before, self.commands)
     }
 }
 
@@ -75,6 +71,14 @@ impl<'a> Model for CommandsView<'a> {
 }
 
 impl<'a> CommandsView<'a> {
+    // So many commands in front of these bytes, none due before `last`.
+    pub fn of(left: u16, last: u32, rest: &'a [u8]) -> CommandsView<'a>
+        requires { AreCommands left last rest.now }
+        ensures { result ≡ sents_in left last rest.now }
+    {
+        CommandsView { left, last, rest }
+    }
+
     /// The next command, where there is one.
     pub fn next(&mut self) -> Option<SentView<'a>>
         ensures { IsNextSent result self.old self.new }

@@ -1,7 +1,7 @@
 use Rattle.std.proofs.Common.{arith}
 use Rattle.std.proofs.lemmas.Result.{err_from_is_err_and}
 use Rattle.peer_packet.proofs.CountLaws.{vector_long}
-use Rattle.peer_packet.proofs.PacketLaws.{IsMet, packet_stops, packet_passes}
+use Rattle.peer_packet.proofs.PacketLaws.{packet_stops, packet_passes}
 use Rattle.peer_packet.proofs.packet.packet_of.Goals as goal
 
 pub pass_parts-requires : goal.pass_parts-requires

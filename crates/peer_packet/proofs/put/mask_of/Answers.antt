@@ -1,5 +1,4 @@
 use Rattle.std.proofs.Common.{arith, ◌∙◌, sym, ap, subst, ◌≤◌, ◌+◌, ◌*◌, ℕ}
-use Rattle.std.specs.Prelude.{◌≡◌, ◌^◌, ◌<◌}
 use Rattle.peer_packet.proofs.CountLaws.{mask_none, mask_fits, mask_after, bit_most}
 use Rattle.peer_packet.proofs.put.mask_of.Goals as goal
 

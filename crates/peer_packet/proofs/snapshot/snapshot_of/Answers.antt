@@ -1,6 +1,7 @@
-use Rattle.std.proofs.Common.{rules, sym, ◌∙◌}
+use Rattle.std.proofs.Common.{arith, rules, sym, ◌∙◌}
 use Rattle.std.proofs.lemmas.Result.{err_from_is_err_and}
-use Rattle.peer_packet.proofs.SnapLaws.{snap_stops, snap_over, snap_whole}
+use Rattle.peer_packet.proofs.SnapLaws.{snap_stops, snap_over}
+use Rattle.peer_packet.proofs.QueueWalks.{snap_passes}
 use Rattle.peer_packet.proofs.snapshot.snapshot_of.Goals as goal
 
 pub returns-in_err-rest : goal.returns-in_err-rest
@@ -13,5 +14,12 @@ returns-in_err-check c =
     let p = err_from_is_err_and c.from_residual-in_err-check.result c.from_residual-in_err-check.ensures.1 in
     rw (p.1, p.2, c.in_err-check.ensures.err.0) (snap_over c.args.terms.now c.args.bytes.now c.in_ok-opening.opening c.in_ok-have.have.items c.in_ok-opening.rest.now c.in_ok-have.queues.now c.in_ok-rest.rest.now c.in_ok-opening.ensures c.in_ok-have.ensures (search rules) (sym c.is_empty.ensures ∙ c.in_err-check.ensures.err.1))
 
+pub invariant_of-result : goal.invariant_of-result
+invariant_of-result c =
+    (snap_passes c.args.terms.now c.args.bytes.now c.in_ok-opening.opening c.in_ok-have.have.items c.in_ok-opening.rest.now c.in_ok-have.queues.now c.in_ok-rest.rest.now c.requires (λ i. omega (arith, c.type_inv.bytes i))
+    c.in_ok-opening.ensures c.in_ok-have.ensures (search rules) (sym c.is_empty.ensures ∙ c.in_ok-check.ensures.ok)).0
+
 pub returns : goal.returns
-returns c = snap_whole c.args.terms.now c.args.bytes.now c.in_ok-opening.opening c.in_ok-have.have.items c.in_ok-opening.rest.now c.in_ok-have.queues.now c.in_ok-rest.rest.now c.in_ok-opening.ensures c.in_ok-have.ensures (search rules) (sym c.is_empty.ensures ∙ c.in_ok-check.ensures.ok)
+returns c =
+    (snap_passes c.args.terms.now c.args.bytes.now c.in_ok-opening.opening c.in_ok-have.have.items c.in_ok-opening.rest.now c.in_ok-have.queues.now c.in_ok-rest.rest.now c.requires (λ i. omega (arith, c.type_inv.bytes i))
+    c.in_ok-opening.ensures c.in_ok-have.ensures (search rules) (sym c.is_empty.ensures ∙ c.in_ok-check.ensures.ok)).1

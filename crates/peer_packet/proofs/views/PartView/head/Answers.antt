@@ -1,6 +1,5 @@
-use Rattle.std.proofs.Common.{◌≡◌, ℕ, sym, ap, ◌∙◌, length}
-use Rattle.peer_packet.specs.declared.part.PartHead.{PartHead}
-use Rattle.peer_packet.specs.Packet.{Part, head_of}
+use Rattle.std.proofs.Common.{ℕ, sym, ap, ◌∙◌}
+use Rattle.peer_packet.specs.Packet.{head_of}
 use Rattle.peer_packet.proofs.WalkLaws.{commands_long}
 use Rattle.peer_packet.proofs.views.PartView.head.Goals as goal
 
