@@ -1,5 +1,5 @@
 //! The program `tss_mirror`: one mirror of a match or of a session without an end, which is spoken to
-//! line by line over the standard streams. What it does is `live`.
+//! line by line over the standard streams. What it does is `end_of_run`.
 #![tactic(auto)]
 
 mod done;
@@ -12,15 +12,13 @@ mod talking;
 mod tests;
 mod words;
 
-use crate::done::{Done, Status};
-use crate::live::live;
+use crate::live::end_of_run;
 use crate::streams::StreamPeer;
 use arena_rules::Arena;
 use std::alloc::Global;
 use std::process::ExitCode;
 use std::rt::Env;
 use std::{env, io};
-use tss_base::NoMemory;
 use tss_io::StdSink;
 use tss_words::words_behind;
 
@@ -33,9 +31,6 @@ fn main(rt: HostRuntime) -> ExitCode {
     let alloc = rt.alloc();
     let arguments = arguments(&rt);
     let mut peer = StreamPeer::new(rt.stdin(), rt.stdout());
-    let done = match words_behind(&arguments) {
-        Ok(words) => live::<Arena, _>(alloc, words, &mut peer),
-        Err(NoMemory) => Done::of(Status::NoMemory),
-    };
-    done.finish(&mut StdSink::new(rt.stderr()))
+    let mut errors = StdSink::new(rt.stderr());
+    end_of_run::<Arena, _, _>(alloc, words_behind(&arguments), &mut peer, &mut errors)
 }
