@@ -26,7 +26,7 @@ from match_lines import end_with
 TOP = os.path.join(os.path.dirname(os.path.abspath(__file__)), "..")
 PAGE = os.path.join(TOP, "docs", "READING.md")
 LIVE_CALLS = [("live.rt", "live", "tss_mirror")]
-CALLS = [("watched.rt", "run_watched"), ("race.rt", "run"), ("plain.rt", "run_plain")]
+CALLS = [("watched.rt", "run_watched"), ("race.rt", "run_race"), ("plain.rt", "run_plain")]
 WORD = re.compile(r"[^\s(){}\[\],;]+")
 IMPORT = re.compile(r"^\s*(?:ghost )?(?:pub )?use Rattle\.(\w+)\.specs\.([\w.]+?)(?:\.\{([^}]*)\}| as ([\w-]+));?$", re.M)
 BEGIN = re.compile(r"^(?: *(?:abbrev|unfoldable) (?:pub )?| *pub (?:record|data) |(?:record|data) )(\S+)")
@@ -42,8 +42,8 @@ def crates():
     """The crates of the repository, each behind those that it stands on."""
     below = {}
     for line in read(os.path.join(TOP, "crates.txt")).splitlines():
-        name, _, rest = line.partition(":")
-        if name and not name.startswith("#"):
+        name, _, rest = line.split("#")[0].partition(":")
+        if name.strip():
             below[name.split()[0]] = rest.split()
     order = []
 
