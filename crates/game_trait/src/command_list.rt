@@ -119,18 +119,4 @@ impl CommandList {
     {
         self.commands.len()
     }
-
-    /// The commands alone, in the order in which they were appended. It takes no memory.
-    pub fn into_vec(self) -> Vec<Command>
-        ensures commands { result.items ≡ self.items }
-        ensures names { NamesDiffer result.items }
-    {
-        let CommandList {
-            commands,
-            names,
-            ..
-        } = self;
-        drop(names);
-        commands
-    }
 }

@@ -37,14 +37,6 @@ impl<T> Seq<T> {
         Seq { items: vec }
     }
 
-    /// The items as a `Vec`. It takes no memory.
-    pub fn into_vec(self) -> Vec<T>
-        ensures { result.items ≡ self }
-    {
-        let Seq { items } = self;
-        items
-    }
-
     /// The items in order.
     pub fn as_slice(&self) -> &[T]
         ensures { result.now ≡ self.now }
