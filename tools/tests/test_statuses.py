@@ -57,6 +57,8 @@ class Statuses(unittest.TestCase):
         status, record, said = ended(["race"], sample("late.match"))
         self.assertEqual((status, record[:13], said), (0, "tss record 1\n", ""))
         self.assertEqual(ended(["audit"], record)[0], 0)
+        status, written, said = ended(["rewind", "2", "2", "4", "2", "3", "1", "0"], sample("late.match"))
+        self.assertEqual((status, [line.split(" ")[1] for line in written.split("\n") if line.startswith("at ")], said), (0, ["4", "2", "3", "1", "0"], ""), "no word is lost")
 
     def test_1_memory_runs_out(self):
         needed = next(limit for limit in range(1, 4096) if ended(["soak", "0"], limit=limit << 20)[0] == 0)
