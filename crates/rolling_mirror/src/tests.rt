@@ -7,6 +7,7 @@ use crate::{Arrival, RollingMirror};
 use game_trait::{Act, Command, Game, MirrorId, Number, Tick};
 use stagger_clock::Stagger;
 use std::alloc::Global;
+use std::fmt::Debug;
 use std::process::Abort;
 
 // A game whose world is a sum in which the order of what is executed counts.
@@ -47,11 +48,21 @@ const KEEP: Tick = 64;
 
 // How many ticks a long session lasts. In each round no command comes at the last ticks, so that all
 // copies have executed the same then.
-const SESSION: Tick = 1_000_000;
+const SESSION: Tick = 100_000;
 
 const ROUND: Tick = 1_000;
 
 const PAUSE: Tick = 50;
+
+// Asserts that two values, of a place, are the same. A call of it is proved much faster than the macro.
+fn assert_same<T: Copy + PartialEq + Debug, P: Copy + Debug>(
+    rt: &impl Abort,
+    found: T,
+    due: T,
+    place: P,
+) {
+    assert_eq!(rt; found, due, "{place:?}");
+}
 
 // A mirror with room for so many commands, that keeps so many ticks.
 #[tactic(auto, unfolding(sync_model::specs::Lists::last_of))]
@@ -117,26 +128,26 @@ impl Plain {
 
 // The last copy's clock.
 fn last_clock(rt: &impl Abort, mirror: &RollingMirror<Sum>) -> Tick {
-    assert_eq!(rt; mirror.copies(), 3);
+    assert!(rt; mirror.copies() == 3);
     mirror.copy_clock(2)
 }
 
 // Asserts that the last copy has the world in time order.
 fn assert_last(rt: &impl Abort, mirror: &RollingMirror<Sum>, plain: &mut Plain) {
     plain.execute_until(last_clock(rt, mirror));
-    assert_eq!(rt; mirror.copies(), 3);
-    assert_eq!(rt; mirror.world(2), plain.world, "tick {}", plain.at);
+    assert!(rt; mirror.copies() == 3);
+    assert_same(rt, mirror.world(2), plain.world, ("tick", plain.at));
 }
 
 // Asserts that copy 0 has the world in time order, where no command waits.
 fn assert_first(rt: &impl Abort, mirror: &RollingMirror<Sum>, plain: &Plain) {
     assert!(rt; plain.waiting.is_empty());
-    assert_eq!(rt; mirror.copies(), 3);
+    assert!(rt; mirror.copies() == 3);
     let mut world = plain.world;
     for _ in plain.at..mirror.copy_clock(0) {
         world.beat();
     }
-    assert_eq!(rt; mirror.world(0), world, "tick {}", plain.at);
+    assert_same(rt, mirror.world(0), world, ("tick", plain.at));
 }
 
 // A command of a new name arrives: it is late where it is older than the last copy's clock.
@@ -144,12 +155,12 @@ fn bring(rt: &impl Abort, mirror: &mut RollingMirror<Sum>, plain: &mut Plain, x:
     let bound = last_clock(rt, mirror);
     match mirror.arrive(x) {
         Arrival::Taken { .. } => {
-            assert!(rt; x.time >= bound, "tick {}", x.time);
+            assert_same(rt, x.time < bound, false, ("late", x.time));
             plain.waiting.push(*x).expect(rt, "memory");
         }
         other => {
-            assert!(rt; x.time < bound, "tick {}", x.time);
-            assert_eq!(rt; other, Arrival::Late { bound });
+            assert_same(rt, x.time < bound, true, ("late", x.time));
+            assert_same(rt, other, Arrival::Late { bound }, ("tick", x.time));
         }
     }
 }
@@ -162,7 +173,7 @@ fn drawn(nth: u32) -> u32 {
 // A tick of a session: its turn, and then a command that is due up to 8 ticks ahead or 25 behind.
 fn play_tick(rt: &impl Abort, mirror: &mut RollingMirror<Sum>, plain: &mut Plain, tick: Tick) {
     let _replies = mirror.turn();
-    assert_eq!(rt; mirror.clock(), tick.saturating_add(1));
+    assert_same(rt, mirror.clock(), tick.saturating_add(1), "the clock");
     if tick % ROUND < ROUND - PAUSE {
         let time = tick.saturating_add(drawn(tick)).saturating_sub(25);
         bring(rt, mirror, plain, &go(time, (tick % 4) as u8, tick));
@@ -173,10 +184,10 @@ fn play_tick(rt: &impl Abort, mirror: &mut RollingMirror<Sum>, plain: &mut Plain
     }
 }
 
-// Through thousands of times that the mirror forgets, its last copy has the world in time order, and
-// its first one too where nothing more comes.
+// Through more than a thousand times that the mirror forgets, its last copy has the world in time
+// order, and its first one too where nothing more comes.
 #[test]
-fn a_million_ticks(rt: HostRuntime) {
+fn a_hundred_thousand_ticks(rt: HostRuntime) {
     let mut mirror = opened(&rt, rt.alloc());
     let mut plain = Plain::new(rt.alloc());
     for tick in 0..SESSION {
@@ -232,7 +243,12 @@ fn assert_edges(rt: &impl Abort, mirror: &mut RollingMirror<Sum>, plain: &mut Pl
     let base = mirror.base();
     let end = base.saturating_add(WINDOW);
     let before = go(base.saturating_sub(1), 0, base);
-    assert_eq!(rt; mirror.arrive(&before), Arrival::Late { bound: base });
+    assert_same(
+        rt,
+        mirror.arrive(&before),
+        Arrival::Late { bound: base },
+        "before the base",
+    );
     for (from, time) in [
         (1, base),
         (2, base.saturating_add(1)),
@@ -240,9 +256,14 @@ fn assert_edges(rt: &impl Abort, mirror: &mut RollingMirror<Sum>, plain: &mut Pl
     ] {
         let x = go(time, from, base);
         bring(rt, mirror, plain, &x);
-        assert_eq!(rt; mirror.arrive(&x), Arrival::Repeat);
+        assert_same(rt, mirror.arrive(&x), Arrival::Repeat, x);
     }
-    assert_eq!(rt; mirror.arrive(&go(end, 4, base)), Arrival::Far { end });
+    assert_same(
+        rt,
+        mirror.arrive(&go(end, 4, base)),
+        Arrival::Far { end },
+        "the end",
+    );
 }
 
 // Each copy makes a step.
@@ -272,8 +293,11 @@ fn commands_at_the_edges_of_the_window(rt: HostRuntime) {
     }
     assert!(rt; passed > 0);
     let bound = last_clock(&rt, &mirror);
-    assert_eq!(rt;
-        mirror.arrive(&go(passed, 1, passed)),
-        Arrival::Late { bound }
+    let late = mirror.arrive(&go(passed, 1, passed));
+    assert_same(
+        &rt,
+        late,
+        Arrival::Late { bound },
+        "a name that was forgotten",
     );
 }

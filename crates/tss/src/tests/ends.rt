@@ -1,5 +1,6 @@
 //! What follows a run: the line that says what failed, and the exit code.
 
+use crate::tests::stage::asserts::assert_same;
 use crate::tests::stage::lines::assert_lines;
 use std::alloc::Global;
 use std::process::{Abort, ExitCode};
@@ -65,12 +66,13 @@ fn assert_said(
 ) {
     let (status, number, _) = *end;
     let done = Done::of(status, Seq::new(alloc));
-    assert_eq!(rt; done.status, number, "the status");
+    assert_same(rt, done.status, number, "the status");
     let (said, code) = said_over(rt, alloc, done, errors);
-    assert_eq!(rt;
+    assert_same(
+        rt,
         code,
         ExitCode::from(number),
-        "the exit code at status {number}"
+        ("the exit code at status", number),
     );
     assert_lines(rt, "what is said", said.as_str(), line);
 }
@@ -100,8 +102,8 @@ fn a_line_that_cannot_be_said_leaves_the_exit_code(rt: HostRuntime) {
 #[test]
 fn words_without_memory_are_no_run(rt: HostRuntime) {
     let done = Done::unbegun(rt.alloc());
-    assert_eq!(rt; done.kept.len(), 0, "what is kept");
+    assert_same(&rt, done.kept.len(), 0, "what is kept");
     let (said, code) = finished(&rt, rt.alloc(), done);
     assert_lines(&rt, "what is said", said.as_str(), "tss: out of memory\n");
-    assert_eq!(rt; code, ExitCode::from(1), "the exit code");
+    assert_same(&rt, code, ExitCode::from(1), "the exit code");
 }

@@ -2,6 +2,7 @@
 //! one more is refused, by `order`.
 
 use crate::tests::program::{WHOLE, run_on};
+use crate::tests::stage::asserts::assert_same;
 use crate::tests::stage::lines::{assert_lines, joined};
 use crate::tests::tables::texts::OPENING;
 use std::alloc::Global;
@@ -113,7 +114,7 @@ const NAME: Limit = Limit {
     ..COMMAND
 };
 
-const LIMITS: [Limit; 23] = [
+const LIMITS: [Limit; 22] = [
     PLANS,
     PICKUPS,
     PLAYERS,
@@ -132,7 +133,6 @@ const LIMITS: [Limit; 23] = [
         refused: "refused line 32776 cause 7 many\n",
         ..COMMANDS
     },
-    SCRIPT_LINES,
     Limit {
         name: "lines that show",
         front: WITH_SCRIPT,
@@ -259,7 +259,7 @@ const LIMITS: [Limit; 23] = [
 ];
 
 // As many lines as there may be, and one more whose number isn't canonical: it is one too many.
-const TOO_MANY: [Limit; 4] = [
+const TOO_MANY: [Limit; 3] = [
     Limit {
         more: 0,
         back: "pickup 00 1 gold\nend\n",
@@ -275,12 +275,23 @@ const TOO_MANY: [Limit; 4] = [
         back: "cmd 00 0 0 0 go\nend\n",
         ..COMMANDS
     },
-    Limit {
-        more: 0,
-        back: "tick 00\nend\n",
-        ..SCRIPT_LINES
-    },
 ];
+
+const TOO_MANY_SCRIPT_LINES: Limit = Limit {
+    more: 0,
+    back: "tick 00\nend\n",
+    ..SCRIPT_LINES
+};
+
+// A piece so many times.
+fn repeated(rt: &impl Abort, alloc: Global, piece: &str, times: usize) -> String {
+    let block = piece.repeat(alloc, 1024).expect(rt, "memory");
+    let blocks = block.as_str().repeat(alloc, times / 1024);
+    let mut text = blocks.expect(rt, "memory");
+    let rest = piece.repeat(alloc, times % 1024).expect(rt, "memory");
+    text.push_str(rest.as_str()).expect(rt, "memory");
+    text
+}
 
 // Appends a line with this number between its parts.
 fn push_line(rt: &impl Abort, alloc: Global, out: &mut String, line: &[&str], number: u32) {
@@ -290,6 +301,18 @@ fn push_line(rt: &impl Abort, alloc: Global, out: &mut String, line: &[&str], nu
             out.push_str(number.as_str()).expect(rt, "memory");
         }
         out.push_str(part).expect(rt, "memory");
+    }
+}
+
+// Appends lines numbered from 0 on.
+fn push_lines(rt: &impl Abort, alloc: Global, out: &mut String, line: &[&str], lines: u32) {
+    if let [whole] = line {
+        let text = repeated(rt, alloc, whole, lines as usize);
+        out.push_str(text.as_str()).expect(rt, "memory");
+        return;
+    }
+    for number in 0..lines {
+        push_line(rt, alloc, out, line, number);
     }
 }
 
@@ -306,9 +329,7 @@ fn text_of(
     text.push_str(version).expect(rt, "memory");
     text.push_str("\n").expect(rt, "memory");
     text.push_str(limit.front).expect(rt, "memory");
-    for number in 0..lines {
-        push_line(rt, alloc, &mut text, line, number);
-    }
+    push_lines(rt, alloc, &mut text, line, lines);
     text.push_str(limit.back).expect(rt, "memory");
     text
 }
@@ -318,7 +339,7 @@ fn assert_read<R: Threads + Wait + Sync + Abort>(rt: &R, alloc: Global, limit: &
     let text = text_of(rt, alloc, limit, limit.version, limit.line, limit.most);
     let lifted = text_of(rt, alloc, limit, "2", limit.line, limit.most);
     let found = run_on(rt, alloc, &["lift"], text.as_str(), WHOLE);
-    assert_eq!(rt; found.status, 0, "the status at {}", limit.name);
+    assert_same(rt, found.status, 0, ("the status at", limit.name));
     assert_lines(rt, limit.name, found.written.as_str(), lifted.as_str());
 }
 
@@ -327,11 +348,11 @@ fn assert_refused<R: Threads + Wait + Sync + Abort>(rt: &R, alloc: Global, limit
     let lines = limit.most.saturating_add(limit.more);
     let text = text_of(rt, alloc, limit, limit.version, limit.past, lines);
     let found = run_on(rt, alloc, &["order"], text.as_str(), WHOLE);
-    assert_eq!(rt;
+    assert_same(
+        rt,
         (found.status, found.written.as_str()),
         (5, limit.refused),
-        "past {}",
-        limit.name
+        ("past", limit.name),
     );
 }
 
@@ -346,21 +367,32 @@ fn so_much_and_no_more(rt: HostRuntime) {
     }
 }
 
+#[test]
+fn no_more_lines_of_a_script(rt: HostRuntime) {
+    assert_read(&rt, rt.alloc(), &SCRIPT_LINES);
+    assert_refused(&rt, rt.alloc(), &SCRIPT_LINES);
+    assert_refused(&rt, rt.alloc(), &TOO_MANY_SCRIPT_LINES);
+}
+
 // 64 letters, of which long texts are made.
 const LETTERS: &str = "xxxxxxxxxxxxxxxxxxxxxxxxxxxxxxxxxxxxxxxxxxxxxxxxxxxxxxxxxxxxxxxx";
 
 // A word, a front, how long it is made by letters without an end of a line, and how it is refused. A
-// line may have 120 bytes, a match text 8,388,608, and a record 33,554,432.
-const LONG: [(&str, &str, usize, &str); 6] = [
+// line may have 120 bytes, a match text 8,388,608, a record 33,554,432 and a lossy text 16,777,216.
+type Long = (&'static str, &'static str, usize, &'static str);
+
+const LONG: [Long; 4] = [
     ("order", "", 120, "refused line 1 cause 8 end\n"),
     ("order", "", 121, "refused line 1 cause 9 long\n"),
     ("order", OPENING, 8_388_608, "refused line 9 cause 8 end\n"),
     ("order", OPENING, 8_388_609, "refused line 0 cause 9 long\n"),
-    ("audit", "", 33_554_432, "refused line 1 cause 9 long\n"),
-    ("audit", "", 33_554_433, "refused line 0 cause 9 long\n"),
 ];
 
-const LONG_LOSSY: [(&str, &str, usize, &str); 2] = [
+const LONGEST_RECORD: Long = ("audit", "", 33_554_432, "refused line 1 cause 9 long\n");
+
+const LONGER_RECORD: Long = ("audit", "", 33_554_433, "refused line 0 cause 9 long\n");
+
+const LONG_LOSSY: [Long; 2] = [
     ("lossy", "", 16_777_216, "refused line 1 cause 9 long\n"),
     ("lossy", "", 16_777_217, "refused line 0 cause 9 long\n"),
 ];
@@ -369,42 +401,43 @@ const LONG_LOSSY: [(&str, &str, usize, &str); 2] = [
 fn lengthened(rt: &impl Abort, alloc: Global, front: &str, length: usize) -> String {
     let mut text = joined(rt, alloc, &[front]);
     let letters = length.saturating_sub(front.len());
-    for _ in 0..letters / 64 {
-        text.push_str(LETTERS).expect(rt, "memory");
-    }
+    let many = repeated(rt, alloc, LETTERS, letters / 64);
+    text.push_str(many.as_str()).expect(rt, "memory");
     assert!(rt; LETTERS.is_char_boundary(letters % 64));
     let (rest, _) = LETTERS.split_at(letters % 64);
     text.push_str(rest).expect(rt, "memory");
     text
 }
 
-fn assert_long<R: Threads + Wait + Sync + Abort>(
-    rt: &R,
-    alloc: Global,
-    word: &str,
-    front: &str,
-    length: usize,
-    refused: &str,
-) {
+// Asserts that a text is refused so.
+fn assert_long<R: Threads + Wait + Sync + Abort>(rt: &R, alloc: Global, row: &Long) {
+    let (word, front, length, refused) = *row;
     let text = lengthened(rt, alloc, front, length);
     let found = run_on(rt, alloc, &[word], text.as_str(), WHOLE);
-    assert_eq!(rt;
-        (found.status, found.written.as_str()),
-        (5, refused),
-        "{length} bytes for {word}"
-    );
+    let told = (found.status, found.written.as_str());
+    assert_same(rt, told, (5, refused), (length, "bytes for", word));
 }
 
 #[test]
 fn long_lines_and_long_texts(rt: HostRuntime) {
-    for (word, front, length, refused) in &LONG {
-        assert_long(&rt, rt.alloc(), word, front, *length, refused);
+    for row in &LONG {
+        assert_long(&rt, rt.alloc(), row);
     }
 }
 
 #[test]
+fn the_longest_record(rt: HostRuntime) {
+    assert_long(&rt, rt.alloc(), &LONGEST_RECORD);
+}
+
+#[test]
+fn a_longer_record(rt: HostRuntime) {
+    assert_long(&rt, rt.alloc(), &LONGER_RECORD);
+}
+
+#[test]
 fn long_lossy_texts(rt: HostRuntime) {
-    for (word, front, length, refused) in &LONG_LOSSY {
-        assert_long(&rt, rt.alloc(), word, front, *length, refused);
+    for row in &LONG_LOSSY {
+        assert_long(&rt, rt.alloc(), row);
     }
 }

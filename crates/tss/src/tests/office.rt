@@ -5,6 +5,7 @@ ghost use Rattle.std.specs.Prelude.{◌<◌};
 
 use crate::tests::program::{WHOLE, run_on};
 use crate::tests::races::{assert_legal, assert_worlds};
+use crate::tests::stage::asserts::{assert_same, assert_that};
 use crate::tests::stage::lines::{assert_lines, joined};
 use std::alloc::Global;
 use std::process::Abort;
@@ -114,26 +115,29 @@ fn assert_played<R: Threads + Wait + Sync + Abort>(rt: &R, alloc: Global) {
     let text = office(rt, alloc, "pace 50\n");
     let found = run_on(rt, alloc, &["play"], text.as_str(), WHOLE);
     let due = played(rt, alloc);
-    assert_eq!(rt;
+    assert_same(
+        rt,
         (found.status, found.logs),
         (0, 3),
-        "the status and the logs of the office match"
+        "the status and the logs of the office match",
     );
     let at = found.written.as_str().find("mirror").unwrap_or(0);
     assert!(rt; found.written.is_char_boundary(at));
     let (repairs, end) = found.written.as_str().split_at(at);
     for line in repairs.lines() {
-        assert!(rt;
+        assert_that(
+            rt,
             line.starts_with("repair "),
-            "the office match prints {line}"
+            ("the office match prints", line),
         );
     }
     assert_lines(rt, "the office match", end, due.as_str());
     for line in found.kept.as_str().lines() {
-        assert_eq!(rt;
+        assert_same(
+            rt,
             line.split(' ').count(),
             5300,
-            "the events of an office mirror"
+            "the events of an office mirror",
         );
     }
 }
@@ -147,15 +151,17 @@ fn the_office_match_is_played(rt: HostRuntime) {
 fn assert_raced<R: Threads + Wait + Sync + Abort>(rt: &R, alloc: Global) {
     let text = office(rt, alloc, "pace 50\n");
     let found = run_on(rt, alloc, &["race"], text.as_str(), WHOLE);
-    assert_eq!(rt;
+    assert_same(
+        rt,
         (found.status, found.logs),
         (0, 3),
-        "the status and the logs of the office race"
+        "the status and the logs of the office race",
     );
     let front = joined(rt, alloc, &["tss record 1\n", text.as_str()]);
-    assert!(rt;
+    assert_that(
+        rt,
         found.written.as_str().starts_with(front.as_str()),
-        "the record has another match"
+        "the record has another match",
     );
     assert_legal(rt, alloc, "the office race", found.written.as_str());
     assert_worlds(rt, "the office race", found.written.as_str(), WORLD, 12);
@@ -165,7 +171,7 @@ fn assert_raced<R: Threads + Wait + Sync + Abort>(rt: &R, alloc: Global) {
 fn assert_ordered<R: Threads + Wait + Sync + Abort>(rt: &R, alloc: Global) {
     let text = office(rt, alloc, "pace 601\n");
     let found = run_on(rt, alloc, &["race"], text.as_str(), WHOLE);
-    assert_eq!(rt; found.status, 5, "the status of a race at pace 601");
+    assert_same(rt, found.status, 5, "the status of a race at pace 601");
     assert_lines(
         rt,
         "a race at pace 601",

@@ -1,6 +1,7 @@
 //! Runs of the program: words and a text in, a status, a text and the events that are kept out.
 
 use crate::tests::ends::{finished, line_at};
+use crate::tests::stage::asserts::assert_same;
 use crate::tests::stage::lines::{assert_lines, joined, push_events};
 use crate::tests::tables::audits::{AUDITED, AUDITS};
 use crate::tests::tables::faults::TWO_FAULTS;
@@ -141,18 +142,18 @@ fn assert_ends<R: Threads + Wait + Sync + Abort>(
 ) {
     let text = joined(rt, alloc, &[row.front, row.rest]);
     let found = run_on(rt, alloc, row.words, text.as_str(), streams);
-    assert_eq!(rt; found.status, status, "the status of {}", row.name);
-    assert_eq!(rt;
+    assert_same(rt, found.status, status, ("the status of", row.name));
+    assert_same(
+        rt,
         found.code,
         ExitCode::from(status),
-        "the exit code of {}",
-        row.name
+        ("the exit code of", row.name),
     );
     assert_lines(rt, row.name, found.said.as_str(), line_at(status));
     assert_lines(rt, row.name, found.written.as_str(), written);
     let is_read = streams.failing_read.is_none();
     let logs = if is_read { row.logs } else { 0 };
-    assert_eq!(rt; found.logs, logs, "the logs of {}", row.name);
+    assert_same(rt, found.logs, logs, ("the logs of", row.name));
     if is_read {
         assert_lines(rt, row.name, found.kept.as_str(), row.kept);
     }
@@ -305,7 +306,7 @@ fn assert_torn<R: Threads + Wait + Sync + Abort>(rt: &R, alloc: Global, row: &Ro
         let (front, _) = text.as_str().split_at(length);
         let found = run_on(rt, alloc, row.words, front, WHOLE);
         let due = format!(in alloc; "refused line {line} cause 8 end\n").expect(rt, "memory");
-        assert_eq!(rt; found.status, 5, "{} bytes of {}", length, row.name);
+        assert_same(rt, found.status, 5, (length, "bytes of", row.name));
         assert_lines(rt, row.name, found.written.as_str(), due.as_str());
         if byte == b'\n' {
             line = line.saturating_add(1);

@@ -1,11 +1,14 @@
 //! Races: by the caller alone with known logs, by threads that meet, and many that are audited.
 
 use crate::tests::program::{WHOLE, run_on};
+use crate::tests::stage::asserts::{assert_same, assert_that};
+use crate::tests::stage::blocks::matched;
 use crate::tests::stage::lines::{assert_lines, joined, push_events};
 use arena_rules::Arena;
 use copy_workers::Gate;
+use game_trait::Game;
 use match_data::Match;
-use match_file::read_match;
+use match_setup::Shown;
 use mirror_core::Mirror;
 use race_hall::{budget_of, race, race_with};
 use run_recorder::print_record;
@@ -69,7 +72,11 @@ pub(super) fn assert_legal<R: Threads + Wait + Sync + Abort>(
 ) {
     let found = run_on(rt, alloc, &["audit"], record, WHOLE);
     let is_legal = found.status == 0 && found.written.as_str().starts_with("legal ");
-    assert!(rt; is_legal, "{name}: an audit says {}", found.written);
+    assert_that(
+        rt,
+        is_legal,
+        (name, "an audit says", found.written.as_str()),
+    );
 }
 
 // Asserts that lines begin with a block, behind which the next world, the next log or the end of a
@@ -78,14 +85,15 @@ fn assert_block(rt: &impl Abort, name: &str, lines: &str, block: &str) {
     let mut found = lines.lines();
     for line in block.lines() {
         let first = found.next().unwrap_or("no line");
-        assert!(rt;
+        assert_that(
+            rt,
             first == line,
-            "{name}: a world has {first} in place of {line}"
+            (name, "a world has", first, "in place of", line),
         );
     }
     let behind = found.next().unwrap_or("done");
     let is_end = behind == "done" || behind.starts_with("log ");
-    assert!(rt; is_end, "{name}: behind a world stands {behind}");
+    assert_that(rt, is_end, (name, "behind a world stands", behind));
 }
 
 // Asserts that a record states this number of worlds, each with this block.
@@ -99,18 +107,44 @@ pub(super) fn assert_worlds(rt: &impl Abort, name: &str, record: &str, block: &s
         assert_block(rt, name, lines, block);
         found = found.saturating_add(1);
     }
-    assert_eq!(rt; found, worlds, "the worlds of {name}");
+    assert_same(rt, found, worlds, ("the worlds of", name));
 }
 
 // The record of a race of this match, printed.
-fn printed(rt: &impl Abort, alloc: Global, m: Match, mirrors: &[Mirror<Arena>]) -> String {
+fn printed<G: Game + Shown>(
+    rt: &impl Abort,
+    alloc: Global,
+    m: Match,
+    mirrors: &[Mirror<G>],
+) -> String {
     assert!(rt; mirrors.len() <= 8);
     let record = record_of(alloc, m, mirrors).expect(rt, "memory");
     let text = print_record(alloc, &record).expect(rt, "memory");
     String::from_utf8(text).expect(rt, "a text")
 }
 
-// The record of a race of a match, whose jobs the caller does where their bit is set, and its logs.
+// The record of a race from this world, whose jobs the caller does where their bit is set, and its
+// logs.
+fn raced_from<R: Threads + Wait + Sync + Abort, P: Gate + Sync, G: Game + Shown + Send>(
+    rt: &R,
+    alloc: Global,
+    m: Match,
+    opening: &G,
+    gate: &P,
+    budget: u32,
+    inline: u128,
+) -> (String, String) {
+    assert!(rt; budget <= 1_048_576);
+    let mirrors = race_with(rt, alloc, &m, opening, gate, u64::from(budget), inline);
+    let mirrors = mirrors.expect(rt, "memory");
+    let mut logs = String::new(alloc);
+    for mirror in &mirrors {
+        push_events(rt, alloc, &mut logs, mirror.events());
+    }
+    (printed(rt, alloc, m, mirrors.as_slice()), logs)
+}
+
+// The same of a match from its opening.
 fn raced<R: Threads + Wait + Sync + Abort, P: Gate + Sync>(
     rt: &R,
     alloc: Global,
@@ -119,16 +153,9 @@ fn raced<R: Threads + Wait + Sync + Abort, P: Gate + Sync>(
     budget: u32,
     inline: u128,
 ) -> (String, String) {
-    assert!(rt; budget <= 1_048_576);
-    let m = read_match(alloc, text.as_bytes()).expect(rt, "a match");
+    let m = matched(rt, alloc, text);
     let opening = Arena::start(&m.setup);
-    let mirrors = race_with(rt, alloc, &m, &opening, gate, u64::from(budget), inline);
-    let mirrors = mirrors.expect(rt, "memory");
-    let mut logs = String::new(alloc);
-    for mirror in &mirrors {
-        push_events(rt, alloc, &mut logs, mirror.events());
-    }
-    (printed(rt, alloc, m, mirrors.as_slice()), logs)
+    raced_from(rt, alloc, m, &opening, gate, budget, inline)
 }
 
 // Counts how often each of the six jobs of a race of `TIES` passes, and notes where a turn isn't
@@ -175,13 +202,14 @@ fn assert_passes(rt: &impl Abort, name: &str, gate: &Counts, budget: u64) {
     for job in 0..6usize {
         let passes = gate.passes[job].load(Ordering::SeqCst);
         let least = LEAST[job].min(budget);
-        assert!(rt;
+        assert_that(
+            rt,
             least <= passes && passes <= budget,
-            "{name}: job {job} made {passes} turns of {least} to {budget}"
+            (name, "job", job, passes, "turns of", (least, budget)),
         );
     }
     let wrong = gate.wrong.load(Ordering::SeqCst);
-    assert_eq!(rt; wrong, 0, "{name}: turns that aren't the next one");
+    assert_same(rt, wrong, 0, (name, "turns that aren't the next one"));
 }
 
 // A race of `TIES`: its budget, the jobs that the caller does, and the logs of both mirrors where
@@ -356,16 +384,27 @@ fn races_with_small_budgets(rt: HostRuntime) {
     }
 }
 
-// The record of a race of `TIES` in threads alone, with the budget that a race has.
+// The record of a race from this world in threads alone, with the budget that a race has.
+fn raced_whole<R: Threads + Wait + Sync + Abort, P: Gate + Sync, G: Game + Shown + Send>(
+    rt: &R,
+    alloc: Global,
+    m: Match,
+    opening: &G,
+    gate: &P,
+) -> String {
+    let mirrors = race(rt, alloc, &m, opening, gate).expect(rt, "memory");
+    printed(rt, alloc, m, mirrors.as_slice())
+}
+
+// The same of `TIES` from its opening.
 fn ties_raced<R: Threads + Wait + Sync + Abort, P: Gate + Sync>(
     rt: &R,
     alloc: Global,
     gate: &P,
 ) -> String {
-    let m = read_match(alloc, TIES.as_bytes()).expect(rt, "a match");
+    let m = matched(rt, alloc, TIES);
     let opening = Arena::start(&m.setup);
-    let mirrors = race(rt, alloc, &m, &opening, gate).expect(rt, "memory");
-    printed(rt, alloc, m, mirrors.as_slice())
+    raced_whole(rt, alloc, m, &opening, gate)
 }
 
 // 64 turns for each tick of a mirror's clock, which ends at the length and the longest delay, and 64
@@ -373,8 +412,8 @@ fn ties_raced<R: Threads + Wait + Sync + Abort, P: Gate + Sync>(
 #[test]
 fn a_race_has_turns_for_all_work(rt: HostRuntime) {
     for (text, budget) in [(TIES, 448), (THREE, 640), (ALONE, 640)] {
-        let m = read_match(rt.alloc(), text.as_bytes()).expect(&rt, "a match");
-        assert_eq!(rt; budget_of(&m), budget, "the turns of a job of {text}");
+        let m = matched(&rt, rt.alloc(), text);
+        assert_same(&rt, budget_of(&m), budget, ("the turns of a job of", text));
     }
 }
 
@@ -431,7 +470,7 @@ fn a_race_uses_its_budget(rt: HostRuntime) {
         gate.begun.load(Ordering::SeqCst),
         gate.missed.load(Ordering::SeqCst),
     );
-    assert_eq!(rt; turns, (448, 0), "the turns of a feeder that is held");
+    assert_same(&rt, turns, (448, 0), "the turns of a feeder that is held");
     assert_legal(&rt, rt.alloc(), "a feeder is held", record.as_str());
 }
 
@@ -470,7 +509,7 @@ impl<'a, R: Clock> Gate for HeldLong<'a, R> {
 fn assert_turns_left(rt: &impl Abort, counts: &Counts, budget: u64) {
     for job in 0..6usize {
         let turns = counts.passes[job].load(Ordering::SeqCst);
-        assert!(rt; turns < budget, "job {job} has spent its turns");
+        assert_that(rt, turns < budget, ("job", job, "has spent its turns"));
     }
 }
 
@@ -564,13 +603,14 @@ fn assert_met(rt: &impl Abort, record: &str) {
         if !line.starts_with("arrive ")
             && let Some(word) = due.next()
         {
-            assert!(rt;
+            assert_that(
+                rt,
                 line == *word,
-                "an event of two who meet is {line} in place of {word}"
+                ("an event of two who meet is", line, "in place of", word),
             );
         }
     }
-    assert!(rt; due.next().is_none(), "two who meet have too few events");
+    assert_that(rt, due.next().is_none(), "two who meet have too few events");
 }
 
 // Asserts that they meet, in a race in threads alone, or where the caller does this job beside the
@@ -586,7 +626,7 @@ fn assert_meets<R: Threads + Wait + Sync + Abort>(rt: &R, alloc: Global, inline:
         Some(job) => raced(rt, alloc, TIES, &gate, 448, job).0,
     };
     let missed = gate.missed.load(Ordering::SeqCst);
-    assert_eq!(rt; missed, 0, "one waited in vain for the other");
+    assert_same(rt, missed, 0, "one waited in vain for the other");
     assert_met(rt, record.as_str());
 }
 

@@ -1,6 +1,7 @@
 //! Matches that are made from numbers: their texts, and what soaking them prints.
 
 use crate::tests::program::{Streams, WHOLE, run_on};
+use crate::tests::stage::asserts::assert_same;
 use crate::tests::stage::lines::{assert_lines, joined};
 use match_file::print_match;
 use match_maker::make_match;
@@ -33,10 +34,11 @@ fn measured(rt: &impl Abort, alloc: Global, number: u32) -> (usize, u32) {
 #[test]
 fn matches_are_made_from_numbers(rt: HostRuntime) {
     for (number, length, sum) in TEXTS {
-        assert_eq!(rt;
+        assert_same(
+            &rt,
             measured(&rt, rt.alloc(), number),
             (length, sum),
-            "of {number}"
+            ("of", number),
         );
     }
 }
@@ -81,11 +83,11 @@ fn assert_soaked<R: Threads + Wait + Sync + Abort>(
         ..WHOLE
     };
     let found = run_on(rt, alloc, &["soak", number], "", streams);
-    assert_eq!(rt;
+    assert_same(
+        rt,
         (found.status, found.logs),
         (0, 8),
-        "the status and the logs of {}",
-        number
+        ("the status and the logs of", number),
     );
     let due = joined(rt, alloc, lines);
     assert_lines(rt, number, found.written.as_str(), due.as_str());

@@ -1,5 +1,6 @@
 //! Texts that are put together, and compared line by line.
 
+use crate::tests::stage::asserts::assert_same;
 use game_trait::Event;
 use std::alloc::Global;
 use std::process::Abort;
@@ -15,16 +16,16 @@ pub(crate) fn joined(rt: &impl Abort, alloc: Global, pieces: &[&str]) -> String 
 
 // Asserts that a text has just the lines that are due.
 pub(crate) fn assert_lines(rt: &impl Abort, name: &str, text: &str, due: &str) {
+    if text == due {
+        return;
+    }
     let mut lines = text.split('\n');
     for (place, line) in due.split('\n').enumerate() {
         let found = lines.next().unwrap_or("no line");
-        assert!(rt;
-            found == line,
-            "{name}: line {place}, from 0 on, is '{found}' in place of '{line}'"
-        );
+        assert_same(rt, found, line, (name, "line, from 0 on", place));
     }
-    let more = lines.next().is_some();
-    assert!(rt; !more, "{name}: there are more lines than are due");
+    let more = lines.next();
+    assert_same(rt, more, None, (name, "a line more than is due"));
 }
 
 // Appends an event in one word: a tick, an arrival by its mirror and number, a step by its copy, a
