@@ -11,6 +11,7 @@ ghost use Rattle.game_trait.specs.declared.command.Command.{Command};
 ghost use Rattle.game_trait.specs.declared.event.Arrived.TheVariants.{Late as ToLate};
 ghost use Rattle.sync_model.specs.Change.{after, is_repeat};
 ghost use Rattle.sync_model.specs.State.{MirrorState};
+ghost use Rattle.sync_model.specs.TimeOrder.{KeysDiffer};
 ghost use Rattle.report_text.specs.Replies.{arrival_text};
 ghost use Rattle.report_text.specs.Worlds.{Showing, showing, block_text, copy_head};
 ghost use Rattle.rolling_mirror.specs.declared.arrival.Arrival.{Arrival};
@@ -172,6 +173,22 @@ pub fn a_session_is_that_of_a_whole<G: Game>()
         → IsWholeOf G.rules
         (whole_along G.rules (opening_whole opening m n) (opening_session opening m number) rs)
         (after_requests G.rules (opening_session opening m number) rs) }
+{}
+
+/// What that means: the mirror is the window of the one that remembers all, which isn't at its end, and no
+/// two of whose commands have one key. Requests can be made along a talk where each can be made where it
+/// comes.
+pub fn what_a_whole_talk_means<G: Game>()
+    ensures window { (whole : MirrorState G) (s : SessionState G)
+        → IsWholeOf G.rules whole s → IsWindowOf G.rules whole s.mirror }
+    ensures before_end { (whole : MirrorState G) (s : SessionState G)
+        → IsWholeOf G.rules whole s → whole.clock + 1 < whole.length }
+    ensures keys { (whole : MirrorState G) (s : SessionState G)
+        → IsWholeOf G.rules whole s → KeysDiffer whole.accepted }
+    ensures none { (s : SessionState G) → FitAlong G.rules s [] }
+    ensures more { (s : SessionState G) (r : Request) (rs : List Request)
+        → FitsTerms (terms_of s) r → FitAlong G.rules (after_request G.rules s r) rs
+        → FitAlong G.rules s (r ∷ rs) }
 {}
 
 /// So in a whole talk what is told is told of the mirror that remembers all: its clock, its answers, its

@@ -1,5 +1,5 @@
 -- Commands whose names come again, and copies that are in time order.
-use Rattle.std.proofs.Common.{◌≡◌, ℕ, zero, suc, ◌+◌, ◌-◌, ◌≤◌, ◌<◌, Bool, true, false, cond, not, eqb, ltb, leb, ◌&&◌, ◌||◌, List, [], ◌∷◌, ◌++◌, map, filter, get_or, refl, ap, sym, ◌∙◌, subst, append-nil, arith}
+use Rattle.std.proofs.Common.{◌≡◌, ℕ, zero, suc, ◌+◌, ◌-◌, ◌≤◌, ◌<◌, Bool, true, false, cond, not, eqb, ltb, leb, ◌&&◌, ◌||◌, List, [], ◌∷◌, ◌++◌, map, filter, length, get_or, refl, ap, sym, ◌∙◌, subst, append-nil, arith}
 use Rattle.std.specs.List.{AllByRecursion, list_any}
 use Rattle.std.proofs.lemmas.Bool.Decides.{nat_tests}
 use Rattle.game_trait.specs.declared.command.Command.{Command}
@@ -7,9 +7,10 @@ use Rattle.game_trait.specs.declared.command.Item.{Item}
 use Rattle.game_trait.specs.declared.event.Event.{Event}
 use Rattle.game_trait.specs.declared.event.Event.TheVariants.{Tick, Arrive, Step, Restagger}
 use Rattle.game_trait.specs.Count.{times}
+use Rattle.game_trait.specs.Events.{is_arrival}
 use Rattle.game_trait.specs.Game.{Rules}
 use Rattle.game_trait.specs.Keys.{same_name, NamesDiffer}
-use Rattle.game_trait.specs.Ordered.{due_at, tick_of, ticks, ordered}
+use Rattle.game_trait.specs.Ordered.{due_at, tick_of, ticks, ordered, time_ordered}
 use Rattle.game_trait.specs.Run.{beats, commands_of, world_of}
 use Rattle.game_trait.proofs.Counts.{times-agree, times-filter, times-in_key_order}
 use Rattle.game_trait.proofs.KeyOrder.{KeysRise-in_key_order, rising-unique}
@@ -17,7 +18,7 @@ use Rattle.game_trait.proofs.OrderedParts.{beats-ordered, ordered-join, ordered-
 use Rattle.sync_model.specs.Lists.{last_of}
 use Rattle.sync_model.specs.State.{MirrorState, copy_clock, last_clock}
 use Rattle.sync_model.specs.Settle.{settle, begins_with}
-use Rattle.sync_model.specs.Change.{next, is_late, is_idle, with_tick, proposed_by_step}
+use Rattle.sync_model.specs.Change.{next, is_repeat, is_late, is_idle, with_tick, proposed_by_step}
 use Rattle.sync_model.specs.Forgetting.{is_repeat_from, arrive_from, at_base}
 use Rattle.sync_model.specs.Repairs.{is_late_at}
 use Rattle.sync_model.specs.Staggered.{IsAhead, IsChained, IsComplete, IsNeverEarly, IsTrailing}
@@ -297,3 +298,24 @@ module _
       → world_of rules s.opening (last_of [] s.runs) ≡ world_of rules t.opening (last_of [] t.runs)
   last-worlds-one rules opening at same =
       ap (λ (o : W). world_of rules o (last_of [] s.runs)) opening ∙ ap (world_of rules t.opening) (last-runs-one at same)
+
+-- ---- what these say
+
+pub ordered-world :
+    {W : Type 0} (rules : Rules W) (s : MirrorState W) → AreInTimeOrder s → (c : ℕ) → c < length s.runs
+    → world_of rules s.opening (get_or s.runs c []) ≡ time_ordered rules s.opening s.accepted (copy_clock s.runs c)
+ordered-world rules s here c there =
+    ap (world_of rules s.opening) (all-or (λ run. run ≡ ordered s.accepted 0 (beats run)) s.runs c (none-run s.accepted) here)
+
+pub others-timely : {W : Type 0} (s : MirrorState W) (e : Event) → is_arrival e ≡ false → brings_none_late s e ≡ true
+others-timely s Tick other = refl
+others-timely s (Arrive x) other = absurd (let k = other in cc)
+others-timely s (Step c) other = refl
+others-timely s (Restagger p) other = refl
+
+pub early-timely : {W : Type 0} (s : MirrorState W) (x : Command) → list_any (is_late_at x) s.runs ≡ false → brings_none_late s (Arrive x) ≡ true
+early-timely s x early =
+    rw early (elim (is_repeat s x) as (λ v. (v || (is_late s x || true)) ≡ true) [
+      | true ↦ refl
+      | false ↦ elim (is_late s x) as (λ v. (v || true) ≡ true) [ true ↦ refl | false ↦ refl ]
+    ])

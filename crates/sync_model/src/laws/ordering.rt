@@ -1,12 +1,17 @@
 //! What makes copies alike: worlds decide nothing, names that come again, and copies in time order.
 
-ghost use Rattle.std.specs.Prelude.{◌≡◌, ℕ, Bool, true, ◌<◌, ◌≤◌, ◌&&◌, nat_lt, List, []};
+ghost use Rattle.std.specs.Prelude.{◌≡◌, ℕ, Bool, true, false, ◌<◌, ◌≤◌, ◌&&◌, nat_lt, List, [], length};
+ghost use Rattle.std.specs.List.{list_any};
+ghost use Rattle.game_trait.specs.Events.{is_arrival};
+ghost use Rattle.game_trait.specs.Ordered.{time_ordered};
+ghost use Rattle.sync_model.specs.Drafts.{run_of};
+ghost use Rattle.sync_model.specs.Repairs.{is_late_at};
 ghost use Rattle.game_trait.specs.declared.command.Command.{Command};
 ghost use Rattle.game_trait.specs.declared.event.Event.{Event};
 ghost use Rattle.game_trait.specs.Count.{times};
 ghost use Rattle.game_trait.specs.Run.{world_of};
 ghost use Rattle.sync_model.specs.Lists.{last_of};
-ghost use Rattle.sync_model.specs.State.{MirrorState, last_clock};
+ghost use Rattle.sync_model.specs.State.{MirrorState, copy_clock, last_clock};
 ghost use Rattle.sync_model.specs.Change.{next, said, after, answers};
 ghost use Rattle.sync_model.specs.Forgetting.{arrive_from, at_base};
 ghost use Rattle.sync_model.specs.Openings.{with_opening};
@@ -68,4 +73,11 @@ pub fn while_nothing_comes_late_copies_are_in_time_order<G: Game>()
     ensures kept_from { (b : ℕ) (s : MirrorState G) (x : Command)
         → IsTrailing s.accepted s.runs → AreInTimeOrder s → is_timely s x ≡ true
         → AreInTimeOrder (arrive_from b s x) }
+    ensures world { (s : MirrorState G) (c : ℕ) → AreInTimeOrder s → c < length s.runs
+        → world_of G.rules s.opening (run_of s c)
+        ≡ time_ordered G.rules s.opening s.accepted (copy_clock s.runs c) }
+    ensures others { (s : MirrorState G) (e : Event) → is_arrival e ≡ false
+        → brings_none_late s e ≡ true }
+    ensures early { (s : MirrorState G) (x : Command) → list_any (is_late_at x) s.runs ≡ false
+        → brings_none_late s (Event.Arrive x) ≡ true }
 {}
