@@ -17,7 +17,6 @@ use Rattle.game_trait.specs.declared.event.Event.TheVariants as events
 use Rattle.game_trait.proofs.KeyOrder.{all-weaker}
 use Rattle.sync_model.specs.State.{opening_state}
 use Rattle.report_text.specs.Ends.{done_line}
-use Rattle.report_text.specs.Worlds.{Showing}
 use Rattle.live_text.specs.declared.request.Request.{Request}
 use Rattle.live_text.specs.declared.request.Request.TheVariants.{Own, Cmd, Tick, Turn, Step, Restagger, World as AskWorld, Run, Commands, End}
 use Rattle.live_talk.specs.Head.{Place, heading, asking, refused, head_machine, led_to, after_head, is_over_at, place_after, told_at, opening_headed}

@@ -55,3 +55,8 @@ pub record AreAllTalks {W : Type 0} (g : Staging W) (m : MatchData) (commands : 
 -- how the mirrors stand
 abbrev pub states_of : {W : Type 0} → List (EndedTalk W) → List (SessionState W)
 states_of talks = map (λ t. t.state) talks
+
+-- each of these commands arrived at the mirror, its own or as others told it, and none too late
+pub record HasThemAll {W : Type 0} (commands : List Command) (t : EndedTalk W) : Type 0 where
+  pub arrived : AllByRecursion (λ x. Contains t.state.mirror.history (events.Arrive x)) commands
+  pub none_late : t.state.mirror.turned ≡ []

@@ -1,15 +1,26 @@
 //! What live mirrors told is legal for `audit`. Each is the contract of a function without parameters
 //! that does nothing.
 
-ghost use Rattle.std.specs.Prelude.{◌≡◌, ◌++◌, ◌<◌, ◌↔◌, ℕ, List, Ok};
+ghost use Rattle.std.specs.Prelude.{◌≡◌, ◌+◌, ◌++◌, ◌≤◌, ◌↔◌, ℕ, false, true, Contains, List, [], Ok, length};
 ghost use Rattle.std.specs.List.{AllByRecursion};
+ghost use Rattle.game_trait.specs.declared.command.Act.{Act};
 ghost use Rattle.game_trait.specs.declared.command.Command.{Command};
-ghost use Rattle.sync_model.specs.Change.{after};
+ghost use Rattle.game_trait.specs.declared.event.Arrived.TheVariants.{Taken};
+ghost use Rattle.game_trait.specs.declared.event.Event.TheVariants as events;
+ghost use Rattle.game_trait.specs.declared.event.Reply.TheVariants.{Arrive as ToArrive};
+ghost use Rattle.game_trait.specs.Keys.{NamesDiffer};
+ghost use Rattle.game_trait.specs.Ordered.{time_ordered};
+ghost use Rattle.game_trait.specs.Run.{world_of};
+ghost use Rattle.sync_model.specs.Change.{after, is_late, said};
+ghost use Rattle.sync_model.specs.Consistent.{IsConsistent};
+ghost use Rattle.sync_model.specs.Schedule.{longest_delay};
+ghost use Rattle.sync_model.specs.Staggered.{IsUnchangedPlan};
+ghost use Rattle.sync_model.specs.State.{delays_of};
 ghost use Rattle.sync_model.specs.History.{without_room};
 ghost use Rattle.sync_model.specs.Legal.{IsLegal};
 ghost use Rattle.report_text.specs.Ends.{done_line};
 ghost use Rattle.report_text.specs.Worlds.{Showing};
-ghost use Rattle.match_data.specs.Data.{MatchData, IsMatch};
+ghost use Rattle.match_data.specs.Data.{MatchData, IsMatch, most_commands};
 ghost use Rattle.run_auditor.specs.Arena.{arena_shown};
 ghost use Rattle.run_auditor.specs.Audit.{IsLegalRecord, Tells, event_count};
 ghost use Rattle.run_auditor.specs.declared.verdict.Verdict.{Verdict};
@@ -21,14 +32,17 @@ ghost use Rattle.live_text.specs.declared.request.Request.{Request};
 ghost use Rattle.live_text.specs.declared.request.Request.TheVariants as requests;
 ghost use Rattle.live_mirror.specs.Events.{after_requests, FitAlong};
 ghost use Rattle.live_laws.specs.Events.{IsAmong, audited_from};
-ghost use Rattle.live_mirror.specs.Session.{SessionState, after_request, opening_session};
+ghost use Rattle.live_mirror.specs.Led.{IsOfSetup};
+ghost use Rattle.live_mirror.specs.Session.{SessionState, after_request, opening_session, own_command};
 ghost use Rattle.live_laws.specs.Record.{AreAllEnds, AreEnds, MayBeCommands, put_together, record_of, with_commands};
-ghost use Rattle.live_laws.specs.Talks.{EndedTalk, IsTalkOf, AreAllTalks, states_of};
+ghost use Rattle.live_laws.specs.Talks.{EndedTalk, IsTalkOf, AreTalksOf, ArrivedAtOne, AreTheCommands, AreAllTalks, HasThemAll, states_of};
 ghost use Rattle.live_mirror.specs.Told.{answer_text, record_part};
 ghost use Rattle.arena_rules.specs.World.{World, opening_world};
+ghost use Rattle.live_talk.specs.Head.{asking};
 ghost use Rattle.live_talk.specs.Staging.{staging, shown_by};
+ghost use Rattle.live_talk.specs.Talked.{TalkState};
 ghost use Rattle.live_laws.specs.Arena.{arena_staging};
-ghost use Rattle.live_mirror.specs.Way.{live_due};
+ghost use Rattle.live_mirror.specs.Way.{live_due, live_heard};
 
 use game_trait::Game;
 use live_talk::Begins;
@@ -112,4 +126,53 @@ pub fn what_live_mirrors_told_is_read_as_a_legal_record()
         (v : Verdict) → IsMatch m → AreAllTalks arena_staging m commands talks
         → let made = record_of (arena_shown m) (with_commands m commands) (states_of talks) in
         Tells (arena_shown m) (opening_world m.layout) made v ↔ (v ≡ Legal (event_count made.logs)) }
+{}
+
+/// Live mirrors that were told all in time end at one world. Where the mirrors of a match came to their
+/// ends, and each of the commands that arrived at them arrived at every one of them, its own or as the
+/// others told it, and none too late, all copies of all mirrors are at the time-ordered execution of
+/// those commands.
+pub fn live_mirrors_end_at_one_world<G: Begins>()
+    ensures { (m : MatchData) (commands : List Command) (talks : List (EndedTalk G)) → IsMatch m
+        → AreAllTalks (staging G.rules G.lines G.opening) m commands talks
+        → AllByRecursion (HasThemAll commands) talks
+        → AllByRecursion (λ t. AllByRecursion
+        (λ run. world_of G.rules (G.opening m.layout) run
+        ≡ time_ordered G.rules (G.opening m.layout) commands m.length) t.state.mirror.runs) talks }
+{}
+
+/// Whatever a live mirror was told, it is consistent, and an own command is taken and repairs nothing.
+/// Where its plan was never changed, a command is in time that isn't older than its clock less the last
+/// copy's delay.
+pub fn a_live_mirror_is_consistent<G: Begins>()
+    ensures consistent { (number : ℕ) (bytes : List ℕ) (t : TalkState (SessionState G))
+        → (live_heard (staging G.rules G.lines G.opening) number bytes).state.place ≡ asking t
+        → IsConsistent t.session.mirror }
+    ensures own { (number : ℕ) (bytes : List ℕ) (t : TalkState (SessionState G)) (player : ℕ) (act : Act)
+        → (live_heard (staging G.rules G.lines G.opening) number bytes).state.place ≡ asking t
+        → said t.session.mirror (events.Arrive (own_command t.session player act))
+        ≡ ToArrive (Taken 0) }
+    ensures in_time { (number : ℕ) (bytes : List ℕ) (t : TalkState (SessionState G)) (x : Command)
+        → (live_heard (staging G.rules G.lines G.opening) number bytes).state.place ≡ asking t
+        → let s = t.session.mirror in IsUnchangedPlan s
+        → s.clock ≤ x.time + longest_delay (delays_of s) → is_late s x ≡ false }
+{}
+
+/// What is asked of talks for the laws of ends is nothing but these facts.
+pub fn talks_of_all_mirrors<G: Begins>()
+    ensures talk { (m : MatchData) (number line : ℕ) (t : EndedTalk G)
+        → let g = staging G.rules G.lines G.opening in
+        (live_heard g number t.bytes).state.place
+        ≡ asking (record { session = t.state; line = line; is_over = true })
+        → IsOfSetup G.opening m t.state → IsTalkOf g m number t }
+    ensures commands { (m : MatchData) (commands : List Command) (talks : List (EndedTalk G))
+        → NamesDiffer commands → length commands ≤ most_commands m.version
+        → AllByRecursion (λ t. AllByRecursion (IsAmong commands) t.state.mirror.history) talks
+        → AllByRecursion (ArrivedAtOne talks) commands → AreTheCommands m commands talks }
+    ensures all { (m : MatchData) (commands : List Command) (talks : List (EndedTalk G))
+        → let g = staging G.rules G.lines G.opening in length talks ≡ m.mirrors
+        → AreTalksOf g m 0 talks → AreTheCommands m commands talks → AreAllTalks g m commands talks }
+    ensures has { (commands : List Command) (t : EndedTalk G)
+        → AllByRecursion (λ x. Contains t.state.mirror.history (events.Arrive x)) commands
+        → t.state.mirror.turned ≡ [] → HasThemAll commands t }
 {}

@@ -2,7 +2,6 @@
 use Rattle.std.proofs.Common.{◌≡◌, ℕ, List, [], length, subst, ◌∙◌}
 use Rattle.std.proofs.lemmas.List.{length-map}
 use Rattle.game_trait.specs.declared.command.Item.{Item}
-use Rattle.sync_model.specs.State.{MirrorState}
 use Rattle.sync_model.proofs.Cases.{SameParts, after-fixed}
 use Rattle.match_data.specs.Data.{MatchData}
 use Rattle.live_text.specs.declared.request.Request.{Request}
