@@ -6,7 +6,7 @@ use crate::live::live;
 use crate::talking::LONGEST_INPUT;
 use crate::tests::rows::HEAD;
 use crate::tests::sessions::HEAD as SESSION;
-use crate::tests::stage::{assert_lines, words_of};
+use crate::tests::stage::{assert_lines, assert_same, words_of};
 use arena_rules::Arena;
 use line_talk::Peer;
 use std::alloc::Global;
@@ -96,10 +96,15 @@ fn assert_ends(
         faults: 0,
     };
     let done = live::<Arena, _>(alloc, words_of(rt, alloc, &["0"]).as_slice(), &mut peer);
-    assert_eq!(rt; done.status, status, "the status behind {bytes} bytes");
+    assert_same(
+        rt,
+        done.status,
+        status,
+        ("the status behind", bytes, "bytes"),
+    );
     let told = String::from_utf8_lossy(alloc, peer.told.as_slice()).expect(rt, "memory");
     assert_lines(rt, "a line without an end", told.as_str(), due);
-    assert_eq!(rt; peer.left, 0, "what is left of {bytes} bytes");
+    assert_same(rt, peer.left, 0, ("what is left of", bytes, "bytes"));
 }
 
 #[test]

@@ -1,7 +1,7 @@
 //! Talks byte by byte: a look and an end, a command that is late, refusals, and two mirrors that hand
 //! each other what they tell.
 
-use crate::tests::stage::{Row, WHOLE, assert_lines, assert_rows, joined, make_talk};
+use crate::tests::stage::{Row, WHOLE, assert_lines, assert_rows, assert_same, joined, make_talk};
 use std::alloc::Global;
 use std::process::Abort;
 
@@ -122,7 +122,8 @@ fn assert_handed_over(rt: &impl Abort, alloc: Global, conversation: &[Asked]) {
     for (place, (_, line, _)) in conversation.iter().enumerate() {
         if line.starts_with("cmd ") && place <= conversation.len() {
             let (before, _) = conversation.split_at(place);
-            assert!(rt; is_told(rt, alloc, before, line), "{line} was told");
+            let was_told = is_told(rt, alloc, before, line);
+            assert_same(rt, was_told, true, ("whether it was told", *line));
         }
     }
 }
@@ -140,7 +141,7 @@ fn assert_answers(rt: &impl Abort, alloc: Global, conversation: &[Asked]) {
             }
         }
         let found = make_talk(rt, alloc, &[word], input.as_str(), WHOLE);
-        assert_eq!(rt; found.status, 0, "mirror {word}");
+        assert_same(rt, found.status, 0, ("mirror", *word));
         assert_lines(rt, word, found.told(rt, alloc).as_str(), due.as_str());
     }
 }

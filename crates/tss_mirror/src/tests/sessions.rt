@@ -1,7 +1,9 @@
 //! Talks with a mirror of a session without an end: each request, commands that are late or far, own
 //! numbers, refused heads, and a session that forgets beside a match that remembers.
 
-use crate::tests::stage::{Row, WHOLE, assert_lines, assert_rows, assert_talk, joined, make_talk};
+use crate::tests::stage::{
+    Row, WHOLE, assert_lines, assert_rows, assert_same, assert_talk, joined, make_talk,
+};
 use std::alloc::Global;
 use std::process::Abort;
 
@@ -199,7 +201,7 @@ fn a_session_answers_as_a_match_does(rt: HostRuntime) {
     let whole = joined(&rt, rt.alloc(), &[LONG_MATCH, requests.as_str()]);
     let due = make_talk(&rt, rt.alloc(), &["0"], whole.as_str(), WHOLE);
     let found = make_talk(&rt, rt.alloc(), &["0"], session.as_str(), WHOLE);
-    assert_eq!(rt; found.status, 0, "the status of the session");
+    assert_same(&rt, found.status, 0, "the status of the session");
     let (due, told) = (due.told(&rt, rt.alloc()), found.told(&rt, rt.alloc()));
     assert_lines(&rt, "a session", told.as_str(), due.as_str());
 }
@@ -243,5 +245,11 @@ fn a_last_copy_is_where_its_commands_lead(rt: HostRuntime) {
     ).expect(&rt, "memory");
     let found = make_talk(&rt, rt.alloc(), &["0"], session.as_str(), WHOLE);
     let told = found.told(&rt, rt.alloc());
-    assert!(rt; told.ends_with(block.as_str()), "{told} ends with {block}");
+    let is_so = told.ends_with(block.as_str());
+    assert_same(
+        &rt,
+        is_so,
+        true,
+        (told.as_str(), "ends with", block.as_str()),
+    );
 }

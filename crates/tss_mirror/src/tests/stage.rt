@@ -7,6 +7,7 @@ use arena_rules::Arena;
 use line_talk::Said;
 use live_talk::Begins;
 use std::alloc::Global;
+use std::fmt::Debug;
 use std::process::Abort;
 
 // How many bytes a call of the peer moves, and which call fails.
@@ -128,18 +129,26 @@ pub(super) fn make_talk_of<G: Begins>(
     }
 }
 
+// Asserts that two values are the same, and says where they stand if not. A call of it is proved much
+// faster than the macro.
+pub(super) fn assert_same<T: Copy + PartialEq + Debug, P: Copy + Debug>(
+    rt: &impl Abort,
+    found: T,
+    due: T,
+    place: P,
+) {
+    assert_eq!(rt; found, due, "{place:?}");
+}
+
 // Asserts that a text has just the lines that are due.
 pub(super) fn assert_lines(rt: &impl Abort, name: &str, text: &str, due: &str) {
     let mut lines = text.split('\n');
     for (place, line) in due.split('\n').enumerate() {
         let found = lines.next().unwrap_or("no line");
-        assert!(rt;
-            found == line,
-            "{name}: line {place}, from 0 on, is '{found}' in place of '{line}'"
-        );
+        assert_same(rt, found, line, (name, "line, from 0 on", place));
     }
-    let more = lines.next().is_some();
-    assert!(rt; !more, "{name}: there are more lines than are due");
+    let more = lines.next();
+    assert_same(rt, more, None, (name, "a line more than is due"));
 }
 
 // Asserts that a talk over such calls came out with this status, what is said of it, and all that is
@@ -157,10 +166,10 @@ pub(super) fn assert_talk(
         4 => "tss_mirror: writing standard output failed\n",
         _ => "nothing",
     };
-    assert_eq!(rt; found.status, status, "the status of {name}");
-    assert_eq!(rt; found.failure, failure, "what {name} says");
+    assert_same(rt, found.status, status, ("the status of", name));
+    assert_same(rt, found.failure, failure, ("what is said of", name));
     let is_flushed = is_flushed_in_time(found.peer.said());
-    assert!(rt; is_flushed, "{name} is flushed");
+    assert_same(rt, is_flushed, true, ("whether it is flushed", name));
     assert_lines(rt, name, found.told(rt, alloc).as_str(), due);
 }
 

@@ -4,7 +4,8 @@ use crate::tests::refusals::REFUSED_HEAD;
 use crate::tests::rows::{GOES_ON, HEAD, LATE, OWN};
 use crate::tests::sessions::EACH;
 use crate::tests::stage::{
-    Calls, Row, WHOLE, assert_row, assert_rows, assert_talk, joined, make_talk, told_in,
+    Calls, Row, WHOLE, assert_row, assert_rows, assert_same, assert_talk, joined, make_talk,
+    told_in,
 };
 use line_talk::Said;
 use std::alloc::Global;
@@ -73,7 +74,7 @@ fn is_heard(said: &[Said]) -> bool {
 fn words_are_answered(rt: HostRuntime) {
     assert_rows(&rt, rt.alloc(), &WORDS);
     let found = assert_row(&rt, rt.alloc(), &USED_WRONG, 1);
-    assert!(rt; !is_heard(found.peer.said()), "nothing is heard");
+    assert_same(&rt, is_heard(found.peer.said()), false, "what is heard");
 }
 
 // Asserts that the talk of a row comes out the same in pieces of each length.
@@ -151,8 +152,15 @@ fn assert_torn(rt: &impl Abort, alloc: Global, row: &Row) {
         let mut torn = torn_line(rt, alloc, line);
         if !is_in_head && front.ends_with("\n") {
             let told = found.told(rt, alloc);
-            assert!(rt; told.len() > answered.len(), "line {line} is answered");
-            assert!(rt; row.told.starts_with(told.as_str()), "line {line}");
+            let is_more = told.len() > answered.len();
+            assert_same(rt, is_more, true, ("whether it is answered, line", line));
+            let is_front = row.told.starts_with(told.as_str());
+            assert_same(
+                rt,
+                is_front,
+                true,
+                ("whether it is answered so, line", line),
+            );
             answered = told;
             torn.clear();
         }
