@@ -2,6 +2,7 @@ mod Audited
 mod Bounds
 mod EndLaws
 mod Handed
+mod ReadLaws
 mod RecordLaws
 mod TextLaws
 mod Within

@@ -1,7 +1,7 @@
 //! What live mirrors told is legal for `audit`. Each is the contract of a function without parameters
 //! that does nothing.
 
-ghost use Rattle.std.specs.Prelude.{◌≡◌, ◌+◌, ◌++◌, ◌≤◌, ◌↔◌, ℕ, false, true, Contains, List, [], Ok, length};
+ghost use Rattle.std.specs.Prelude.{◌≡◌, ◌+◌, ◌++◌, ◌<◌, ◌≤◌, ◌↔◌, ℕ, false, true, Contains, List, [], Ok, length};
 ghost use Rattle.std.specs.List.{AllByRecursion};
 ghost use Rattle.game_trait.specs.declared.command.Act.{Act};
 ghost use Rattle.game_trait.specs.declared.command.Command.{Command};
@@ -20,7 +20,7 @@ ghost use Rattle.sync_model.specs.History.{without_room};
 ghost use Rattle.sync_model.specs.Legal.{IsLegal};
 ghost use Rattle.report_text.specs.Ends.{done_line};
 ghost use Rattle.report_text.specs.Worlds.{Showing};
-ghost use Rattle.match_data.specs.Data.{MatchData, IsMatch, most_commands};
+ghost use Rattle.match_data.specs.Data.{MatchData, IsCommand, IsMatch, most_commands};
 ghost use Rattle.run_auditor.specs.Arena.{arena_shown};
 ghost use Rattle.run_auditor.specs.Audit.{IsLegalRecord, Tells, event_count};
 ghost use Rattle.run_auditor.specs.declared.verdict.Verdict.{Verdict};
@@ -30,10 +30,13 @@ ghost use Rattle.run_recorder.specs.Reading.{read_record};
 ghost use Rattle.run_recorder.specs.Text.{record_text};
 ghost use Rattle.live_text.specs.declared.request.Request.{Request};
 ghost use Rattle.live_text.specs.declared.request.Request.TheVariants as requests;
+ghost use Rattle.live_text.specs.Requests.{request_at};
+ghost use Rattle.live_text.specs.Texts.{MayAsk};
+ghost use Rattle.command_lines.specs.CommandLine.{command_line};
 ghost use Rattle.live_mirror.specs.Events.{after_requests, FitAlong};
 ghost use Rattle.live_laws.specs.Events.{IsAmong, audited_from};
 ghost use Rattle.live_mirror.specs.Led.{IsOfSetup};
-ghost use Rattle.live_mirror.specs.Session.{SessionState, after_request, opening_session, own_command};
+ghost use Rattle.live_mirror.specs.Session.{SessionState, after_request, opening_session, own_command, terms_of};
 ghost use Rattle.live_laws.specs.Record.{AreAllEnds, AreEnds, MayBeCommands, put_together, record_of, with_commands};
 ghost use Rattle.live_laws.specs.Talks.{EndedTalk, IsTalkOf, AreTalksOf, ArrivedAtOne, AreTheCommands, AreAllTalks, HasThemAll, states_of};
 ghost use Rattle.live_mirror.specs.Told.{answer_text, record_part};
@@ -156,6 +159,23 @@ pub fn a_live_mirror_is_consistent<G: Begins>()
         → (live_heard (staging G.rules G.lines G.opening) number bytes).state.place ≡ asking t
         → let s = t.session.mirror in IsUnchangedPlan s
         → s.clock ≤ x.time + longest_delay (delays_of s) → is_late s x ≡ false }
+{}
+
+/// What a mirror tells to `own` is the line of a command of the match, and each mirror of the setup that
+/// has room for one more arrival reads such a line as that command.
+pub fn others_read_what_own_tells<G: Begins>()
+    ensures own { (m : MatchData) (number : ℕ) (bytes : List ℕ) (t : TalkState (SessionState G))
+        (player : ℕ) (act : Act)
+        → (live_heard (staging G.rules G.lines G.opening) number bytes).state.place ≡ asking t
+        → IsOfSetup G.opening m t.session → t.session.mirror.clock < t.session.mirror.length
+        → MayAsk (terms_of t.session) (requests.Own player act)
+        → IsCommand m (own_command t.session player act) }
+    ensures read { (m : MatchData) (number : ℕ) (bytes : List ℕ) (t : TalkState (SessionState G))
+        (x : Command)
+        → (live_heard (staging G.rules G.lines G.opening) number bytes).state.place ≡ asking t
+        → IsOfSetup G.opening m t.session → IsMatch m → IsCommand m x
+        → 0 < t.session.mirror.spare
+        → request_at (terms_of t.session) (command_line x) ≡ Ok (requests.Cmd x) }
 {}
 
 /// What is asked of talks for the laws of ends is nothing but these facts.

@@ -7,6 +7,7 @@ mod begins;
 mod fed;
 mod games;
 mod headed;
+pub mod laws;
 mod opens;
 mod talked;
 mod telling;
