@@ -8,3 +8,5 @@ pub mod PutLaws
 pub mod WalkLaws
 pub mod SnapLaws
 pub mod QueueWalks
+pub mod FillLaws
+pub mod FilledLaws
