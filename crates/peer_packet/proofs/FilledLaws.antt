@@ -1,5 +1,5 @@
 -- What is put of what is due is a packet's parts again.
-use Rattle.std.proofs.Common.{◌≡◌, ℕ, zero, suc, ◌+◌, ◌-◌, ◌^◌, ◌≤◌, ◌<◌, Bool, true, false, cond, not, ◌&&◌, ◌||◌, ◌==◌, List, [], ◌∷◌, length, take, drop, get_or, refl, arith}
+use Rattle.std.proofs.Common.{◌≡◌, ◌∙◌, ap, ℕ, zero, suc, ◌+◌, ◌-◌, ◌^◌, ◌≤◌, ◌<◌, ◌⊎◌, inl, inr, Bool, true, false, cond, not, ◌&&◌, ◌||◌, ◌==◌, List, [], ◌∷◌, length, take, drop, get_or, refl, arith}
 use Rattle.std.specs.Prelude.{nat_le, nat_lt}
 use Rattle.std.specs.List.{AllByRecursion}
 use Rattle.std.proofs.lemmas.Bool.{and_parts, and_from, or_parts, leb-true, le-leb, leb-false, ltb-true, lt-ltb}
@@ -8,7 +8,9 @@ use Rattle.std.proofs.lemmas.List.{length-take, length-drop}
 use Rattle.peer_packet.specs.declared.part.PartHead.{PartHead}
 use Rattle.peer_packet.specs.declared.terms.Terms.{Terms}
 use Rattle.peer_packet.specs.Packet.{Sent, Part, Packet, head_of, part_bytes, is_part, AreSent, IsPart, AreParts, IsPacket}
-use Rattle.peer_packet.specs.Filling.{Cursor, Filled, last_time, later_part, first_part, behind_cursor, or_all, from_cursor, fitting, ends_before, filled, put_in}
+use Rattle.peer_packet.specs.Filling.{Cursor, Filled, last_time, later_part, first_part, behind_cursor, or_all, from_cursor, fitting, ends_before, filled, put_in, at_start, weight}
+use Rattle.peer_packet.proofs.Goes.{Rises, filled-less, starts}
+use Rattle.peer_packet.proofs.Cursors.{all-wait, filled-after, from-start, waits-less}
 
 -- ---- commands
 
@@ -195,3 +197,37 @@ put-packet terms p c room h =
       parts = filled-are terms.slots p.to p.have terms.payload small room 0 (from_cursor c p.parts)
           (or_all-are terms.slots p.to p.have terms.payload small 0 p.parts (behind_cursor c p.parts) h.parts (behind-are terms.slots p.to p.have terms.payload small c 0 p.parts h.parts));
     }
+
+pub rises : (slots to : ℕ) (have : List ℕ) (payload least : ℕ) (ps : List Part) → AreParts (is_part slots to have) payload least ps → Rises least ps
+unfolding Rises
+rises slots to have payload least [] h = tt
+rises slots to have payload least (p ∷ ps) h =
+    let s = stands slots to have least (head_of p) h.0.head in
+    (leb-true least p.origin s.low, rises slots to have payload (p.origin + 1) ps h.1)
+
+-- ---- going on
+
+goes-by : (slots to : ℕ) (have : List ℕ) (payload room least : ℕ) (ps : List Part) → 16 + payload ≤ room → AreParts (is_part slots to have) payload least ps → 0 < length ps
+    → let f = filled room ps in ((f.parts ≡ ps) × (f.cursor ≡ at_start)) ⊎ (weight (behind_cursor f.cursor ps) < weight ps)
+goes-by slots to have payload room least [] enough are some = absurd omega (arith, some)
+goes-by slots to have payload room least (p ∷ ps) enough are some =
+    filled-less room least p ps (rises slots to have payload least (p ∷ ps) are) (starts room payload p.before p enough are.0.commands)
+
+-- of all that is due
+pub packet-goes : (terms : Terms) (p : Packet) (c : Cursor) (room : ℕ) → IsPacket terms p → 16 + terms.payload ≤ room → 0 < length (behind_cursor c p.parts)
+    → let f = filled room (behind_cursor c p.parts) in
+    ((f.parts ≡ behind_cursor c p.parts) × (f.cursor ≡ at_start)) ⊎ (weight (behind_cursor f.cursor p.parts) < weight (behind_cursor c p.parts))
+packet-goes terms p c room h enough some =
+    let due = p.parts in
+    let waits = behind_cursor c due in
+    let f = filled room waits in
+    let are = behind-are terms.slots p.to p.have terms.payload (small-counts p.have h.counts) c 0 due h.parts in
+    let goes = goes-by terms.slots p.to p.have terms.payload room 0 waits enough are some in
+    let rise = rises terms.slots p.to p.have terms.payload 0 due h.parts in
+    elim goes [
+      | inl all ↦ inl all
+      | inr less ↦ elim (filled-after c room waits (all-wait c 0 due rise)) [
+        | inl at ↦ absurd (let same = ap weight (ap (λ (d : Cursor). behind_cursor d waits) at ∙ from-start waits) in omega arith)
+        | inr after ↦ inr (let more = waits-less c f.cursor 0 due rise after in omega arith)
+      ]
+    ]

@@ -10,3 +10,5 @@ pub mod SnapLaws
 pub mod QueueWalks
 pub mod FillLaws
 pub mod FilledLaws
+pub mod Goes
+pub mod Cursors

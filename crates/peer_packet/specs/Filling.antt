@@ -91,3 +91,10 @@ part_of x commands = record {
   before = x.before;
   commands = take x.count (drop x.from commands);
 }
+
+-- ---- how much waits
+
+-- parts, and the commands in them
+unfoldable pub weight : List Part → ℕ
+weight [] = 0
+weight (p ∷ ps) = 1 + length p.commands + weight ps
