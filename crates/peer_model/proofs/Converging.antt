@@ -1,21 +1,20 @@
 -- Peers that have the same stand at one run.
-use Rattle.std.proofs.Common.{◌≡◌, ℕ, zero, suc, ◌+◌, ◌-◌, ◌≤◌, ◌<◌, Bool, true, false, cond, ◌==◌, ◌&&◌, nat_lt, List, [], ◌∷◌, ◌++◌, map, filter, length, take, drop, inl, inr, refl, ap, sym, ◌∙◌, subst, append-nil, arith}
-use Rattle.std.specs.List.{AllByRecursion, AllZip}
-use Rattle.std.proofs.Math.ListN.{length-append, take-append-drop}
-use Rattle.std.proofs.lemmas.Bool.{cases_eq, and_right}
+use Rattle.std.proofs.Common.{◌≡◌, ℕ, zero, suc, ◌+◌, ◌-◌, ◌≤◌, ◌<◌, Bool, true, false, cond, ◌==◌, ◌&&◌, List, [], ◌∷◌, ◌++◌, filter, length, drop, refl, ap, sym, ◌∙◌, arith}
+use Rattle.std.specs.List.{AllByRecursion}
+use Rattle.std.proofs.Math.ListN.{take-append-drop}
+use Rattle.std.proofs.lemmas.Bool.{and_right}
 use Rattle.std.proofs.lemmas.Bool.Decides.{nat_tests}
 use Rattle.game_trait.specs.declared.command.Command.{Command}
-use Rattle.game_trait.specs.declared.command.Item.{Item}
 use Rattle.game_trait.specs.Count.{times}
 use Rattle.game_trait.specs.Keys.{same_name, NamesDiffer}
-use Rattle.game_trait.specs.Ordered.{due_at, tick_of, ticks, ordered}
+use Rattle.game_trait.specs.Ordered.{due_at, ticks, ordered}
 use Rattle.game_trait.proofs.Counts.{times-append, times-in_key_order, times-filter}
 use Rattle.game_trait.proofs.KeyOrder.{KeysRise-in_key_order, NamesDiffer-filter, rising-unique}
 use Rattle.game_trait.proofs.Lists.{all-append, all-weaker}
 use Rattle.sync_model.specs.Lists.{last_of}
-use Rattle.sync_model.specs.State.{MirrorState, last_clock}
-use Rattle.peer_model.specs.Queue.{Sent, Queue, have_of}
-use Rattle.peer_model.specs.Peer.{Peer, command, numbered, of_slots, bound_of, counted_of, IsCounted, IsPeer}
+use Rattle.sync_model.specs.State.{MirrorState}
+use Rattle.peer_model.specs.Queue.{Sent, have_of}
+use Rattle.peer_model.specs.Peer.{Peer, command, numbered, of_slots, counted_of, IsCounted, IsPeer}
 use Rattle.peer_model.specs.Net.{HasAllBefore}
 use Rattle.peer_model.proofs.Counting.{numbered-append}
 

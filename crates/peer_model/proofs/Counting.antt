@@ -1,5 +1,5 @@
 -- Commands arrive at a mirror that remembers all: each is accepted or turned away once.
-use Rattle.std.proofs.Common.{◌≡◌, ℕ, zero, suc, ◌+◌, ◌-◌, ◌≤◌, ◌<◌, Bool, true, false, cond, ◌==◌, ◌&&◌, ◌||◌, nat_lt, List, [], ◌∷◌, ◌++◌, length, map, inl, inr, refl, ap, sym, ◌∙◌, subst, append-nil, append_assoc, arith}
+use Rattle.std.proofs.Common.{◌≡◌, ℕ, zero, suc, ◌+◌, ◌≤◌, ◌<◌, Bool, true, false, cond, ◌==◌, ◌||◌, nat_lt, List, [], ◌∷◌, ◌++◌, length, inl, inr, refl, ap, sym, ◌∙◌, subst, append-nil, append_assoc, arith}
 use Rattle.std.specs.List.{AllByRecursion, AllZip, list_any}
 use Rattle.std.proofs.Math.ListN.{length-append}
 use Rattle.std.proofs.lemmas.Bool.{ltb-true, ltb-false, cases_eq}
@@ -10,17 +10,16 @@ use Rattle.game_trait.specs.declared.event.Event.{Event}
 use Rattle.game_trait.specs.declared.event.Event.TheVariants.{Tick, Arrive, Step, Restagger}
 use Rattle.game_trait.specs.Count.{times}
 use Rattle.game_trait.specs.Events.{is_arrival}
-use Rattle.game_trait.specs.Keys.{is_named, same_name, NamesDiffer}
+use Rattle.game_trait.specs.Keys.{is_named, same_name}
 use Rattle.game_trait.specs.Run.{beats}
 use Rattle.game_trait.proofs.Counts.{times-append}
 use Rattle.game_trait.proofs.CommandLists.{NamesDiffer-push}
 use Rattle.game_trait.proofs.Lists.{all-push, all-weaker}
 use Rattle.sync_model.specs.declared.turned.Turned.{Turned}
-use Rattle.sync_model.specs.Lists.{last_of}
 use Rattle.sync_model.specs.State.{MirrorState, last_clock, copy_clock}
 use Rattle.sync_model.specs.Settle.{settle}
-use Rattle.sync_model.specs.Change.{next, after, is_repeat, is_late, turned_away, proposed_by_arrival, proposed_by_step}
-use Rattle.sync_model.proofs.Cases.{moved, away, taken, ran, restaggered, tick-cases, arrive-cases, step-cases, restagger-cases}
+use Rattle.sync_model.specs.Change.{next, after, is_repeat, turned_away, proposed_by_arrival, proposed_by_step}
+use Rattle.sync_model.proofs.Cases.{tick-cases, arrive-cases, step-cases, restagger-cases}
 use Rattle.sync_model.proofs.Staggered.{same-clocks, one-clock, below_limit}
 use Rattle.sync_model.proofs.Trailing.{trailing-step, beats-step, last-step_up, trailing-arrival, beats-arrival, last-arrival}
 use Rattle.peer_model.specs.Queue.{Sent, due_before}

@@ -5,3 +5,4 @@ pub mod Nets
 pub mod Converging
 pub mod Starting
 pub mod Progress
+pub mod Marking

@@ -1,5 +1,5 @@
 -- Whatever the net does, a session stays one.
-use Rattle.std.proofs.Common.{◌≡◌, ℕ, zero, suc, ◌+◌, ◌-◌, ◌≤◌, ◌<◌, max, Bool, true, false, cond, ◌==◌, ◌&&◌, ◌||◌, nat_lt, nat_le, Option, Some, None, List, [], ◌∷◌, ◌++◌, map, filter, length, take, inl, inr, refl, ap, sym, ◌∙◌, subst, append-nil, arith}
+use Rattle.std.proofs.Common.{◌≡◌, ℕ, zero, suc, ◌≤◌, ◌<◌, max, Bool, true, false, cond, nat_lt, Option, Some, None, List, [], ◌∷◌, ◌++◌, filter, length, take, inl, inr, refl, ap, sym, ◌∙◌, subst, append-nil, arith}
 use Rattle.std.specs.Prelude.{slice_get}
 use Rattle.std.specs.List.{AllByRecursion, list_any}
 use Rattle.std.proofs.Math.Seq.{take_all}
@@ -9,9 +9,8 @@ use Rattle.std.proofs.lemmas.Bool.Decides.{nat_tests}
 use Rattle.game_trait.specs.declared.event.Event.{Event}
 use Rattle.game_trait.specs.Events.{is_arrival}
 use Rattle.game_trait.proofs.Lists.{all-push, all-weaker, all-to_map}
-use Rattle.sync_model.specs.State.{MirrorState, last_clock}
-use Rattle.peer_model.specs.Queue.{Sent, Queue, Part, have_of, last_time, part_of, with_own, conflicts, TimesRise, IsFront, IsPiece}
-use Rattle.peer_model.specs.Peer.{Peer, Packet, Span, put, clock_of, bound_of, own_time, own, moved, forgot, may_span, packet_of, heard_head, hears_parts, is_ahead, is_refused, hears, IsPeer}
+use Rattle.peer_model.specs.Queue.{Sent, Part, have_of, last_time, part_of, with_own, conflicts, TimesRise, IsPiece}
+use Rattle.peer_model.specs.Peer.{Peer, Packet, Span, clock_of, own_time, own, moved, forgot, may_span, packet_of, heard_head, hears_parts, is_ahead, is_refused, hears, IsPeer}
 use Rattle.peer_model.specs.Net.{Net, Session, NetStep, Own, Move, Forget, Make, Hear, with_peer, issues, brings, happens, run, IsMade, IsSession}
 use Rattle.peer_model.proofs.Pieces.{rise-push, part-grow, front-last, part-piece, no-conflict}
 use Rattle.peer_model.proofs.Counting.{put-same, put-other}

@@ -1,9 +1,9 @@
 -- Whatever a peer does, it stays a peer.
-use Rattle.std.proofs.Common.{◌≡◌, ℕ, zero, suc, ◌+◌, ◌-◌, ◌≤◌, ◌<◌, Bool, true, false, cond, ◌==◌, ◌||◌, nat_lt, List, [], ◌∷◌, ◌++◌, length, take, drop, inl, inr, refl, ap, sym, ◌∙◌, subst, append-nil, arith}
+use Rattle.std.proofs.Common.{◌≡◌, ℕ, suc, ◌+◌, ◌-◌, ◌≤◌, ◌<◌, true, false, cond, ◌==◌, nat_lt, List, [], ◌∷◌, ◌++◌, length, take, refl, ap, sym, ◌∙◌, subst, append-nil, arith}
 use Rattle.std.specs.List.{AllByRecursion}
 use Rattle.std.proofs.Math.Seq.{length-take-le, take-add, take-append-le}
-use Rattle.std.proofs.Math.ListN.{length-append, length-take, length-drop}
-use Rattle.std.proofs.lemmas.Bool.{eqb-true, cases_eq}
+use Rattle.std.proofs.Math.ListN.{length-append}
+use Rattle.std.proofs.lemmas.Bool.{eqb-true}
 use Rattle.std.proofs.lemmas.Bool.Decides.{nat_tests}
 use Rattle.game_trait.specs.declared.command.Item.{Item}
 use Rattle.game_trait.specs.declared.event.Event.{Event}
@@ -11,10 +11,10 @@ use Rattle.game_trait.specs.Count.{times}
 use Rattle.game_trait.specs.Events.{is_arrival}
 use Rattle.game_trait.specs.Run.{beats}
 use Rattle.sync_model.specs.Lists.{last_of}
-use Rattle.sync_model.specs.State.{MirrorState, last_clock}
+use Rattle.sync_model.specs.State.{last_clock}
 use Rattle.sync_model.specs.Change.{next, after}
-use Rattle.peer_model.specs.Queue.{Sent, Queue, Part, have_of, last_time, piece, due_before, TimesRise, trimmed, with_own, heard_part, IsFront, IsPiece}
-use Rattle.peer_model.specs.Peer.{Peer, Packet, put, clock_of, bound_of, command, numbered, arrived, own, moved, forgot, heard_head, hears_part, hears_parts, is_refused, hears, counted_of, IsCounted, IsSound, IsPeer}
+use Rattle.peer_model.specs.Queue.{Sent, Queue, Part, have_of, piece, due_before, TimesRise, with_own, heard_part, IsFront, IsPiece}
+use Rattle.peer_model.specs.Peer.{Peer, Packet, put, clock_of, bound_of, numbered, arrived, own, moved, forgot, heard_head, hears_part, hears_parts, counted_of, IsPeer}
 use Rattle.peer_model.proofs.Pieces.{front-grow, own-front, own-next, trimmed-front, trimmed-have, trimmed-passed, hears-part}
 use Rattle.peer_model.proofs.Counting.{put-same, put-other, Arrives, count-all, same-counted, event-moves, moved-counted}
 

@@ -1,7 +1,7 @@
 -- Fronts and pieces of what a slot issued.
-use Rattle.std.proofs.Common.{◌≡◌, ℕ, zero, suc, ◌+◌, ◌-◌, ◌≤◌, ◌<◌, ◌⊎◌, Bool, true, false, cond, not, ◌==◌, ◌&&◌, nat_lt, List, [], ◌∷◌, ◌++◌, length, take, drop, inl, inr, refl, ap, sym, ◌∙◌, subst, append-nil, append_assoc, arith}
-use Rattle.std.proofs.Math.Seq.{length-take-le, take-take, drop-drop, take-add, take-append-le, drop-append-le, take-nil, take-length}
-use Rattle.std.proofs.Math.ListN.{length-append, length-take, length-drop, take-append-drop}
+use Rattle.std.proofs.Common.{◌≡◌, ℕ, zero, suc, ◌+◌, ◌-◌, ◌≤◌, ◌<◌, ◌⊎◌, true, false, cond, not, ◌==◌, ◌&&◌, nat_lt, List, [], ◌∷◌, ◌++◌, length, take, drop, inl, inr, refl, ap, sym, ◌∙◌, arith}
+use Rattle.std.proofs.Math.Seq.{length-take-le, take-take, drop-drop, take-add, take-append-le, drop-append-le, take-nil}
+use Rattle.std.proofs.Math.ListN.{length-append, length-take, length-drop}
 use Rattle.std.proofs.lemmas.Bool.{ltb-true, ltb-false, eq-eqb}
 use Rattle.std.proofs.lemmas.Bool.Decides.{nat_tests}
 use Rattle.game_trait.specs.Count.{times}

@@ -1,7 +1,6 @@
 -- A packet with all that is due, of which nothing is stopped, brings all that its maker sends.
-use Rattle.std.proofs.Common.{◌≡◌, ℕ, zero, suc, ◌+◌, ◌-◌, ◌≤◌, ◌<◌, max, Bool, true, false, cond, ◌==◌, ◌&&◌, nat_lt, nat_le, Option, Some, None, List, [], ◌∷◌, ◌++◌, length, take, drop, Contains, inl, inr, refl, ap, sym, ◌∙◌, subst, arith}
+use Rattle.std.proofs.Common.{◌≡◌, ℕ, suc, ◌+◌, ◌-◌, ◌≤◌, ◌<◌, max, true, false, cond, ◌==◌, ◌&&◌, nat_lt, nat_le, Some, None, List, [], ◌∷◌, length, drop, Contains, refl, ap, sym, ◌∙◌, arith}
 use Rattle.std.specs.List.{AllByRecursion}
-use Rattle.std.proofs.Math.Seq.{take_all}
 use Rattle.std.proofs.Math.ListN.{length-append, length-take, length-drop}
 use Rattle.std.proofs.lemmas.Bool.{ltb-true, ltb-false}
 use Rattle.std.proofs.lemmas.Bool.Decides.{nat_tests}
@@ -9,7 +8,7 @@ use Rattle.std.proofs.lemmas.List.Elements.{All-from_recursion, All-contains}
 use Rattle.game_trait.specs.Count.{times}
 use Rattle.game_trait.proofs.Counts.{times-most}
 use Rattle.peer_model.specs.Queue.{Sent, Queue, Part, have_of, part_of, is_behind, skipped, news, joined, heard_part}
-use Rattle.peer_model.specs.Peer.{Peer, Packet, Span, put, clock_of, bound_of, packet_of, hears_part, hears_parts, heard_head}
+use Rattle.peer_model.specs.Peer.{Peer, Span, put, clock_of, bound_of, packet_of, hears_part, hears_parts, heard_head}
 use Rattle.peer_model.specs.Net.{Net, IsSession}
 use Rattle.peer_model.specs.Due.{end_of, due_of, IsWhole, AreWhole}
 use Rattle.peer_model.proofs.Counting.{put-same}

@@ -1,20 +1,19 @@
 -- How a session begins, and names.
-use Rattle.std.proofs.Common.{◌≡◌, ℕ, zero, suc, ◌+◌, ◌-◌, ◌≤◌, ◌<◌, Bool, true, false, cond, ◌==◌, ◌&&◌, nat_lt, nat_le, List, [], ◌∷◌, ◌++◌, map, length, take, inl, inr, refl, ap, sym, ◌∙◌, subst, append-nil, arith}
-use Rattle.std.specs.List.{AllByRecursion, AllZip}
+use Rattle.std.proofs.Common.{◌≡◌, ℕ, zero, suc, ◌+◌, ◌<◌, Bool, cond, ◌==◌, ◌&&◌, nat_lt, nat_le, List, [], ◌∷◌, length, inl, inr, refl, ap, sym, ◌∙◌, subst, append-nil, arith}
+use Rattle.std.specs.List.{AllZip}
 use Rattle.std.proofs.Math.Seq.{length-take-le}
 use Rattle.std.proofs.lemmas.Bool.{cases_eq}
 use Rattle.std.proofs.lemmas.Bool.Decides.{nat_tests}
 use Rattle.game_trait.specs.declared.command.Command.{Command}
 use Rattle.game_trait.specs.Count.{times}
-use Rattle.game_trait.specs.Keys.{is_named, NamesDiffer}
-use Rattle.game_trait.specs.Run.{beats}
+use Rattle.game_trait.specs.Keys.{is_named}
 use Rattle.game_trait.proofs.Counts.{times-append}
 use Rattle.sync_model.specs.declared.turned.Turned.{Turned}
-use Rattle.sync_model.specs.State.{MirrorState, opening_state, last_clock}
+use Rattle.sync_model.specs.State.{MirrorState, opening_state}
 use Rattle.sync_model.proofs.Staggered.{opening_staggered}
-use Rattle.peer_model.specs.Queue.{Sent, Queue, new_queue, have_of, last_time, TimesRise}
-use Rattle.peer_model.specs.Peer.{Peer, new_peer, command, numbered, of_slots, counted_of, is_turned, IsAway, IsCounted, IsPeer}
-use Rattle.peer_model.specs.Net.{Net, new_net, IsUnused, IsSession}
+use Rattle.peer_model.specs.Queue.{Sent, have_of, last_time, TimesRise}
+use Rattle.peer_model.specs.Peer.{Peer, new_peer, command, numbered, of_slots, counted_of, is_turned, IsAway, IsPeer}
+use Rattle.peer_model.specs.Net.{new_net, IsUnused, IsSession}
 
 -- ---- the start
 

@@ -1,5 +1,5 @@
 -- What is due for another peer, and hearing that nothing stops.
-use Rattle.std.specs.Prelude.{◌≡◌, ℕ, suc, ◌+◌, ◌-◌, ◌≤◌, ◌<◌, Bool, true, false, max, nat_lt, nat_le, ◌==◌, ◌&&◌, if◌then◌else◌, Option, Some, None, List, [], ◌∷◌, length, drop}
+use Rattle.std.specs.Prelude.{◌≡◌, ℕ, suc, ◌+◌, ◌-◌, ◌≤◌, ◌<◌, true, max, nat_lt, nat_le, ◌==◌, ◌&&◌, if◌then◌else◌, Option, Some, None, List, [], ◌∷◌, length}
 use Rattle.game_trait.specs.Count.{times}
 use Rattle.peer_model.specs.Queue.{Sent, Queue, Part, have_of, is_behind}
 use Rattle.peer_model.specs.Peer.{Peer, Span, clock_of, bound_of, hears_part}

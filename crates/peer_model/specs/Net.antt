@@ -1,12 +1,11 @@
 -- A session of peers over a net: all that was issued, the peers, and every packet that was ever made, of which any
 -- may be heard, at any time, in any order, any number of times.
-use Rattle.std.specs.Prelude.{◌≡◌, ℕ, ◌+◌, ◌≤◌, ◌<◌, Bool, true, false, nat_lt, ◌==◌, ◌&&◌, if◌then◌else◌, Option, Some, None, List, [], ◌∷◌, ◌++◌, length, slice_get, drop}
+use Rattle.std.specs.Prelude.{◌≡◌, ℕ, ◌≤◌, ◌<◌, nat_lt, if◌then◌else◌, Option, Some, None, List, [], ◌∷◌, ◌++◌, length, slice_get, drop}
 use Rattle.std.specs.List.{AllByRecursion}
 use Rattle.game_trait.specs.declared.event.Event.{Event}
 use Rattle.game_trait.specs.Events.{is_arrival}
-use Rattle.sync_model.specs.State.{MirrorState, last_clock}
-use Rattle.sync_model.specs.Lists.{last_of}
-use Rattle.peer_model.specs.Queue.{Sent, Queue, Part, have_of, TimesRise, IsPiece}
+use Rattle.sync_model.specs.State.{MirrorState}
+use Rattle.peer_model.specs.Queue.{Sent, have_of, TimesRise, IsPiece}
 use Rattle.peer_model.specs.Peer.{Peer, Packet, Span, put, new_peer, clock_of, bound_of, own_time, own, moved, forgot, packet_of, hears, IsSound, IsPeer}
 
 pub record Net (W : Type 0) : Type 0 where

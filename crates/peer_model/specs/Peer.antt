@@ -1,5 +1,5 @@
 -- A peer, beside a mirror that remembers all, and the packets that it makes and hears.
-use Rattle.std.specs.Prelude.{◌≡◌, ℕ, zero, suc, ◌+◌, ◌-◌, ◌≤◌, ◌<◌, Bool, false, max, nat_lt, nat_le, ◌==◌, ◌&&◌, ◌||◌, if◌then◌else◌, List, [], ◌∷◌, ◌++◌, length, take, drop, map, filter}
+use Rattle.std.specs.Prelude.{◌≡◌, ℕ, zero, suc, ◌+◌, ◌-◌, ◌≤◌, ◌<◌, Bool, max, nat_lt, nat_le, ◌==◌, ◌&&◌, ◌||◌, if◌then◌else◌, List, [], ◌∷◌, ◌++◌, take, map, filter}
 use Rattle.std.specs.List.{AllByRecursion, AllZip, list_any}
 use Rattle.game_trait.specs.declared.command.Act.TheVariants.{Go}
 use Rattle.game_trait.specs.declared.command.Command.{Command}
@@ -12,7 +12,7 @@ use Rattle.sync_model.specs.declared.turned.Turned.{Turned}
 use Rattle.sync_model.specs.State.{MirrorState, last_clock}
 use Rattle.sync_model.specs.Change.{after}
 use Rattle.sync_model.specs.Staggered.{IsTrailing}
-use Rattle.peer_model.specs.Queue.{Sent, Queue, Part, new_queue, have_of, last_time, piece, dropped, trimmed, with_own, part_of, is_behind, conflicts, heard_part, IsFront, IsPiece}
+use Rattle.peer_model.specs.Queue.{Sent, Queue, Part, new_queue, have_of, last_time, piece, trimmed, with_own, part_of, conflicts, heard_part, IsFront}
 
 -- what a peer knows, by slot: its queues, what each other one is known to have, and the newest clock that was
 -- heard of it; beside them the mirror that remembers all, at which each counted command arrived

@@ -2,3 +2,6 @@
 #![tactic(auto)]
 
 pub mod laws;
+mod own;
+
+pub use own::{OwnAnswer, OwnNow, said_to_own};

@@ -8,3 +8,7 @@ pub mod PutLaws
 pub mod WalkLaws
 pub mod SnapLaws
 pub mod QueueWalks
+pub mod FillLaws
+pub mod FilledLaws
+pub mod Goes
+pub mod Cursors

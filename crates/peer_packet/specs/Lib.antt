@@ -5,3 +5,4 @@ pub mod Putting
 pub mod Snapshot
 pub mod Slots
 pub mod Fields
+pub mod Filling

@@ -3,7 +3,9 @@
 
 mod fault;
 mod fields;
+mod filling;
 mod front;
+pub mod laws;
 mod packet;
 mod part;
 mod put;
@@ -14,6 +16,7 @@ mod views;
 mod walk;
 
 pub use fault::Fault;
+pub use filling::{Commands, Piece, put_part};
 pub use front::Front;
 pub use packet::PacketView;
 pub use part::{PartHead, SentView};

@@ -418,3 +418,52 @@ fn snapshots(rt: HostRuntime) {
         assert_same(&rt, read_snapshot(*slots, bytes), (255, u16::from(*field)));
     }
 }
+
+// Five commands of a byte, all due at once.
+struct Five {
+    payload: [u8; 1],
+}
+
+impl Commands for Five {
+    ghost use Rattle.std.specs.Prelude.{replicate};
+
+    ghost commands = { λ c. replicate 5 (record { time = 0; payload = c.payload }) };
+
+    fn time(&self, _place: usize) -> u32 {
+        0
+    }
+
+    fn payload(&self, _place: usize) -> &[u8] {
+        &self.payload
+    }
+}
+
+// Where the part ends that is put of them into so much room, and how many of them are in it.
+fn put_into(room: usize) -> (u8, u16) {
+    let mut out = [0u8; 64];
+    let (front, _) = out.split_at_mut(room.min(64));
+    let piece = Piece {
+        origin: 0,
+        first: 0,
+        before: 0,
+        from: 0,
+        count: 5,
+    };
+    match put_part(front, 0, &piece, &Five { payload: [1] }) {
+        Some((behind, count)) => (behind.min(255) as u8, count.min(255) as u16),
+        None => (0, 0),
+    }
+}
+
+#[test]
+fn a_part_that_fits_by_halves(rt: HostRuntime) {
+    for (room, behind, count) in [
+        (10, 0, 0),
+        (16, 0, 0),
+        (17, 17, 1),
+        (24, 23, 2),
+        (64, 41, 5),
+    ] {
+        assert_same(&rt, put_into(room), (behind, count));
+    }
+}

@@ -1,7 +1,7 @@
 -- Beside each session of peers with windows stands one of peers that remember all.
-use Rattle.std.proofs.Common.{◌≡◌, ℕ, zero, suc, ◌+◌, ◌-◌, ◌^◌, ◌≤◌, ◌<◌, max, Bool, true, false, cond, not, ◌==◌, ◌&&◌, nat_lt, Option, Some, None, List, [], ◌∷◌, ◌++◌, length, inl, inr, refl, ap, sym, ◌∙◌, subst, arith}
+use Rattle.std.proofs.Common.{◌≡◌, ℕ, ◌+◌, ◌-◌, ◌≤◌, ◌<◌, max, Bool, true, false, cond, ◌==◌, ◌&&◌, nat_lt, Option, Some, None, List, [], ◌∷◌, ◌++◌, length, refl, ap, sym, ◌∙◌, subst, arith}
 use Rattle.std.specs.Prelude.{slice_get}
-use Rattle.std.proofs.lemmas.Bool.{and_parts, ltb-true, eqb-true}
+use Rattle.std.proofs.lemmas.Bool.{and_parts, ltb-true}
 use Rattle.game_trait.specs.declared.command.Command.{Command}
 use Rattle.game_trait.specs.declared.event.Event.TheVariants.{Tick, Arrive, Step, Restagger}
 use Rattle.game_trait.specs.Game.{Rules}
@@ -11,7 +11,7 @@ use Rattle.sync_model.specs.Change.{next, after}
 use Rattle.sync_model.proofs.Forgetting.{last-clocks}
 use Rattle.rolling_mirror.specs.Rolling.{RollState, last_tick, window_end, said_to_arrival, arrived, left_after, is_held, ticked}
 use Rattle.peer_model.specs.Queue.{Sent, Queue, have_of, last_time, with_own, trimmed}
-use Rattle.peer_model.specs.Peer.{Peer, Packet, Span, put, clock_of, bound_of, command, own_time, own, moved, forgot, packet_from, packet_of, refuses, heard_head, hears_parts, hears, IsPeer}
+use Rattle.peer_model.specs.Peer.{Peer, Packet, put, clock_of, bound_of, command, own_time, own, moved, forgot, packet_from, packet_of, refuses, heard_head, hears_parts, IsPeer}
 use Rattle.peer_model.specs.Net.{Net, Session, NetStep, Own, Move, Forget, Make, Hear, with_peer, issues, brings, happens, run, IsMade, IsSession}
 use Rattle.peer_model.proofs.Peers.{put-all, last-behind}
 use Rattle.peer_model.proofs.Nets.{all-get, none-refused, step-session}

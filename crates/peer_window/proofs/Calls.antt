@@ -1,36 +1,27 @@
 -- Each call of a peer with a window, beside the peer that remembers all.
-use Rattle.std.proofs.Common.{◌≡◌, ℕ, zero, suc, ◌+◌, ◌-◌, ◌^◌, ◌≤◌, ◌<◌, max, Bool, true, false, cond, not, ◌==◌, ◌&&◌, ◌||◌, nat_lt, nat_le, Option, Some, None, List, [], ◌∷◌, ◌++◌, length, filter, inl, inr, refl, ap, sym, ◌∙◌, subst, append-nil, arith}
-use Rattle.std.specs.Prelude.{slice_get}
-use Rattle.std.specs.List.{AllByRecursion, list_any}
-use Rattle.std.proofs.Math.ListN.{length-append}
-use Rattle.std.proofs.lemmas.Bool.{and_parts, ltb-true, ltb-false, or_parts, or_from}
+use Rattle.std.proofs.Common.{◌≡◌, ℕ, ◌+◌, ◌^◌, ◌≤◌, ◌<◌, Bool, true, false, cond, ◌==◌, nat_lt, nat_le, List, [], ◌∷◌, length, filter, refl, ap, sym, ◌∙◌, subst, arith}
+use Rattle.std.specs.List.{list_any}
+use Rattle.std.proofs.lemmas.Bool.{and_parts, ltb-true, or_parts, or_from}
 use Rattle.std.proofs.lemmas.Bool.Decides.{nat_tests}
 use Rattle.game_trait.specs.declared.command.Command.{Command}
-use Rattle.game_trait.specs.declared.event.Event.{Event}
-use Rattle.game_trait.specs.declared.event.Event.TheVariants.{Tick, Arrive, Step, Restagger}
+use Rattle.game_trait.specs.declared.event.Event.TheVariants.{Tick, Step, Restagger}
 use Rattle.game_trait.specs.Game.{Rules}
-use Rattle.game_trait.specs.Keys.{same_name, is_named}
-use Rattle.game_trait.specs.Later.{earlier, later_event, left_commands}
-use Rattle.game_trait.specs.Run.{beats}
-use Rattle.sync_model.specs.Lists.{last_of}
+use Rattle.game_trait.specs.Keys.{same_name}
+use Rattle.game_trait.specs.Later.{later_event}
 use Rattle.sync_model.specs.State.{MirrorState, last_clock}
-use Rattle.sync_model.specs.Change.{next, after, is_repeat}
+use Rattle.sync_model.specs.Change.{next, is_repeat}
 use Rattle.sync_model.specs.Staggered.{IsTrailing}
-use Rattle.sync_model.proofs.Cases.{tick-cases, step-cases, restagger-cases, next-fixed}
+use Rattle.sync_model.proofs.Cases.{step-cases, next-fixed}
 use Rattle.sync_model.proofs.Staggered.{below_limit}
 use Rattle.sync_model.proofs.Trailing.{trailing-step}
 use Rattle.sync_model.proofs.Forgetting.{as-many, last-clocks, named-later}
 use Rattle.trailing_copy.proofs.Left.{trailing-left}
-use Rattle.rolling_mirror.specs.declared.arrival.Arrival.{Arrival}
-use Rattle.rolling_mirror.specs.declared.arrival.Arrival.TheVariants.{Taken}
-use Rattle.rolling_mirror.specs.Rolling.{RollState, IsWindowOf, last_tick, window_end, said_to_arrival, arrived, left_after, rolled, is_full, forgets, ready, is_held, ticked}
+use Rattle.rolling_mirror.specs.Rolling.{RollState, IsWindowOf, last_tick, window_end, said_to_arrival, left_after, rolled, forgets, ready, is_held, ticked}
 use Rattle.rolling_mirror.proofs.Windows.{after-tick, event-window, tick-window, restagger-window, rolled-window}
-use Rattle.peer_model.specs.Queue.{Sent, Queue, Part, have_of, last_time, with_own, trimmed, TimesRise, IsPiece}
-use Rattle.peer_model.specs.Peer.{Peer, Packet, Span, put, clock_of, bound_of, command, own, moved, forgot, packet_from, refuses, is_refused, hears, IsSound, IsPeer}
+use Rattle.peer_model.specs.Peer.{IsSound}
 use Rattle.peer_model.proofs.Peers.{last-behind}
-use Rattle.peer_window.specs.Window.{RollPeer, roll_clock, is_counted, next_command, rolls_packet, IsRolled, IsWindow}
-use Rattle.peer_window.specs.Session.{roll_time, takes_own, rolls_own, rolls_forget, rolls_event}
-use Rattle.peer_window.proofs.Windows.{put-alike, rolled-before, rolled-arrival, peer-new}
+use Rattle.peer_window.specs.Window.{is_counted, IsRolled}
+use Rattle.peer_window.proofs.Windows.{rolled-before}
 
 -- ---- ticks
 

@@ -1,14 +1,13 @@
 -- How a session of peers with windows begins.
-use Rattle.std.proofs.Common.{◌≡◌, ℕ, zero, ◌+◌, ◌^◌, ◌≤◌, ◌<◌, List, [], length, get_or, refl, sym, ◌∙◌, arith}
+use Rattle.std.proofs.Common.{◌≡◌, ℕ, ◌^◌, ◌≤◌, ◌<◌, [], length, get_or, refl, arith}
 use Rattle.std.proofs.lemmas.List.{length-map}
 use Rattle.game_trait.specs.Game.{Rules}
-use Rattle.sync_model.specs.State.{MirrorState, opening_state}
+use Rattle.sync_model.specs.State.{opening_state}
 use Rattle.sync_model.proofs.Trailing.{trailing-opening}
-use Rattle.rolling_mirror.specs.Rolling.{RollState}
 use Rattle.rolling_mirror.proofs.Windows.{opening-window}
-use Rattle.peer_model.specs.Net.{new_net, IsUnused}
+use Rattle.peer_model.specs.Net.{new_net}
 use Rattle.peer_model.proofs.Starting.{opening-unused, new-session}
-use Rattle.peer_window.specs.Window.{IsRolled, IsWindow}
+use Rattle.peer_window.specs.Window.{IsRolled}
 use Rattle.peer_window.specs.Session.{Opening, whole_of, roll_of, new_roll_net, IsBeside}
 
 opening-rolled :

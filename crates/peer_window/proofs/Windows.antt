@@ -1,10 +1,9 @@
 -- What a peer with a window hears, beside the mirror that remembers all.
-use Rattle.std.proofs.Common.{◌≡◌, ℕ, zero, suc, ◌+◌, ◌-◌, ◌≤◌, ◌<◌, max, Bool, true, false, cond, not, ◌==◌, ◌&&◌, ◌||◌, nat_lt, List, [], ◌∷◌, ◌++◌, length, take, drop, filter, inl, inr, refl, ap, sym, ◌∙◌, subst, append-nil, append_assoc, arith}
+use Rattle.std.proofs.Common.{◌≡◌, ℕ, zero, suc, ◌+◌, ◌-◌, ◌≤◌, ◌<◌, max, Bool, true, false, cond, ◌==◌, nat_lt, List, [], ◌∷◌, ◌++◌, length, take, drop, filter, refl, ap, sym, ◌∙◌, subst, append-nil, append_assoc, arith}
 use Rattle.std.specs.Prelude.{IfSome}
 use Rattle.std.specs.List.{AllByRecursion, list_any}
-use Rattle.std.proofs.Math.Seq.{take-take, drop-drop, take-add}
 use Rattle.std.proofs.Math.ListN.{length-append, length-drop, length-take}
-use Rattle.std.proofs.lemmas.Bool.{and_parts, or_parts, or_from, ltb-true, ltb-false, cases_eq}
+use Rattle.std.proofs.lemmas.Bool.{and_parts, or_parts, or_from, ltb-true, ltb-false}
 use Rattle.std.proofs.lemmas.Bool.Decides.{nat_tests}
 use Rattle.game_trait.specs.declared.command.Command.{Command}
 use Rattle.game_trait.specs.declared.event.Arrived.{Arrived as Answer}
@@ -16,7 +15,7 @@ use Rattle.game_trait.specs.Run.{beats}
 use Rattle.game_trait.proofs.Counts.{times-append}
 use Rattle.sync_model.specs.State.{MirrorState, last_clock}
 use Rattle.sync_model.specs.Change.{next, after}
-use Rattle.sync_model.proofs.Cases.{away, taken, arrive-cases}
+use Rattle.sync_model.proofs.Cases.{away, arrive-cases}
 use Rattle.sync_model.proofs.Forgetting.{last-clocks}
 use Rattle.sync_model.specs.Staggered.{IsTrailing}
 use Rattle.sync_model.proofs.Trailing.{last-arrival, trailing-arrival}
@@ -24,12 +23,12 @@ use Rattle.rolling_mirror.specs.declared.arrival.Arrival.{Arrival}
 use Rattle.rolling_mirror.specs.declared.arrival.Arrival.TheVariants.{Taken, Repeat, Late, Far, Full}
 use Rattle.rolling_mirror.specs.Rolling.{RollState, IsWindowOf, last_tick, in_window, said_to_arrival, arrived, as_arrived}
 use Rattle.rolling_mirror.proofs.Arrivals.{arrival-window}
-use Rattle.peer_model.specs.Queue.{Sent, Queue, Part, have_of, last_time, piece, time_before, due_before, TimesRise, is_behind, skipped, news, joined, heard_part, IsFront, IsPiece}
+use Rattle.peer_model.specs.Queue.{Sent, Queue, Part, have_of, last_time, piece, time_before, due_before, TimesRise, is_behind, skipped, joined, heard_part, IsFront, IsPiece}
 use Rattle.peer_model.specs.Peer.{Peer, Packet, put, bound_of, command, numbered, hears_part, hears_parts, heard_head, IsPeer, IsCounted}
 use Rattle.peer_model.specs.Peer as peers
-use Rattle.peer_model.proofs.Pieces.{news-piece, before-more, piece-join, piece-rises, rise-last, hears-part}
-use Rattle.peer_model.proofs.Counting.{any-times, numbered-append, of_slots-new}
-use Rattle.peer_model.proofs.Peers.{put-all, part-goes, head-peer}
+use Rattle.peer_model.proofs.Pieces.{news-piece, before-more, piece-join, piece-rises, rise-last}
+use Rattle.peer_model.proofs.Counting.{any-times, of_slots-new}
+use Rattle.peer_model.proofs.Peers.{part-goes, head-peer}
 use Rattle.peer_window.specs.Window.{RollPeer, Heard, is_counted, next_command, counts, counts_each, rolls_part, with_heard, rolls_parts, rolls_head, rolls_packet, IsRolled, IsWindow}
 
 -- ---- a command at the mirror that remembers all

@@ -1,11 +1,12 @@
 -- A session of peers whose mirrors forget.
-use Rattle.std.specs.Prelude.{◌≡◌, ℕ, ◌+◌, ◌-◌, ◌^◌, ◌≤◌, ◌<◌, Bool, true, false, max, not, nat_lt, nat_le, ◌==◌, ◌&&◌, ◌||◌, if◌then◌else◌, Option, Some, None, List, [], ◌∷◌, ◌++◌, length, slice_get}
+use Rattle.std.specs.Prelude.{◌≡◌, ℕ, ◌+◌, ◌-◌, Bool, max, not, nat_lt, ◌==◌, ◌&&◌, ◌||◌, if◌then◌else◌, Option, Some, None, List, [], ◌∷◌, ◌++◌, length, slice_get}
 use Rattle.game_trait.specs.declared.event.Event.{Event}
 use Rattle.game_trait.specs.declared.event.Event.TheVariants.{Step, Restagger}
 use Rattle.game_trait.specs.Game.{Rules}
 use Rattle.sync_model.specs.State.{MirrorState, opening_state}
 use Rattle.rolling_mirror.specs.Rolling.{RollState, last_tick, window_end, said_to_arrival, arrived, left_after, ticked}
-use Rattle.peer_model.specs.Queue.{Sent, Queue, new_queue, have_of, last_time, with_own, trimmed}
+use Rattle.peer_model.specs.declared.own.OwnNow.{OwnNow}
+use Rattle.peer_model.specs.Queue.{Sent, new_queue, have_of, last_time, with_own, trimmed}
 use Rattle.peer_model.specs.Peer.{Packet, Span, put, packet_from, refuses}
 use Rattle.peer_model.specs.Net.{Net, Session, IsSession}
 use Rattle.peer_window.specs.Window.{RollPeer, roll_clock, next_command, rolls_packet, IsWindow}
@@ -43,6 +44,17 @@ abbrev pub takes_own : {W : Type 0} → ℕ → ℕ → ℕ → RollPeer W → B
 takes_own room me ahead v =
     nat_lt (roll_time me ahead v) (window_end v.roll)
     && (not (length (v.queues me).commands == room) && nat_lt 0 v.roll.spare)
+
+-- what decides of an own command, of a peer whose commands are taken from a clock on
+abbrev pub own_now : {W : Type 0} → ℕ → ℕ → ℕ → RollPeer W → OwnNow
+own_now room me start v = record {
+  clock = roll_clock v.roll;
+  start = start;
+  last = last_time (v.queues me).gone (v.queues me).commands;
+  have = have_of (v.queues me);
+  end = window_end v.roll;
+  is_full = (length (v.queues me).commands == room) || (v.roll.spare == 0);
+}
 
 abbrev pub rolls_own : {W : Type 0} → ℕ → Sent → RollPeer W → RollPeer W
 rolls_own me x v = record v {

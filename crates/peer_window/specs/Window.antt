@@ -1,14 +1,13 @@
 -- A peer whose mirror forgets: what it does with each call, as a function of what it remembers.
-use Rattle.std.specs.Prelude.{◌≡◌, ℕ, ◌+◌, ◌-◌, ◌^◌, ◌≤◌, ◌<◌, Bool, true, false, max, not, nat_lt, nat_le, ◌==◌, ◌&&◌, ◌||◌, if◌then◌else◌, List, [], ◌∷◌, ◌++◌, length, take, drop}
-use Rattle.std.specs.List.{list_any}
+use Rattle.std.specs.Prelude.{◌≡◌, ℕ, ◌+◌, ◌-◌, ◌^◌, ◌≤◌, ◌<◌, Bool, true, false, max, not, nat_lt, ◌==◌, ◌&&◌, if◌then◌else◌, List, [], ◌∷◌, length, drop}
 use Rattle.game_trait.specs.declared.command.Command.{Command}
 use Rattle.game_trait.specs.Game.{Rules}
 use Rattle.sync_model.specs.State.{MirrorState}
 use Rattle.sync_model.specs.Staggered.{IsTrailing}
 use Rattle.rolling_mirror.specs.declared.arrival.Arrival.{Arrival}
 use Rattle.rolling_mirror.specs.declared.arrival.Arrival.TheVariants.{Taken, Repeat, Late, Far, Full}
-use Rattle.rolling_mirror.specs.Rolling.{RollState, IsWindowOf, last_tick, window_end, said_to_arrival, arrived}
-use Rattle.peer_model.specs.Queue.{Sent, Queue, Part, have_of, last_time, with_own, is_behind, conflicts, skipped, joined}
+use Rattle.rolling_mirror.specs.Rolling.{RollState, IsWindowOf, last_tick, said_to_arrival, arrived}
+use Rattle.peer_model.specs.Queue.{Sent, Queue, Part, have_of, is_behind, skipped, joined}
 use Rattle.peer_model.specs.Peer.{Peer, Packet, put, command}
 
 -- a peer's queues, what it knows of others, and its mirror

@@ -3,11 +3,13 @@
 
 ghost use Rattle.std.specs.Prelude.{◌≡◌, ℕ, ◌^◌, ◌≤◌, ◌<◌, List, [], length, slice_index_or};
 ghost use Rattle.std.specs.List.{AllByRecursion};
-ghost use Rattle.peer_model.specs.Queue.{Sent, Part, TimesRise, IsPiece};
+ghost use Rattle.peer_model.specs.declared.own.OwnAnswer.{OwnAnswer};
+ghost use Rattle.peer_model.specs.Own.{said_to_own};
+ghost use Rattle.peer_model.specs.Queue.{Sent, Part, have_of, TimesRise, IsPiece};
 ghost use Rattle.peer_model.specs.Peer.{Peer, Packet, hears_parts, heard_head, IsPeer};
 ghost use Rattle.peer_model.specs.Net.{Net, NetStep, new_net, run};
 ghost use Rattle.peer_window.specs.Window.{RollPeer, rolls_packet, IsWindow};
-ghost use Rattle.peer_window.specs.Session.{RollNet, Terms, Call, all_calls, session_of, Opening, whole_of, roll_of, new_roll_net, IsBeside};
+ghost use Rattle.peer_window.specs.Session.{RollNet, Terms, Call, calls, all_calls, own_now, rolls_issues, session_of, Opening, whole_of, roll_of, new_roll_net, IsBeside};
 
 use game_trait::Game;
 
@@ -35,4 +37,14 @@ pub fn a_new_session_stands_beside_one<G: Game>()
     ensures { (slots n : ℕ) (opening : G) (each : ℕ → Opening)
         → ((i : ℕ) → 0 < length (slice_index_or (each i).plans 0 [])) → ((i : ℕ) → 0 < (each i).window) → 2 ^ 32 ≤ n
         → IsBeside G.rules slots (new_net (λ i. whole_of opening n (each i))) (new_roll_net (λ i. roll_of opening (each i))) }
+{}
+
+/// An own command that is taken, by all that `said_to_own` of `peer_model` looks at, is a call of the
+/// session: it is issued under that number, due at that tick.
+pub fn an_own_command_that_is_taken_is_a_call<G: Game>()
+    ensures { (c : Terms) (me start payload ahead time number : ℕ) (bytes : List ℕ) (n : RollNet G)
+        → me < c.slots
+        → said_to_own (own_now (c.room me) me start (n.peers me)) payload (length bytes) ahead ≡ OwnAnswer.Taken time number
+        → (calls G.rules c n (Call.Own me ahead bytes) ≡ rolls_issues me (record { time = time; bytes = bytes }) n)
+        × (number ≡ have_of ((n.peers me).queues me)) }
 {}
