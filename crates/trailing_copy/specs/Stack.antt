@@ -17,16 +17,8 @@ use Rattle.sync_model.specs.Forgetting.{left_run}
 use Rattle.executed_list.specs.Segments.{OneList, runs_at, end_of}
 
 -- the opening world, the match's length in ticks, the accepted commands in order of acceptance, the
--- runs of the copies from copy 0 on, and for how many more commands there is room
-pub record CopyState (W : Type 0) : Type 0 where
-  pub opening : W
-  pub ticks : ℕ
-  pub accepted : List Command
-  pub runs : List (List Item)
-  pub spare : ℕ
-
--- the same, and how many copies, from copy 0 on, have worlds that are still to be made from the copy
--- behind them
+-- runs of the copies from copy 0 on, for how many more commands there is room, and how many copies,
+-- from copy 0 on, have worlds that are still to be made from the copy behind them
 pub record LazyCopies (W : Type 0) : Type 0 where
   pub opening : W
   pub ticks : ℕ

@@ -7,9 +7,7 @@ mod due;
 mod forget;
 mod lazy;
 mod repairs;
-mod stack;
 mod ticks;
 mod worlds;
 
 pub use lazy::LazyStack;
-pub use stack::CopyStack;

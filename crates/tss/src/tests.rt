@@ -13,6 +13,7 @@ mod links;
 mod locks;
 mod mirrors;
 mod names;
+mod nets;
 mod office;
 mod orders;
 mod program;

@@ -396,13 +396,14 @@ fn raced_whole<R: Threads + Wait + Sync + Abort, P: Gate + Sync, G: Game + Shown
     printed(rt, alloc, m, mirrors.as_slice())
 }
 
-// The same of `TIES` from its opening.
-fn ties_raced<R: Threads + Wait + Sync + Abort, P: Gate + Sync>(
+// The same of a match of the arena from its opening.
+fn arena_raced<R: Threads + Wait + Sync + Abort, P: Gate + Sync>(
     rt: &R,
     alloc: Global,
+    text: &str,
     gate: &P,
 ) -> String {
-    let m = matched(rt, alloc, TIES);
+    let m = matched(rt, alloc, text);
     let opening = Arena::start(&m.setup);
     raced_whole(rt, alloc, m, &opening, gate)
 }
@@ -420,7 +421,7 @@ fn a_race_has_turns_for_all_work(rt: HostRuntime) {
 // A race has a budget, of 448 turns a job here, and each job makes its turns.
 fn assert_race<R: Threads + Wait + Sync + Abort>(rt: &R, alloc: Global) {
     let gate = counting();
-    let record = ties_raced(rt, alloc, &gate);
+    let record = arena_raced(rt, alloc, TIES, &gate);
     assert_passes(rt, "a race", &gate, 448);
     assert_legal(rt, alloc, "a race", record.as_str());
     assert_worlds(rt, "a race", record.as_str(), TIES_WORLD, 4);
@@ -431,47 +432,6 @@ fn each_job_of_a_race_makes_its_turns(rt: HostRuntime) {
     for _ in 0..20 {
         assert_race(&rt, rt.alloc());
     }
-}
-
-// A gate at which mirror 1's feeder waits before its first turn until mirror 0's has begun its 448th.
-// That one is held at clock 2, and has to make all its turns.
-#[derive(Drop)]
-struct HeldFeeder {
-    begun: AtomicU64,
-    missed: AtomicU64,
-}
-
-impl Gate for HeldFeeder {
-    fn pass(&self, mirror: u8, worker: u8, turn: u64) {
-        if (mirror, worker) == (0, 2) {
-            self.begun.fetch_add(1, Ordering::SeqCst);
-        }
-        if (mirror, worker, turn) != (1, 2, 0) {
-            return;
-        }
-        for _ in 0..200_000_000_u32 {
-            if self.begun.load(Ordering::SeqCst) >= 448 {
-                return;
-            }
-            thread::yield_now();
-        }
-        self.missed.store(1, Ordering::SeqCst);
-    }
-}
-
-#[test]
-fn a_race_uses_its_budget(rt: HostRuntime) {
-    let gate = HeldFeeder {
-        begun: AtomicU64::new(0),
-        missed: AtomicU64::new(0),
-    };
-    let record = ties_raced(&rt, rt.alloc(), &gate);
-    let turns = (
-        gate.begun.load(Ordering::SeqCst),
-        gate.missed.load(Ordering::SeqCst),
-    );
-    assert_same(&rt, turns, (448, 0), "the turns of a feeder that is held");
-    assert_legal(&rt, rt.alloc(), "a feeder is held", record.as_str());
 }
 
 // Two mirrors of two copies, with 6,656 turns for each job.
@@ -488,6 +448,55 @@ const LONG: &str = "tss match 1\n\
     cmd 60 0 1 0 right\n\
     cmd 99 1 1 1 right\n\
     end\n";
+
+// A gate at which mirror 1's feeder waits before its first turn until mirror 0's has begun so many.
+// That one is held at an early tick, and has to make all its turns.
+#[derive(Drop)]
+struct HeldFeeder {
+    turns: u64,
+    begun: AtomicU64,
+    missed: AtomicU64,
+}
+
+impl Gate for HeldFeeder {
+    fn pass(&self, mirror: u8, worker: u8, turn: u64) {
+        if (mirror, worker) == (0, 2) {
+            self.begun.fetch_add(1, Ordering::SeqCst);
+        }
+        if (mirror, worker, turn) != (1, 2, 0) {
+            return;
+        }
+        for _ in 0..200_000_000_u32 {
+            if self.begun.load(Ordering::SeqCst) >= self.turns {
+                return;
+            }
+            thread::yield_now();
+        }
+        self.missed.store(1, Ordering::SeqCst);
+    }
+}
+
+// A race of a match has so many turns for each job, and a feeder that is held makes all of them.
+fn assert_held<R: Threads + Wait + Sync + Abort>(rt: &R, alloc: Global, text: &str, turns: u64) {
+    let gate = HeldFeeder {
+        turns,
+        begun: AtomicU64::new(0),
+        missed: AtomicU64::new(0),
+    };
+    let record = arena_raced(rt, alloc, text, &gate);
+    let made = (
+        gate.begun.load(Ordering::SeqCst),
+        gate.missed.load(Ordering::SeqCst),
+    );
+    assert_same(rt, made, (turns, 0), ("the turns of a feeder that is held", text));
+    assert_legal(rt, alloc, text, record.as_str());
+}
+
+#[test]
+fn a_race_uses_its_budget(rt: HostRuntime) {
+    assert_held(&rt, rt.alloc(), TIES, 448);
+    assert_held(&rt, rt.alloc(), LONG, 6_656);
+}
 
 // A gate that holds mirror 1's feeder for a second at a turn, and counts.
 #[derive(Drop)]
@@ -622,7 +631,7 @@ fn assert_meets<R: Threads + Wait + Sync + Abort>(rt: &R, alloc: Global, inline:
         missed: AtomicU64::new(0),
     };
     let record = match inline {
-        None => ties_raced(rt, alloc, &gate),
+        None => arena_raced(rt, alloc, TIES, &gate),
         Some(job) => raced(rt, alloc, TIES, &gate, 448, job).0,
     };
     let missed = gate.missed.load(Ordering::SeqCst);
