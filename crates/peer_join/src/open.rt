@@ -6,6 +6,7 @@ ghost use Rattle.game_trait.specs.declared.command.Command.{Command};
 ghost use Rattle.game_trait.specs.declared.limits.TheConstants.{MOST_ROOM};
 ghost use Rattle.sync_model.specs.Schedule.{delays_of_each, ticks_of_first, copies_of_first};
 ghost use Rattle.sync_model.specs.State.{MirrorState, last_clock};
+ghost use Rattle.rolling_mirror.specs.Rolling.{LetsTurnsGoOn};
 ghost use Rattle.rolling_mirror.specs.Snapshot.{IsSnapshotOf, IsOpenable, opened_at};
 ghost use Rattle.peer_window.specs.Window.{IsRolled};
 ghost use Rattle.peer_join.specs.Join.{joined_mirror};
@@ -17,8 +18,8 @@ use std::alloc::Global;
 use tss_base::NoMemory;
 
 /// The mirror of a peer that joins: what `snap` tells of another one's last copy, at that copy's clock,
-/// with plans of its own, the first in force, a window of their ticks, room for `room` commands at once,
-/// and `keep` as a mirror's `new` says it. On `NoMemory` nothing is created.
+/// with plans of its own, the first in force, a window of their ticks that lets turns go on, room for
+/// `room` commands at once, and `keep` as a mirror's `new` says it. On `NoMemory` nothing is created.
 pub fn open_mirror<G: Game>(
     alloc: Global,
     snap: &SessionSnapshot<G>,
@@ -32,6 +33,7 @@ pub fn open_mirror<G: Game>(
     requires equal_copies { AllByRecursion
         (λ plan. length plan.delays ≡ copies_of_first plans.now)
         plans.now }
+    requires goes_on { AllByRecursion LetsTurnsGoOn plans.now }
     requires room { room ≤ MOST_ROOM }
     requires openable { IsOpenable snap.now plans.now room }
     requires at_base { snap.now.clock ≡ snap.now.base }
