@@ -203,9 +203,13 @@ class Claims(unittest.TestCase):
             self.assertIn(f"[`{name}`](../crates/{name})", architecture)
             page = read(os.path.join(TOP, "crates", name, "README.md"))
             self.assertTrue(page.startswith(f"# {name}\n"), name)
-            for file in os.listdir(os.path.join(TOP, "crates", name, "src")):
-                if file.endswith(".rt"):
-                    self.assertIn(f"`src/{file}`", page, name)
+
+    def test_each_crates_map_is_what_its_files_say(self):
+        printed, said, status = tool("make_maps.py")
+        self.assertEqual((said, status), ("", 0))
+        for name, lines in re.findall(r"^(\w+):\n((?:- .*\n)+)", printed, re.M):
+            self.assertIn(f"\n## Map\n\n{lines}", read(os.path.join(TOP, "crates", name, "README.md")), "python3 tools/make_maps.py --write")
+        self.assertIn("there is no crate nothing", tool("make_maps.py", "nothing")[1])
 
     def test_the_page_lists_what_the_clauses_cite(self):
         printed, said, status = tool("claim.py")
