@@ -13,7 +13,6 @@ mod links;
 mod locks;
 mod mirrors;
 mod names;
-mod nets;
 mod office;
 mod orders;
 mod program;
