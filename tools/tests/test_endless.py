@@ -84,13 +84,13 @@ class Audits(Files):
 
     def test_the_first_difference_is_told(self):
         for line, others, due in (
-            ("live bob 4 0 n 2 5 0", ["live bob 4 0 n 3 5 0"], "line 25: live bob 4 0 n 3 5 0, due live bob 4 0 n 2 5 0"),
-            ("item 1 0 gold 17", ["shot ann 4 0 e 5", "item 1 0 gold 17"], "line 26: shot ann 4 0 e 5, due item 1 0 gold 17"),
+            ("live bob 4 0 n 2 5 0", ["live bob 4 0 n 3 5 0"], "line 27: live bob 4 0 n 3 5 0, due live bob 4 0 n 2 5 0"),
+            ("item 1 0 gold 17", ["shot ann 4 0 e 5", "item 1 0 gold 17"], "line 28: shot ann 4 0 e 5, due item 1 0 gold 17"),
             ("cmd 8 1 9 1 left", ["cmd 10 1 9 1 left"], "line 20: cmd 10 1 9 1 left: its time isn't in 2 to 9"),
             ("cmd 8 1 9 1 left", ["cmd 1 1 9 1 left"], "line 20: cmd 1 1 9 1 left: its time isn't in 2 to 9"),
             ("cmd 8 1 9 1 left", ["cmd 8 1 8 1 left"], "line 20: cmd 8 1 8 1 left: its name stands above"),
-            ("cmd 8 1 9 1 left", ["cmd 2 1 9 1 left"], "line 25: live bob 4 0 n 2 5 0, due live bob 4 0 w 2 5 0"),
-            ("world 0 1 3", ["world 0 1 10"], "line 23: the last world's tick isn't in 2 to 9"),
+            ("cmd 8 1 9 1 left", ["cmd 2 1 9 1 left"], "line 27: live bob 4 0 n 2 5 0, due live bob 4 0 w 2 5 0"),
+            ("world 0 1 3", ["world 0 1 10"], "line 25: the last world's tick isn't in 2 to 9"),
         ):
             self.assertEqual(self.changed(line, *others), (f"not legal 0 {due}\n", "", 1))
 
@@ -98,7 +98,7 @@ class Audits(Files):
         for line, others, wrong in (
             ("base 0 2", ["base 2 2"], "line 12, 'base 2 2': a number isn't canonical, or out of range"), ("world 0 1 2", ["world 0 0 2"], "'world 0 1 2' is due"),
             ("shot ann 3 0 e 6", ["shot eve 3 0 e 6"], "here begins no block"), ("live bob 4 0 n 3 5 0", ["live bob 1 0 n 3 5 0"], "here begins no block"),
-            ("item 1 0 gold 18", [], "here begins no block"), ("log 0 4", ["log 0 5"], "'cmd T F N P ACT' is due"), ("log 0 4", ["log 1 4"], "mirror 0 is due"),
+            ("item 1 0 gold 18", [], "here begins no block"), ("log 0 6", ["log 0 7"], "'cmd T F N P ACT' is due"), ("log 0 6", ["log 1 6"], "mirror 0 is due"),
             ("cmd 8 1 9 1 left", ["cmd 8 1 9 1 dash"], "it is no act"), ("cmd 8 1 9 1 left", ["cmd 8 1 9 2 left"], "out of range"),
             ("done", [], "the end of the text"), ("done", ["done", "done"], "'done' is due, and then nothing"), ("end", [], "line 11: cause 2 shape"),
         ):
