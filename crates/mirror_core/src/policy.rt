@@ -40,6 +40,7 @@ impl RefreshPolicy for Eager {
     ghost use Rattle.std.specs.Prelude.{◌≡◌};
 
     ghost allows = { λ policy ended copies stale. stale ≡ 0 };
+
     ghost counts = { λ old new. old ≡ new };
 
     fn new() -> Eager {
@@ -93,6 +94,7 @@ impl RefreshPolicy for Deferred {
     ghost use Rattle.mirror_core.specs.Deferred.{AreDeferred};
 
     ghost allows = { λ policy ended copies stale. AreDeferred ended copies stale policy.looked };
+
     ghost counts = { λ old new. new.looked ≡ old.looked - 1 };
 
     fn new() -> Deferred {

@@ -488,7 +488,12 @@ fn assert_held<R: Threads + Wait + Sync + Abort>(rt: &R, alloc: Global, text: &s
         gate.begun.load(Ordering::SeqCst),
         gate.missed.load(Ordering::SeqCst),
     );
-    assert_same(rt, made, (turns, 0), ("the turns of a feeder that is held", text));
+    assert_same(
+        rt,
+        made,
+        (turns, 0),
+        ("the turns of a feeder that is held", text),
+    );
     assert_legal(rt, alloc, text, record.as_str());
 }
 
