@@ -1,18 +1,22 @@
 #!/usr/bin/env python3
-"""Draws the pictures of pages from what is there: the scheme, the layers of crates, and a race.
+"""Draws the pictures of pages from what is there: the scheme, the layers of crates, a race, and live mirrors.
 
     python3 tools/draw_pages.py scheme > docs/pictures/scheme.svg     the copies of the tour's match, and a late command
     python3 tools/draw_pages.py layers > docs/pictures/layers.svg     the crates of crates.txt, each above all that it stands on
     python3 tools/draw_pages.py race > docs/pictures/race.svg         the threads of a race, and what lies between them
+    python3 tools/draw_pages.py mirrors > docs/pictures/mirrors.svg   the processes of live mirrors, and what carries commands between them
 
-The scheme is the match of `examples/copies.match`, run by the slow model; colours of layers are the headings of docs/ARCHITECTURE.md.
+The scheme is the match of `examples/copies.match`, run by the slow model; colours of layers are the headings of docs/ARCHITECTURE.md;
+what stands in the boxes of live mirrors is what the files of tools/serving say of themselves, and the delays of `examples/arena.match`.
 Only Python's standard library is used.
 """
 
 import argparse
+import ast
 import os
 import re
 import sys
+import textwrap
 from xml.sax.saxutils import escape
 
 import slow_model
@@ -248,7 +252,60 @@ def draw_mirror(picture, left, number):
         picture.line(x + 54, 250, lock + 30 + 35 * copy, 172, arrow=True)
 
 
-PICTURES = {"scheme": scheme, "layers": layers, "race": race}
+# ---- live mirrors
+
+def said_of(name):
+    """The first sentence that a file of the tool says of itself, without its marks."""
+    said = ast.get_docstring(ast.parse(read("tools", "serving", f"{name}.py")))
+    return re.split(r"[.:](?:\s|$)", said)[0].replace("`", "").replace("\n", " ")
+
+
+def mirrors():
+    picture = Picture(900, 536, "Live mirrors on two machines: on each a page speaks with the tool over a WebSocket, and the tool over pipes with one proved process tss_mirror; between the tools links over TCP carry the commands, or a broker does")
+    for number, left in ((0, 20), (1, 540)):
+        draw_machine(picture, left, number)
+    for y, x, to, words in ((206, 346, 554, "link of mirror 0"), (250, 554, 346, "link of mirror 1")):
+        picture.line(x, y, to, y, "#1e8449", arrow=True, width=2)
+        picture.text(450, y - 8, words, "#1e8449", "middle", 12)
+    picture.text(450, 272, "TCP, each line sealed", "#1e8449", "middle", 12)
+    picture.text(450, 304, "or", PALE, "middle", 12)
+    picture.rect(390, 316, 120, 44, "#fdf3e1", "#b26a00")
+    picture.text(450, 335, "broker", anchor="middle", bold=True)
+    picture.text(450, 352, "MQTT", PALE, "middle", 12)
+    for x, to in ((346, 390), (554, 510)):
+        picture.line(x, 338, to, 338, "#b26a00", "4 3")
+    for at, (colour, stroke, words) in enumerate((("#e8eef6", "#9db4d0", "proved: each answer is the model's, whatever is told"), ("#fafafa", PALE, "tested: what carries lines, keeps the clock and draws the page"))):
+        picture.rect(20 + 390 * at, 500, 16, 16, colour, stroke)
+        picture.text(44 + 390 * at, 513, words)
+    return picture.svg()
+
+
+def draw_machine(picture, left, number):
+    delays = re.search(r"(?m)^delays (.+)$", read("examples", "arena.match")).group(1).split(" ")
+    picture.rect(left, 16, 340, 468, "white", GRID)
+    picture.text(left + 14, 38, "one machine" if number == 0 else "another machine", PALE)
+    draw_role(picture, left + 20, 50, 66, "page", "web", "#fafafa")
+    picture.rect(left + 14, 160, 312, 216, "#f4f4f4", PALE)
+    picture.text(left + 170, 180, "serve_mirrors.py", anchor="middle", bold=True)
+    for at, name in enumerate(("session", "room", "journal")):
+        draw_role(picture, left + 20, 190 + 61 * at, 56, f"{name}.py", name, "#fafafa")
+    picture.rect(left + 20, 420, 300, 52, "#e8eef6", "#9db4d0")
+    picture.text(left + 170, 441, f"tss_mirror, mirror {number}", anchor="middle", bold=True)
+    picture.text(left + 170, 460, f"copies at delays of {', '.join(delays[:-1])} and {delays[-1]} ticks", PALE, "middle", 12)
+    for y, to, words in ((116, 160, "WebSocket: acts, and the copies' worlds"), (376, 420, "pipes: requests, and their answers")):
+        picture.line(left + 40, y, left + 40, to, arrow=True)
+        picture.line(left + 56, to, left + 56, y, arrow=True)
+        picture.text(left + 70, (y + to) / 2 + 5, words, PALE, size=12)
+
+
+def draw_role(picture, x, y, height, title, file, colour):
+    picture.rect(x, y, 300, height, colour, PALE)
+    picture.text(x + 150, y + 18, title, anchor="middle", bold=True)
+    for at, words in enumerate(textwrap.wrap(said_of(file), 44)[:2]):
+        picture.text(x + 150, y + 34 + 15 * at, words, PALE, "middle", 12)
+
+
+PICTURES = {"scheme": scheme, "layers": layers, "race": race, "mirrors": mirrors}
 
 
 def main():

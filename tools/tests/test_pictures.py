@@ -4,9 +4,9 @@ import os
 import re
 import unittest
 
-from common import TOP, read, tool
+from common import TOOLS, TOP, read, tool
 
-SHOWN = {"scheme": ("README.md", "docs/TOUR.md"), "layers": ("docs/ARCHITECTURE.md",), "race": ("docs/RACE.md",)}
+SHOWN = {"scheme": ("README.md", "docs/TOUR.md"), "layers": ("docs/ARCHITECTURE.md",), "race": ("docs/RACE.md",), "mirrors": ("docs/LIVE.md",)}
 
 
 class Pictures(unittest.TestCase):
@@ -35,6 +35,12 @@ class Pictures(unittest.TestCase):
         self.assertEqual(set(at), set(below))
         for crate, others in below.items():
             self.assertTrue(all(at[crate] < at[other] for other in others if other in at), crate)
+
+    def test_live_mirrors_are_said_as_the_tools_files_say(self):
+        drawn = " ".join(re.findall(r"<text [^>]*>([^<]*)</text>", tool("draw_pages.py", "mirrors")[0]))
+        for name in ("session", "room", "web"):
+            said = re.match(r'"""([^.:]*)', read(os.path.join(TOOLS, "serving", f"{name}.py"))).group(1)
+            self.assertEqual(drawn.count(said), 2, name)
 
     def test_what_is_no_picture_is_told(self):
         out, said, status = tool("draw_pages.py", "nothing")
