@@ -181,8 +181,8 @@ def drawn(name, seed):
     rows = rows_of(name, seed)
     lines = match_of(rows, MIRRORS, [0, 6, 20], TICKS, (24, 12), {row.player: row.player for row in sorted(rows, key=lambda row: row.player)})
     lags = sorted(at - row.tick for row in rows for other, at in enumerate(row.arrivals) if other != row.mirror)
-    print(f"net {name}, seed {seed}: {MIRRORS} mirrors, {TICKS} ticks of 50 ms, {len(rows)} commands; to another mirror half took "
-          f"{lags[len(lags) // 2]} ticks or less, 99 of 100 {lags[len(lags) * 99 // 100]}, the longest {lags[-1]}; "
+    print(f"net {name}, seed {seed}: {MIRRORS} mirrors, {TICKS} ticks of 50 ms, {len(rows)} commands; latency to another mirror p50 "
+          f"{lags[len(lags) // 2]} ticks, p99 {lags[len(lags) * 99 // 100]}, max {lags[-1]}; "
           f"{sum(row.again for row in rows)} of {len(lags)} were lost and sent again")
     return Match(lines), lines
 

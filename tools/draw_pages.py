@@ -74,8 +74,8 @@ class Moment:
     def __init__(self, title, mirror, before=None):
         self.title, self.clock, self.runs, self.before = title, mirror.clock, [list(run) for run in mirror.runs], before
 
-    def rolled_back(self, copy):
-        """The tick to which a copy was rolled back: that of the first item that it has otherwise than before."""
+    def repaired_from(self, copy):
+        """The tick from which a copy was repaired: that of the first item that it has otherwise than before."""
         if self.before is None:
             return None
         old, new = self.before.runs[copy], self.runs[copy]
@@ -97,7 +97,7 @@ def tour():
         if words[0] == "turn":
             mirror.turn()
             if moments and len(moments) == 2:
-                moments.append(Moment("The last copy runs tick 1: the runs ahead begin otherwise, so both copies are rolled back", mirror, moments[-1]))
+                moments.append(Moment("The last copy runs tick 1: the runs ahead begin otherwise, so both copies are repaired", mirror, moments[-1]))
             continue
         x = match.command(int(words[2]), int(words[3]))
         if x[0] < mirror.clock:
@@ -114,7 +114,7 @@ def scheme():
     left, tick, lane, head = 150, 105, 44, 34
     height = len(moments) * (head + 3 * lane + 26) + 34
     late = next(x for x in match.commands if x[1] == 0)
-    picture = Picture(left + 7 * tick + 30, height, "Three copies of one world at delays of 0, 2 and 4 ticks: before a late command, when it arrives, and when the last copy runs its tick and both copies ahead are rolled back")
+    picture = Picture(left + 7 * tick + 30, height, "Three copies of one world at delays of 0, 2 and 4 ticks: before a late command, when it arrives, and when the last copy runs its tick and both copies ahead are repaired")
     y = 10
     for moment in moments:
         picture.text(20, y + 16, moment.title, bold=True)
@@ -123,7 +123,7 @@ def scheme():
             picture.line(left + at * tick, y + head - 6, left + at * tick, bottom, GRID, width=1)
         picture.rect(left + late[0] * tick, y + head - 6, tick, 3 * lane + 6, "#fdf3e1")
         for copy, run in enumerate(moment.runs):
-            draw_copy(picture, left, y + head + copy * lane, tick, copy, match.plans[0][copy], run, moment.rolled_back(copy))
+            draw_copy(picture, left, y + head + copy * lane, tick, copy, match.plans[0][copy], run, moment.repaired_from(copy))
         picture.line(left + moment.clock * tick, y + head - 10, left + moment.clock * tick, bottom, PALE, "4 3")
         picture.text(left + moment.clock * tick + 6, y + head + 3 * lane - 4, "clock", PALE, size=12)
         y = bottom + 26
