@@ -10,7 +10,6 @@ import unittest
 
 from common import PROGRAM, SAMPLE, TOP, Files, read, tool
 
-import drawn_nets
 import slow_model
 from schemes import Trace, bucket, lockstep, rollback, time_warp
 
@@ -191,10 +190,17 @@ class Tool(Files):
 
     def test_the_page_has_what_is_printed(self):
         page = read(os.path.join(TOP, "docs", "STUDY.md"))
-        for words in ([self.sample(), *SETS], *[["--net", net, *SETS] for net in drawn_nets.NETS]):
+        for words in ([self.sample(), *SETS], *[["--net", net, *SETS] for net in ("home", "far")]):
             printed, said, status = self.compare(*words)
             self.assertEqual((said, status), ("", 0))
             self.assertIn("".join(f"    {line}\n" for line in printed.split("\n")[:-1]), page, words)
+
+    def test_a_local_net_is_as_the_page_says(self):
+        rows = {row["title"]: row for row in self.data("--net", "lan", *SETS)}
+        self.assertEqual({row["lost"] for row in rows.values()}, {0})
+        self.assertLess(rows["lockstep"]["own_act_mean"], 0.34)
+        self.assertEqual(rows["tss 3 20"]["rollbacks"], 0)
+        self.assertGreater(min(row["worlds"] for title, row in rows.items() if title.startswith("tss")), rows["lockstep"]["worlds"])
 
     def test_the_picture_of_the_page_is_what_is_drawn(self):
         self.compare("--net", "far", *SETS, "--svg", self.path("a.svg"))
