@@ -1,4 +1,4 @@
-"""What pages quote of the specs is what stands there, and each file that the model's page names has what is told of it: python3 -m unittest discover tools/tests"""
+"""What pages quote of the specs is what stands there, each file that the model's page names has what is told of it, and pages are short: python3 -m unittest discover tools/tests"""
 
 import glob
 import os
@@ -58,7 +58,7 @@ class Model(unittest.TestCase):
         self.files = {f"{path.split(os.sep)[-3]}/specs/{os.path.basename(path)[:-5]}": defined(read(path)) for path in paths}
 
     def named(self, text):
-        first = re.match(r"\s*\*In ((?:`[\w/]+`(?:, | and )?)+)\.\*\n", text)
+        first = re.match(r"\s*\*In ((?:`[\w/]+`(?:,\s|\sand\s)?)+)\.\*\n", text)
         return re.findall(r"`([\w/]+)`", first.group(1)) if first else None
 
     def test_each_heading_has_its_files(self):
@@ -74,6 +74,18 @@ class Model(unittest.TestCase):
             here = set().union(*[self.files[name] for name in self.named(text)])
             for word in set(re.findall(r"`(\w*_\w+|Is\w+|Are\w+|DelaysRise|Fits\w*|MirrorState)`", heading + text)) & everything:
                 self.assertIn(word, here, f"{heading}: {word}")
+
+
+class Lengths(unittest.TestCase):
+    """Words outside of quoted blocks. FORMATS is a reference, TOOLS is made by a script."""
+
+    def words(self, page):
+        return len([word for line in read(page).split("\n") if not line.startswith("    ") for word in line.split()])
+
+    def test_pages_are_short(self):
+        self.assertLess(len(read(os.path.join(TOP, "README.md")).split()), 1000)
+        pages = [path for path in glob.glob(os.path.join(TOP, "docs", "*.md")) if os.path.basename(path) not in ("FORMATS.md", "TOOLS.md")]
+        self.assertLess(sum(self.words(page) for page in pages + [os.path.join(TOP, name) for name in ("README.md", "CONTRIBUTING.md")]), 18000)
 
 
 if __name__ == "__main__":
