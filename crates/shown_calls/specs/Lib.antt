@@ -1,0 +1,1 @@
+-- The clauses cite definitions of the crates that are called, and no others.
