@@ -7,7 +7,7 @@
 #include <stdlib.h>
 #include <string.h>
 #include <time.h>
-#include "tss_mirror.h"
+#include "tsync_mirror.h"
 
 enum { COPIES = 3, LENGTH = 8192, EACH = 4, COMMANDS = LENGTH * EACH, CROSSINGS = 20000000 };
 
@@ -24,12 +24,12 @@ static double now(void) {
 
 static uint64_t after(uint64_t x, uint64_t n) { return x * 31 + n; }
 
-static void set(void *h, uint8_t c, uint8_t f) {
+static void set(void *h, uint32_t c, uint32_t f) {
     (void)h;
     state[c] = state[f];
 }
 
-static void execute(void *h, uint8_t c, const tss_item *item) {
+static void execute(void *h, uint32_t c, const tsync_mirror_item *item) {
     (void)h;
     state[c] = after(state[c], item->number + item->is_beat);
 }
@@ -41,35 +41,35 @@ static uint32_t due_of(uint32_t tick, int far) {
 }
 
 static void crossings(void) {
-    tss_handle t = TSS_NONE;
+    tsync_mirror t = TSYNC_MIRROR_HANDLE;
     uint64_t sum = 0;
-    if (tss_new(&t, delays, COPIES, COPIES, LENGTH, 1000, 0).kind != TSS_MADE) exit(1);
+    if (tsync_mirror_new(&t, delays, COPIES, COPIES, LENGTH, 1000, 0).kind != TSYNC_MIRROR_MADE) exit(1);
     double start = now();
-    for (int i = 0; i < CROSSINGS; i++) sum += tss_clock(&t).kind;
-    printf("tss_clock: %.1f ns (%llu)\n", (now() - start) / CROSSINGS * 1e9, (unsigned long long)sum);
-    tss_free(&t);
+    for (int i = 0; i < CROSSINGS; i++) sum += tsync_mirror_clock(&t).kind;
+    printf("tsync_mirror_clock: %.1f ns (%llu)\n", (now() - start) / CROSSINGS * 1e9, (unsigned long long)sum);
+    tsync_mirror_free(&t);
 }
 
 /* ---- a match through the library */
 
 static void played(tally *sum, int far, int follow) {
-    tss_worlds worlds = {0, set, execute};
     uint32_t executed[COPIES] = {0}, number = 0;
-    tss_handle t = TSS_NONE;
-    if (tss_new(&t, delays, COPIES, COPIES, LENGTH, COMMANDS, 0).kind != TSS_MADE) exit(1);
+    tsync_mirror_worlds worlds = {0, set, execute, executed};
+    tsync_mirror t = TSYNC_MIRROR_HANDLE;
+    if (tsync_mirror_new(&t, delays, COPIES, COPIES, LENGTH, COMMANDS, 0).kind != TSYNC_MIRROR_MADE) exit(1);
     for (uint32_t tick = 0; tick < LENGTH + delays[COPIES - 1]; tick++) {
-        tss_answer a = tss_turn(&t);
+        tsync_mirror_answer a = tsync_mirror_turn(&t);
         sum->calls++, sum->repaired += a.value;
-        if (follow) tss_follow(&t, COPIES, a.value, executed, &worlds);
+        if (follow) tsync_mirror_follow(&t, a, &worlds);
         for (int i = 0; i < EACH && tick < LENGTH; i++) {
-            a = tss_arrive(&t, due_of(tick, far), 0, number++);
-            sum->calls++, sum->late += a.kind == TSS_LATE;
-            if (a.kind != TSS_TAKEN) continue;
+            a = tsync_mirror_arrive(&t, due_of(tick, far), 0, number++);
+            sum->calls++, sum->late += a.kind == TSYNC_MIRROR_LATE;
+            if (a.kind != TSYNC_MIRROR_TAKEN) continue;
             sum->repaired += a.value;
-            if (follow) tss_follow(&t, COPIES, a.value, executed, &worlds);
+            if (follow) tsync_mirror_follow(&t, a, &worlds);
         }
     }
-    tss_free(&t);
+    tsync_mirror_free(&t);
 }
 
 /* ---- a match in the plain engine: each tick's commands are a list in order of their numbers */

@@ -1,5 +1,5 @@
 #!/usr/bin/env python3
-"""Compares a Python host over libtss_mirror.so with `tss play`, `tss paint play`, `tss join` and `tss audit`, on drawn scripts.
+"""Compares a Python host over libtsync_mirror.so with `tss play`, `tss paint play`, `tss join` and `tss audit`, on drawn scripts.
 
     python3 compare.py LIBRARY PROGRAM [SEED] [COUNT]
 
@@ -14,7 +14,7 @@ import subprocess
 import sys
 
 sys.path.insert(0, os.path.join(os.path.dirname(os.path.abspath(__file__)), ".."))
-import tss_mirror as tss
+import tsync_mirror as tss
 from slow_model import Arena, Paint, vars_of
 from slow_words import match_of, script_of, text
 
@@ -23,7 +23,7 @@ class Host:
     """A mirror of a match, line by line."""
 
     def __init__(self, lib, match, opening):
-        self.match, self.length, self.accepted, self.repairs = match, match.length, 0, 0
+        self.match, self.length, self.accepted, self.repairs, self.late = match, match.length, 0, 0, []
         payloads = {x[1:3]: x for x in match.commands}
         room = len(match.script)
         self.mirror = tss.Mirror(lib, match.plans, match.length, room, room, opening, payloads)
@@ -51,6 +51,7 @@ class Host:
             return [f"repair {m} {answer.value}"] if answer.value else []
         if answer.kind == tss.REPEAT:
             return [f"repeat {m} {sender} {number}"]
+        self.late.append((sender, number))
         return [f"late {m} {sender} {number} {answer.value}"]
 
     def line(self, words):
@@ -97,7 +98,7 @@ class Late(Host):
     """A mirror that joins late."""
 
     def __init__(self, lib, other):
-        self.match, self.repairs = other.match, 0
+        self.match, self.repairs, self.late = other.match, 0, []
         self.start, _, _, accepted = snapshot = other.mirror.snapshot()
         self.length, self.passed = other.length - self.start, {x[:2] for x in accepted if x[2] < self.start}
         self.accepted, room = len(accepted) - len(self.passed), len(self.match.script)
@@ -113,7 +114,10 @@ class Late(Host):
         if answer.kind == tss.TAKEN:
             self.accepted, self.repairs = self.accepted + 1, self.repairs + answer.value
             return []
-        return [f"repeat {sender} {number}"] if answer.kind == tss.REPEAT else [f"late {sender} {number} {answer.value + self.start}"]
+        if answer.kind == tss.REPEAT:
+            return [f"repeat {sender} {number}"]
+        self.late.append((sender, number))
+        return [f"late {sender} {number} {answer.value + self.start}"]
 
     def along(self, words):
         """What `join` prints of a line."""
@@ -122,8 +126,9 @@ class Late(Host):
 
 
 def counts(head, host):
-    turned = sum(1 for _ in host.mirror.turned())
-    return f"{head} accepted {host.accepted} turned {turned} repairs {host.repairs}"
+    """The program notes a late command each time, the library once."""
+    assert [(x.from_, x.number) for x in host.mirror.turned()] == list(dict.fromkeys(host.late))
+    return f"{head} accepted {host.accepted} turned {len(host.late)} repairs {host.repairs}"
 
 
 def joined(lib, match, number, first):
@@ -160,8 +165,7 @@ def hosts_of(kind, lib, match, opening):
 def ends(hosts):
     lines = []
     for m, host in enumerate(hosts):
-        turned = sum(1 for _ in host.mirror.turned())
-        assert host.mirror.spare() == len(host.match.script) - host.accepted - turned
+        assert host.mirror.spare() == len(host.match.script) - host.accepted - len(set(host.late))
         assert host.accepted == sum(1 for _ in host.mirror.accepted())
         lines += [counts(f"mirror {m}", host), *host.blocks(m)]
     return lines + ["done"]

@@ -15,11 +15,11 @@ const MADE: u32 = 9;
 const NOT_LEGAL: u32 = 20;
 
 extern "C" {
-    fn tss_new(t: &mut Handle, delays: *const u32, count: usize, copies: usize, length: u32, room: u32, restaggers: u32) -> Answer;
-    fn tss_free(t: &mut Handle);
-    fn tss_turn(t: &mut Handle) -> Answer;
-    fn tss_arrive(t: &mut Handle, time: u32, from: u8, number: u32) -> Answer;
-    fn tss_items(t: &mut Handle, copy: u8, place: u32, out: *mut Item, room: usize) -> Answer;
+    fn tsync_mirror_new(t: &mut Handle, delays: *const u32, count: usize, copies: usize, length: u32, room: u32, restaggers: u32) -> Answer;
+    fn tsync_mirror_free(t: &mut Handle);
+    fn tsync_mirror_turn(t: &mut Handle) -> Answer;
+    fn tsync_mirror_arrive(t: &mut Handle, time: u32, from: u32, number: u32) -> Answer;
+    fn tsync_mirror_items(t: &mut Handle, copy: u32, place: u32, out: *mut Item, room: usize) -> Answer;
 }
 
 // A copy's world, and how many items of the copy's run it has executed.
@@ -29,14 +29,14 @@ struct World<W> { world: W, executed: u32 }
 struct Mirror<W: Clone> { handle: Handle, worlds: Vec<World<W>> }
 
 impl<W: Clone> Drop for Mirror<W> {
-    fn drop(&mut self) { unsafe { tss_free(&mut self.handle) } }
+    fn drop(&mut self) { unsafe { tsync_mirror_free(&mut self.handle) } }
 }
 
 impl<W: Clone> Mirror<W> {
     fn new(delays: &[u32], length: u32, room: u32, opening: W) -> Result<Self, u32> {
         let mut handle = Handle { engine: std::ptr::null_mut(), live: 0 };
         let world = World { world: opening, executed: 0 };
-        match unsafe { tss_new(&mut handle, delays.as_ptr(), delays.len(), delays.len(), length, room, 0) }.kind {
+        match unsafe { tsync_mirror_new(&mut handle, delays.as_ptr(), delays.len(), delays.len(), length, room, 0) }.kind {
             MADE => Ok(Mirror { handle, worlds: vec![world; delays.len()] }),
             why => Err(why),
         }
@@ -47,20 +47,22 @@ impl<W: Clone> Mirror<W> {
             let own = &mut self.worlds[k];
             let mut items = [Item::default(); 64];
             loop {
-                let n = unsafe { tss_items(&mut self.handle, k as u8, own.executed, items.as_mut_ptr(), items.len()) }.value;
+                let n = unsafe { tsync_mirror_items(&mut self.handle, k as u32, own.executed, items.as_mut_ptr(), items.len()) }.value;
                 if n == 0 { break; }
-                items[..n as usize].iter().for_each(|item| execute(&mut own.world, item));
-                own.executed += n;
+                for item in &items[..n as usize] {
+                    execute(&mut own.world, item);
+                    own.executed += 1;
+                }
             }
         }
     }
     fn turn(&mut self, execute: impl FnMut(&mut W, &Item)) -> Answer {
-        let a = unsafe { tss_turn(&mut self.handle) };
+        let a = unsafe { tsync_mirror_turn(&mut self.handle) };
         self.follow(a.value, execute);
         a
     }
-    fn arrive(&mut self, time: u32, from: u8, number: u32, execute: impl FnMut(&mut W, &Item)) -> Answer {
-        let a = unsafe { tss_arrive(&mut self.handle, time, from, number) };
+    fn arrive(&mut self, time: u32, from: u32, number: u32, execute: impl FnMut(&mut W, &Item)) -> Answer {
+        let a = unsafe { tsync_mirror_arrive(&mut self.handle, time, from, number) };
         if a.kind == TAKEN { self.follow(a.value, execute); }
         a
     }

@@ -17,12 +17,13 @@ from common import PROGRAM, TOOLS, TOP, read
 C = os.path.join(TOOLS, "c")
 SOURCES = os.path.join(TOP, "crates", "mirror_c", "src")
 SAID_BY_MISUSE = """\
-no engine: 16 16 16 16 16 16 16 16 16 16 16 16 16 16
+no engine: 16 16 16 16 16 16 16 16 16 16 16 16 16 16 16 16 16
 not legal: 20 20 20 20 20 20 20 20 20 20 20
 no joiner: 20 20 17 19 19, and no engine: 16
 joiner: 9, room 1
 made: 9
 not there: 17 17 17 17 17 17 17 17; room 0: 0
+over an engine: 20 20 17 19, clock 0, length 5, copies 2, drained 0
 beyond: 18 18
 room 2, taken: 2, again: 3, room 1
 restaggered: 7, no room: 19, plan 1
@@ -45,7 +46,7 @@ def why_not():
 
 def header():
     """The header without its comments."""
-    return re.sub(r"/\*.*?\*/", "", read(os.path.join(C, "tss_mirror.h")), flags=re.S)
+    return re.sub(r"/\*.*?\*/", "", read(os.path.join(C, "tsync_mirror.h")), flags=re.S)
 
 
 def source(name):
@@ -53,9 +54,9 @@ def source(name):
 
 
 # how a parameter or a field of the crate is passed to C
-PASSED = {"u8": ["uint8_t"], "u32": ["uint32_t"], "Tick": ["uint32_t"], "usize": ["size_t"], "Answer": ["tss_answer"], "&mut Tss": ["tss_handle *"],
+PASSED = {"u8": ["uint8_t"], "u32": ["uint32_t"], "Tick": ["uint32_t"], "usize": ["size_t"], "Answer": ["tsync_mirror_answer"], "&mut Handle": ["tsync_mirror *"],
           "&[Tick]": ["const uint32_t *", "size_t"], "Global": []}
-LISTS = {"RunItem": "tss_item", "CommandItem": "tss_command", "TurnedItem": "tss_turned_item", "HistoryItem": "tss_history_item"}
+LISTS = {"RunItem": "tsync_mirror_item", "CommandItem": "tsync_mirror_command", "TurnedItem": "tsync_mirror_turned_item", "HistoryItem": "tsync_mirror_history_item"}
 
 
 def passed(kind):
@@ -75,8 +76,8 @@ def exports():
 def prototypes():
     """What the header declares of each function."""
     found = {}
-    for answer, name, given in re.findall(r"^(tss_answer|void) (tss_\w+)\((.*?)\);", header(), re.S | re.M):
-        kinds = [re.sub(r"(\w)\s*\*\s*", r"\1 *", re.sub(r"\b(delays|count|copies|length|room|restaggers|time|from|number|copy|plan|place|out)$", "", one.strip()).strip())
+    for answer, name, given in re.findall(r"^(tsync_mirror_answer|void) (tsync_mirror_\w+)\((.*?)\);", header(), re.S | re.M):
+        kinds = [re.sub(r"(\w)\s*\*\s*", r"\1 *", re.sub(r"\b(delays|count|copies|length|room|restaggers|time|from|number|copy|plan|place|out|t)$", "", one.strip()).strip())
                  for one in given.split(",")]
         found[name] = (answer, kinds)
     return found
@@ -84,8 +85,8 @@ def prototypes():
 
 def constants():
     """The kinds of answer and of event, in the crate and in the header."""
-    ours = {f"TSS_{name}": int(n) for name, n in re.findall(r"pub const (\w+): u32 = (\d+);", source("codes.rt"))}
-    theirs = {name: int(n) for name, n in re.findall(r"(TSS_\w+) = (\d+)", header())}
+    ours = {f"TSYNC_MIRROR_{name}": int(n) for name, n in re.findall(r"pub const (\w+): u32 = (\d+);", source("codes.rt"))}
+    theirs = {name: int(n) for name, n in re.findall(r"(TSYNC_MIRROR_\w+) = (\d+)", header())}
     return ours, theirs
 
 
@@ -102,7 +103,7 @@ def fields_in_c(of):
 class Header(unittest.TestCase):
     def test_the_prototypes_are_the_exports(self):
         self.assertEqual(prototypes(), exports())
-        self.assertEqual(len(exports()), 16)
+        self.assertEqual(len(exports()), 19)
 
     def test_the_constants_are_the_crates(self):
         ours, theirs = constants()
@@ -111,16 +112,16 @@ class Header(unittest.TestCase):
 
     def test_the_structs_are_the_crates(self):
         text = source("answer.rt")
-        for ours, theirs in {"Answer": "tss_answer", **LISTS}.items():
+        for ours, theirs in {"Answer": "tsync_mirror_answer", **LISTS}.items():
             self.assertEqual(fields_in_c(theirs), fields(ours, text))
 
     def test_python_has_the_same(self):
         sys.path.insert(0, C)
-        import tss_mirror
+        import tsync_mirror
         ours, _ = constants()
-        self.assertEqual({name: getattr(tss_mirror, name[4:]) for name in ours}, ours)
+        self.assertEqual({name: getattr(tsync_mirror, name.removeprefix("TSYNC_MIRROR_")) for name in ours}, ours)
         for ours, theirs in {"Answer": "Answer", "RunItem": "Item", "CommandItem": "Command", "TurnedItem": "TurnedItem", "HistoryItem": "HistoryItem"}.items():
-            names = [name.rstrip("_") for name, _ in getattr(tss_mirror, theirs)._fields_]
+            names = [name.rstrip("_") for name, _ in getattr(tsync_mirror, theirs)._fields_]
             self.assertEqual(names, fields(ours, source("answer.rt")))
 
 
@@ -145,8 +146,8 @@ class Library(unittest.TestCase):
     def test_the_sample_ends_in_order(self):
         lines = self.said(self.path("sample")).splitlines()
         self.assertEqual(lines[-1], "equal to the time-ordered execution of what was accepted")
-        self.assertTrue(any(": kind 4 " in line for line in lines), "a command is late")
-        self.assertTrue(any(": kind 2 value 1" in line for line in lines), "a copy is repaired")
+        self.assertTrue(any(": late " in line for line in lines), "a command is late")
+        self.assertTrue(any(": taken 1" in line for line in lines), "a copy is repaired")
 
     def test_a_joiner_ends_at_the_same_worlds(self):
         lines = self.said(self.path("join")).splitlines()
@@ -156,23 +157,62 @@ class Library(unittest.TestCase):
     def test_misuse_is_answered(self):
         said = self.said(self.path("misuse"))
         self.assertEqual(said[:len(SAID_BY_MISUSE)], SAID_BY_MISUSE)
-        history, made, last, _ = said[len(SAID_BY_MISUSE):].split("\n")
+        history, made, last, *more = said[len(SAID_BY_MISUSE):].split("\n")
         self.assertEqual(history[:14], "history of 12:")
         self.assertEqual(history[14:], " arrive 0.0 for 4 restagger 1" + " tick" + " tick step 0" + " tick step 0 step 1" + " tick step 0 step 1" + " arrive 3.9 for 1")
         self.assertEqual((made, last), ("made over one that was there: 9", SAID_BY_MISUSE.split("\n")[0]))
+        self.assertEqual(more, [
+            "late: 4 4 4 4, room 1, noted 1, taken 2, then none: 19, late 4, repeat 3, other 19",
+            "too wide: 17 17 17 17 17",
+            "from within: 16, executed 1, clock 1; drained 1, executed 5",
+            "",
+        ])
 
     def test_the_rust_sample_ends_in_order(self):
         if not os.path.exists(self.path("sample_rs")):
             self.skipTest("no rustc is here")
         self.assertEqual(self.said(self.path("sample_rs")).count("|"), 8)
 
+    def test_the_header_has_no_warning(self):
+        with open(self.path("only.c"), "w") as out:
+            out.write('#include "tsync_mirror.h"\nint main(void) { return sizeof(tsync_mirror) == 16 ? 0 : 1; }\n')
+        for compiler, words in (("cc", ["-std=c99", "-x", "c"]), ("c++", ["-std=c++11", "-x", "c++"])):
+            if shutil.which(compiler):
+                self.assertEqual(self.said(compiler, *words, "-pedantic", "-Wall", "-Wextra", "-Werror", "-I", C, self.path("only.c"), "-fsyntax-only"), "")
+
+    def test_an_installed_library_is_linked(self):
+        prefix = self.path("prefix")
+        self.said(os.path.join(C, "install.sh"), prefix, self.folder.name)
+        pc = read(os.path.join(prefix, "lib", "pkgconfig", "tsync_mirror.pc"))
+        self.assertIn(f"prefix={prefix}\n", pc)
+        flags = re.search(r"^Cflags: (.*)$", pc, re.M)[1] + " " + re.search(r"^Libs: (.*)$", pc, re.M)[1]
+        flags = flags.replace("${includedir}", f"{prefix}/include").replace("${libdir}", f"{prefix}/lib")
+        self.said("cc", "-std=gnu11", os.path.join(C, "sample.c"), *flags.split(), f"-Wl,-rpath,{prefix}/lib", "-o", self.path("linked"))
+        self.assertEqual(self.said(self.path("linked")), self.said(self.path("sample")))
+        refused = subprocess.run([os.path.join(C, "install.sh"), prefix, os.path.join(prefix, "none")], capture_output=True, text=True, check=False)
+        self.assertEqual(refused.returncode, 1)
+        self.assertIn("build it by tools/c/build.sh", refused.stderr)
+
+    def test_python_refuses_what_does_not_fit(self):
+        sys.path.insert(0, C)
+        import tsync_mirror
+        lib = tsync_mirror.load(self.path("libtsync_mirror.so"))
+        for plans in ([], [[0, 3], [1]], [[0, 1 << 32]]):
+            with self.assertRaises(ValueError):
+                tsync_mirror.Mirror(lib, plans, 8, 4, 0, list, {})
+        m = tsync_mirror.Mirror(lib, [[0]], 8, 4, 0, list, {})
+        with self.assertRaises(ValueError):
+            m.arrive(1, 1 << 32, 0)
+        self.assertEqual(m.arrive(1, 300, 0).kind, tsync_mirror.NOT_THERE)
+        self.assertEqual((m.length(), m.clock(), m.drained()), (8, 0, False))
+
     def test_it_hides_what_is_not_its_own(self):
-        names = {line.split()[-1] for line in self.said("nm", "-D", "--defined-only", self.path("libtss_mirror.so")).splitlines()}
+        names = {line.split()[-1] for line in self.said("nm", "-D", "--defined-only", self.path("libtsync_mirror.so")).splitlines()}
         self.assertEqual(names, set(exports()))
 
     @unittest.skipUnless(os.path.exists(PROGRAM), "the program isn't built")
     def test_a_host_plays_as_the_program(self):
-        said = self.said(sys.executable, os.path.join(C, "compare.py"), self.path("libtss_mirror.so"), PROGRAM, "1", "40")
+        said = self.said(sys.executable, os.path.join(C, "compare.py"), self.path("libtsync_mirror.so"), PROGRAM, "1", "40")
         self.assertRegex(said, "^40 matches of seed 1, no difference: .*, joins [1-9]")
 
     @unittest.skipUnless(shutil.which("valgrind"), "no valgrind is here")

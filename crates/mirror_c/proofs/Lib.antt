@@ -1,4 +1,5 @@
 pub mod AsBox
 pub mod Joining
+pub mod Last
 pub mod Plans
 pub mod Spelled

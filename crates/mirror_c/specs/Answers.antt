@@ -1,5 +1,5 @@
 -- What C is answered, and what a call leaves.
-use Rattle.std.specs.Prelude.{ℕ, ◌-◌, ◌==◌, ◌^◌, nat_le, nat_lt, min, if◌then◌else◌, List, [], ◌∷◌, length, Option, Some, None}
+use Rattle.std.specs.Prelude.{ℕ, Bool, ◌-◌, ◌≡◌, ◌==◌, ◌&&◌, ◌^◌, nat_le, nat_lt, min, if◌then◌else◌, List, [], ◌∷◌, length, Option, Some, None}
 use Rattle.game_trait.specs.declared.command.Act.TheVariants.{Go}
 use Rattle.game_trait.specs.declared.command.Command.{Command}
 use Rattle.game_trait.specs.declared.command.Item.{Item}
@@ -11,12 +11,14 @@ use Rattle.game_trait.specs.declared.event.Reply.TheVariants.{Tick as ToTick, Ar
 use Rattle.game_trait.specs.declared.event.Ticked.TheVariants.{Moved, Over}
 use Rattle.game_trait.specs.declared.event.Arrived.TheVariants.{Taken, Repeat, Late}
 use Rattle.game_trait.specs.declared.event.Stepped.TheVariants.{Ran, Idle}
-use Rattle.sync_model.specs.State.{MirrorState}
-use Rattle.sync_model.specs.Change.{next, said, answers}
+use Rattle.std.specs.List.{list_any}
+use Rattle.sync_model.specs.State.{MirrorState, last_clock, opening_state}
+use Rattle.sync_model.specs.Change.{next, said, answers, is_repeat, is_late}
 use Rattle.sync_model.specs.Drafts.{run_of}
 use Rattle.sync_model.specs.Turns.{turn, turn_events}
 use Rattle.sync_model.specs.declared.turned.Turned.{Turned}
 use Rattle.sync_model.specs.Host.{most_repaired}
+use Rattle.mirror_c.specs.Rising.{ArePlans}
 use Rattle.mirror_c.specs.declared.answer.Answer.{Answer}
 use Rattle.mirror_c.specs.declared.answer.RunItem.{RunItem}
 use Rattle.mirror_c.specs.declared.answer.CommandItem.{CommandItem}
@@ -50,24 +52,36 @@ told_item Beat = record { is_beat = 1; from = 0; number = 0; time = 0 }
 abbrev pub command : ℕ → ℕ → ℕ → Command
 command time from number = record { time = time; number = number; from = from; player = 0; act = Go }
 
--- why an event isn't made, if it isn't
-abbrev pub refusal : {W : Type 0} → MirrorState W → Event → Option ℕ
+-- what was turned away has the mirror and number of this command
+abbrev pub has_name_of : Command → Turned → Bool
+has_name_of x a = (a.from == x.from) && (a.number == x.number)
+
+-- a command is late, as one of its mirror and number was before
+abbrev pub is_late_again : {W : Type 0} → MirrorState W → Command → Bool
+is_late_again s x = is_late s x && list_any (has_name_of x) s.turned
+
+-- what is answered to an event that isn't made: to what changes nothing, before what is refused
+abbrev pub refusal : {W : Type 0} → MirrorState W → Event → Option Answer
 refusal s Tick = None
 refusal s (Arrive x) =
-    if nat_le s.length x.time then Some BEYOND else if s.spare == 0 then Some NO_ROOM else None
-refusal s (Step c) = if nat_le (length s.runs) c then Some NOT_THERE else None
+    if is_repeat s x then Some (refused REPEAT)
+    else if is_late_again s x then Some (record { kind = LATE; value = last_clock s.runs })
+    else if nat_le s.length x.time then Some (refused BEYOND)
+    else if s.spare == 0 then Some (refused NO_ROOM)
+    else None
+refusal s (Step c) = if nat_le (length s.runs) c then Some (refused NOT_THERE) else None
 refusal s (Restagger p) =
-    if nat_le (length s.plans) p then Some NOT_THERE
-    else if s.plan_spare == 0 then Some NO_ROOM else None
+    if nat_le (length s.plans) p then Some (refused NOT_THERE)
+    else if s.plan_spare == 0 then Some (refused NO_ROOM) else None
 
--- the state that is left, and the answer, where an event is refused so
-abbrev pub left_by : {W : Type 0} → MirrorState W → Event → Option ℕ → MirrorState W
+-- the state that is left, and the answer, where an event isn't made for this answer's cause
+abbrev pub left_by : {W : Type 0} → MirrorState W → Event → Option Answer → MirrorState W
 left_by s e None = next s e
 left_by s e (Some why) = s
 
-abbrev pub answer_by : {W : Type 0} → MirrorState W → Event → Option ℕ → Answer
+abbrev pub answer_by : {W : Type 0} → MirrorState W → Event → Option Answer → Answer
 answer_by s e None = told (said s e)
-answer_by s e (Some why) = refused why
+answer_by s e (Some why) = why
 
 -- the state after a call that makes an event, and what is answered
 abbrev pub made : {W : Type 0} → MirrorState W → Event → MirrorState W
@@ -84,6 +98,29 @@ after_call (Some engine) e = Some (record { mirror = made engine.mirror e })
 abbrev pub answer_to : Option Engine → Event → Answer
 answer_to None e = refused NO_ENGINE
 answer_to (Some engine) e = answered engine.mirror e
+
+-- an arrival by a call: of a mirror whose number is a byte
+abbrev pub after_arrival : Option Engine → ℕ → ℕ → ℕ → Option Engine
+after_arrival engine time from number =
+    if nat_lt 255 from then engine else after_call engine (Arrive (command time from number))
+
+abbrev pub answer_to_arrival : Option Engine → ℕ → ℕ → ℕ → Answer
+answer_to_arrival None time from number = refused NO_ENGINE
+answer_to_arrival (Some engine) time from number =
+    if nat_lt 255 from then refused NOT_THERE
+    else answered engine.mirror (Arrive (command time from number))
+
+-- an engine of the plans that these delays spell, before any event
+abbrev pub IsOpened : List ℕ → ℕ → ℕ → ℕ → ℕ → Engine → Type 0
+IsOpened delays copies ticks room restaggers engine =
+    ArePlans delays copies ticks engine.mirror.plans
+    × (engine.mirror
+    ≡ opening_state engine.mirror.opening ticks engine.mirror.plans room restaggers)
+
+abbrev pub IsMade : List ℕ → ℕ → ℕ → ℕ → ℕ → Option Engine → Type 0
+IsMade delays copies ticks room restaggers None = ⊥
+IsMade delays copies ticks room restaggers (Some engine) =
+    IsOpened delays copies ticks room restaggers engine
 
 -- what a question to a handle is answered
 abbrev pub answer_from : Option Engine → (MirrorState Blank → Answer) → Answer

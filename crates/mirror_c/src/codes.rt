@@ -1,4 +1,4 @@
-//! The kinds of answer and of event, as `tss_mirror.h` names them.
+//! The kinds of answer and of event, as `tsync_mirror.h` names them.
 
 /// The clock went on by one tick.
 pub const MOVED: u32 = 0;
@@ -33,7 +33,7 @@ pub const MADE: u32 = 9;
 /// The handle holds no engine.
 pub const NO_ENGINE: u32 = 16;
 
-/// The copy, the plan or the place isn't there.
+/// The copy, the plan, the place or the mirror isn't there.
 pub const NOT_THERE: u32 = 17;
 
 /// The command is due at the match's end or later.

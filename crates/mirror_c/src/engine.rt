@@ -1,20 +1,20 @@
 //! A mirror whose host keeps the worlds.
 
-ghost use Rattle.std.specs.Prelude.{◌≡◌, ℕ, ◌+◌, ◌-◌, ◌<◌, ◌≤◌, ◌⊎◌, ◌↔◌, Err, length, slice_get, option_map, IfOk, IfErr};
+ghost use Rattle.std.specs.Prelude.{◌≡◌, ℕ, ◌+◌, ◌-◌, ◌<◌, ◌≤◌, ◌⊎◌, ◌↔◌, if◌then◌else◌, Err, length, slice_get, option_map, IfOk, IfErr};
 ghost use Rattle.game_trait.specs.Run.{beats};
-ghost use Rattle.sync_model.specs.State.{opening_state};
+ghost use Rattle.sync_model.specs.State.{opening_state, last_clock};
 ghost use Rattle.sync_model.specs.Drafts.{run_of};
 ghost use Rattle.mirror_c.specs.Rising.{ArePlans, IsLegal};
-ghost use Rattle.sync_model.specs.Turns.{turn};
-ghost use Rattle.mirror_c.specs.Answers.{made, answered, turned_answer, of_copy, valued, told_item, told_command, told_turned, told_event, items_answer, items_put, put_answer, put_of};
+ghost use Rattle.sync_model.specs.Turns.{turn, is_drained};
+ghost use Rattle.mirror_c.specs.Answers.{made, answered, refusal, turned_answer, of_copy, valued, told_item, told_command, told_turned, told_event, items_answer, items_put, put_answer, put_of};
 
 use crate::answer::{
     Answer, CommandItem, HistoryItem, RunItem, TurnedItem, bare, item_for_c, told_arrival,
     told_step, told_tick, value,
 };
 use crate::blank::Blank;
-use crate::codes::{BEYOND, NO_MEMORY, NO_ROOM, NOT_LEGAL, NOT_THERE, RESTAGGERED};
-use crate::listed::{accepted_from, events_from, fitting, turned_from};
+use crate::codes::{BEYOND, LATE, NO_MEMORY, NO_ROOM, NOT_LEGAL, NOT_THERE, REPEAT, RESTAGGERED};
+use crate::listed::{accepted_from, events_from, fitting, turned_from, was_turned};
 use crate::plan::plans_of;
 use crate::turns::told_turn;
 use game_trait::limits::MOST_ROOM;
@@ -68,43 +68,75 @@ impl Engine {
         told_tick(self.mirror.tick())
     }
 
-    /// A command arrives.
+    // The last copy's clock.
+    fn last_clock(&self) -> Tick
+        ensures { result ≡ last_clock self.now.mirror.runs }
+    {
+        self.mirror.always();
+        self.mirror.copy_clock(self.mirror.copies() - 1)
+    }
+
+    // What is answered to an arrival that isn't made: a repeat, one that is late again, one that is
+    // due past the end, or one for which there is no room.
+    #[tactic(auto, unfolding(game_trait::specs::Keys::same_name))]
+    fn refusal(&self, x: &Command) -> Option<Answer>
+        ensures { result ≡ refusal self.now.mirror (Event.Arrive x.now) }
+    {
+        if self.mirror.has(x.from, x.number) {
+            return Some(bare(REPEAT));
+        }
+        let bound = self.last_clock();
+        if x.time < bound && was_turned(self.mirror.turned(), x) {
+            return Some(Answer {
+                kind: LATE,
+                value: bound,
+            });
+        }
+        if x.time >= self.mirror.length() {
+            return Some(bare(BEYOND));
+        }
+        if self.mirror.spare() == 0 {
+            return Some(bare(NO_ROOM));
+        }
+        None
+    }
+
+    /// A command arrives. One that was turned away before, and is late again, is answered so and is
+    /// not noted a second time; it is looked for in all that was turned away.
     pub fn arrive(&mut self, x: &Command) -> Answer
         ensures state { self.new.mirror ≡ made self.old.mirror (Event.Arrive x.now) }
         ensures answer { result ≡ answered self.old.mirror (Event.Arrive x.now) }
     {
-        if x.time >= self.mirror.length() {
-            return bare(BEYOND);
+        match self.refusal(x) {
+            Some(why) => why,
+            None => told_arrival(self.mirror.arrive(x)),
         }
-        if self.mirror.spare() == 0 {
-            return bare(NO_ROOM);
-        }
-        told_arrival(self.mirror.arrive(x))
     }
 
     /// A copy runs a tick, where it may.
-    pub fn step(&mut self, copy: u8) -> Answer
+    pub fn step(&mut self, copy: u32) -> Answer
         ensures state { self.new.mirror ≡ made self.old.mirror (Event.Step copy) }
         ensures answer { result ≡ answered self.old.mirror (Event.Step copy) }
     {
-        if copy >= self.mirror.copies() {
+        if copy >= u32::from(self.mirror.copies()) {
             return bare(NOT_THERE);
         }
-        told_step(self.mirror.step(copy))
+        told_step(self.mirror.step(copy as u8))
     }
 
     /// Another plan is in force.
-    pub fn restagger(&mut self, plan: u8) -> Answer
+    pub fn restagger(&mut self, plan: u32) -> Answer
         ensures state { self.new.mirror ≡ made self.old.mirror (Event.Restagger plan) }
         ensures answer { result ≡ answered self.old.mirror (Event.Restagger plan) }
     {
-        if usize::from(plan) >= self.mirror.plans() {
+        if plan as usize >= self.mirror.plans() {
             return bare(NOT_THERE);
         }
         if self.mirror.plan_spare() == 0 {
             return bare(NO_ROOM);
         }
-        self.mirror.restagger(plan);
+        self.mirror.always();
+        self.mirror.restagger(plan as u8);
         bare(RESTAGGERED)
     }
 
@@ -172,6 +204,30 @@ impl Engine {
         events_from(self.mirror.events(), place, out)
     }
 
+    /// The match's length, in ticks.
+    pub fn length(&self) -> Answer
+        ensures { result ≡ valued self.now.mirror.length }
+    {
+        value(self.mirror.length())
+    }
+
+    /// How many copies there are.
+    pub fn copies(&self) -> Answer
+        ensures { result ≡ valued (length self.now.mirror.runs) }
+    {
+        value(u32::from(self.mirror.copies()))
+    }
+
+    /// Whether each copy has run the whole match: 1 or 0.
+    pub fn drained(&self) -> Answer
+        ensures { result ≡ valued (if is_drained self.now.mirror then 1 else 0) }
+    {
+        if self.mirror.drained() {
+            return value(1);
+        }
+        value(0)
+    }
+
     /// The clock.
     pub fn clock(&self) -> Answer
         ensures { result ≡ valued self.now.mirror.clock }
@@ -180,28 +236,28 @@ impl Engine {
     }
 
     /// A copy's clock.
-    pub fn copy_clock(&self, copy: u8) -> Answer
+    pub fn copy_clock(&self, copy: u32) -> Answer
         ensures { result ≡ of_copy copy beats self.now.mirror }
     {
-        if copy >= self.mirror.copies() {
+        if copy >= u32::from(self.mirror.copies()) {
             return bare(NOT_THERE);
         }
-        value(self.mirror.copy_clock(copy))
+        value(self.mirror.copy_clock(copy as u8))
     }
 
     /// How many items a copy has run.
-    pub fn run_len(&self, copy: u8) -> Answer
+    pub fn run_len(&self, copy: u32) -> Answer
         ensures { result ≡ of_copy copy length self.now.mirror }
     {
-        if copy >= self.mirror.copies() {
+        if copy >= u32::from(self.mirror.copies()) {
             return bare(NOT_THERE);
         }
-        value(self.mirror.run_len(copy))
+        value(self.mirror.run_len(copy as u8))
     }
 
     /// Puts the items of a copy's run from a place on into the front of `out`, as many as there are
     /// and it holds, and tells how many.
-    pub fn items(&self, copy: u8, place: u32, out: &mut [RunItem]) -> Answer
+    pub fn items(&self, copy: u32, place: u32, out: &mut [RunItem]) -> Answer
         ensures answer { result ≡ items_answer copy place (length out.old) self.now.mirror }
         ensures length { length out.new ≡ length out.old }
         ensures items { (j : ℕ) → j < items_put copy place (length out.old) self.now.mirror
@@ -210,15 +266,15 @@ impl Engine {
         ensures rest { (j : ℕ) → items_put copy place (length out.old) self.now.mirror ≤ j
             → slice_get out.new j ≡ slice_get out.old j }
     {
-        if copy >= self.mirror.copies() {
+        if copy >= u32::from(self.mirror.copies()) {
             return bare(NOT_THERE);
         }
-        let end = self.mirror.run_len(copy);
+        let end = self.mirror.run_len(copy as u8);
         if place > end {
             return bare(NOT_THERE);
         }
         let count = (end - place).min(fitting(out.len()));
-        put_items(&self.mirror, copy, place, place + count, out);
+        put_items(&self.mirror, copy as u8, place, place + count, out);
         value(count)
     }
 }

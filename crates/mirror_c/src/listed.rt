@@ -1,7 +1,8 @@
 //! Lists of a mirror, put into what C gives.
 
 ghost use Rattle.std.specs.Prelude.{◌≡◌, ℕ, ◌+◌, ◌-◌, ◌^◌, ◌<◌, ◌≤◌, min, length, slice_get, option_map};
-ghost use Rattle.mirror_c.specs.Answers.{told_command, told_turned, told_event, put_of, put_answer};
+ghost use Rattle.std.specs.List.{list_any};
+ghost use Rattle.mirror_c.specs.Answers.{has_name_of, told_command, told_turned, told_event, put_of, put_answer};
 
 use crate::answer::{
     Answer, CommandItem, HistoryItem, TurnedItem, bare, command_for_c, event_for_c, turned_for_c,
@@ -20,6 +21,15 @@ pub fn fitting(len: usize) -> u32
     } else {
         len as u32
     }
+}
+
+/// Whether a command with this one's mirror and number was turned away.
+pub fn was_turned(turned: &[Turned], x: &Command) -> bool
+    ensures { result ≡ list_any (has_name_of x.now) turned.now }
+{
+    turned
+        .iter()
+        .any(|a| a.from == x.from && a.number == x.number)
 }
 
 // How many of a list of so many are put from a place on, which is there.
