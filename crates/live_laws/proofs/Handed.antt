@@ -40,7 +40,7 @@ front-all : {X : Type 0} (P : X → Type 0) (xs ys : List X) → AllByRecursion 
 front-all P [] ys all = tt
 front-all P (x ∷ xs) ys all = (all.0, front-all P xs ys all.1)
 
-last-all : {X : Type 0} (P : X → Type 0) (xs : List X) (y : X) → AllByRecursion P (xs ++ y ∷ []) → P y
+pub last-all : {X : Type 0} (P : X → Type 0) (xs : List X) (y : X) → AllByRecursion P (xs ++ y ∷ []) → P y
 last-all P [] y all = all.0
 last-all P (x ∷ xs) y all = last-all P xs y all.1
 

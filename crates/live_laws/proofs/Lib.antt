@@ -1,3 +1,4 @@
+mod Anew
 mod Audited
 mod Bounds
 mod EndLaws

@@ -1,7 +1,7 @@
 //! What live mirrors told is legal for `audit`. Each is the contract of a function without parameters
 //! that does nothing.
 
-ghost use Rattle.std.specs.Prelude.{◌≡◌, ◌+◌, ◌++◌, ◌<◌, ◌≤◌, ◌↔◌, ℕ, false, true, Contains, List, [], Ok, length};
+ghost use Rattle.std.specs.Prelude.{◌≡◌, ◌+◌, ◌++◌, ◌<◌, ◌≤◌, ◌↔◌, ℕ, false, true, Contains, List, [], Ok, length, map};
 ghost use Rattle.std.specs.List.{AllByRecursion};
 ghost use Rattle.game_trait.specs.declared.command.Act.{Act};
 ghost use Rattle.game_trait.specs.declared.command.Command.{Command};
@@ -36,7 +36,7 @@ ghost use Rattle.command_lines.specs.CommandLine.{command_line};
 ghost use Rattle.live_mirror.specs.Events.{after_requests, FitAlong};
 ghost use Rattle.live_laws.specs.Events.{IsAmong, audited_from};
 ghost use Rattle.live_mirror.specs.Led.{IsOfSetup};
-ghost use Rattle.live_mirror.specs.Session.{SessionState, after_request, opening_session, own_command, terms_of};
+ghost use Rattle.live_mirror.specs.Session.{AreBelow, SessionState, after_request, opening_session, own_command, terms_of};
 ghost use Rattle.live_laws.specs.Record.{AreAllEnds, AreEnds, MayBeCommands, put_together, record_of, with_commands};
 ghost use Rattle.live_laws.specs.Talks.{EndedTalk, IsTalkOf, AreTalksOf, ArrivedAtOne, AreTheCommands, AreAllTalks, HasThemAll, states_of};
 ghost use Rattle.live_mirror.specs.Told.{answer_text, record_part};
@@ -176,6 +176,22 @@ pub fn others_read_what_own_tells<G: Begins>()
         → IsOfSetup G.opening m t.session → IsMatch m → IsCommand m x
         → 0 < t.session.mirror.spare
         → request_at (terms_of t.session) (command_line x) ≡ Ok (requests.Cmd x) }
+{}
+
+/// A mirror that begins anew before its first tick goes on. Handed the commands that another one told to
+/// `commands`, each as a request, it has accepted just these, in that order, and turned none away; and
+/// the numbers of its own among them are below that of its next one. No two of them have one name,
+/// since a mirror accepts no two that have.
+pub fn a_mirror_begins_anew<G: Begins>()
+    ensures told { (number : ℕ) (bytes : List ℕ) (t : TalkState (SessionState G))
+        → (live_heard (staging G.rules G.lines G.opening) number bytes).state.place ≡ asking t
+        → NamesDiffer t.session.mirror.accepted }
+    ensures handed { (opening : G) (m : MatchData) (number : ℕ) (commands : List Command)
+        → IsMatch m → NamesDiffer commands
+        → let start = opening_session opening m number in
+        let asked = map (λ x. requests.Cmd x) commands in
+        FitAlong start asked → let then = after_requests start asked in
+        (then.mirror.accepted ≡ commands) × (then.mirror.turned ≡ []) × AreBelow then }
 {}
 
 /// What is asked of talks for the laws of ends is nothing but these facts.

@@ -1,6 +1,7 @@
 //! Tests of the program over a peer in memory.
 
 mod endless;
+mod exits;
 mod limits;
 mod painting;
 mod refusals;
