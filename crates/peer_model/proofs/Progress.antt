@@ -10,7 +10,7 @@ use Rattle.game_trait.proofs.Counts.{times-most}
 use Rattle.peer_model.specs.Queue.{Sent, Queue, Part, have_of, part_of, is_behind, skipped, news, joined, heard_part}
 use Rattle.peer_model.specs.Peer.{Peer, Span, put, clock_of, bound_of, packet_of, hears_part, hears_parts, heard_head}
 use Rattle.peer_model.specs.Net.{Net, IsSession}
-use Rattle.peer_model.specs.Due.{end_of, due_of, IsWhole, AreWhole}
+use Rattle.peer_model.specs.Due.{end_from, end_of, due_of, IsWhole, AreWhole}
 use Rattle.peer_model.proofs.Counting.{put-same}
 use Rattle.peer_model.proofs.Peers.{put-all}
 
@@ -80,10 +80,12 @@ parts-whole log most (p ∷ ps) m h =
     (omega arith, parts-whole log (λ place. most (suc place)) ps next h.1)
 
 -- the end of what is sent is no more than what was counted, and no less than what is remembered
-end-within : {W : Type 0} (me relay o : ℕ) (m : Peer W) → ((m.queues o).kept ≤ end_of me relay o m) × (end_of me relay o m ≤ have_of (m.queues o))
-end-within me relay o m =
-    let most = times-most (λ (x : Sent). nat_le (x.time + relay) (clock_of m)) (m.queues o).commands in
-    elim (o == me) as (λ v. ((m.queues o).kept ≤ cond v (have_of (m.queues o)) ((m.queues o).kept + times (λ (x : Sent). nat_le (x.time + relay) (clock_of m)) (m.queues o).commands)) × (cond v (have_of (m.queues o)) ((m.queues o).kept + times (λ (x : Sent). nat_le (x.time + relay) (clock_of m)) (m.queues o).commands) ≤ have_of (m.queues o)))
+pub end-within : (me relay o : ℕ) (queues : ℕ → Queue) (clock : ℕ) → ((queues o).kept ≤ end_from me relay o queues clock) × (end_from me relay o queues clock ≤ have_of (queues o))
+end-within me relay o queues clock =
+    let q = queues o in
+    let passed_on = times (λ (x : Sent). nat_le (x.time + relay) clock) q.commands in
+    let most = times-most (λ (x : Sent). nat_le (x.time + relay) clock) q.commands in
+    elim (o == me) as (λ v. (q.kept ≤ cond v (have_of q) (q.kept + passed_on)) × (cond v (have_of q) (q.kept + passed_on) ≤ have_of q))
     [ true ↦ (omega arith, omega arith) | false ↦ (omega arith, omega arith) ]
 
 -- what the other has, where what is due is in a packet and nothing of it stopped
@@ -102,7 +104,7 @@ due-brings {W} slots me relay to o spans most n s whole has =
     let k = m.known to o in
     let first = max k q.kept in
     let done = hears_parts n.log most p.parts h in
-    let within = end-within me relay o m in
+    let within = end-within me relay o m.queues (clock_of m) in
     let up = parts-grow n.log most p.parts h o in
     let known = s.known me to o in
     let all = All-from_recursion (λ (a : Part). a.first + length a.commands ≤ have_of (done.queues a.origin)) p.parts (parts-whole n.log most p.parts h whole) in

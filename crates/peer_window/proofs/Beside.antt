@@ -15,8 +15,8 @@ use Rattle.peer_model.specs.Peer.{Peer, Packet, put, clock_of, bound_of, command
 use Rattle.peer_model.specs.Net.{Net, Session, NetStep, Own, Move, Forget, Make, Hear, with_peer, issues, brings, happens, run, IsMade, IsSession}
 use Rattle.peer_model.proofs.Peers.{put-all, last-behind}
 use Rattle.peer_model.proofs.Nets.{all-get, none-refused, step-session}
-use Rattle.peer_window.specs.Window.{RollPeer, roll_clock, next_command, rolls_packet, IsRolled, IsWindow}
-use Rattle.peer_window.specs.Session.{RollNet, Terms, Call, roll_time, takes_own, rolls_own, with_roll, rolls_issues, rolls_forget, rolls_event, rolls_hear, rolls_bring, calls, all_calls, session_of, IsBeside}
+use Rattle.peer_window.specs.Window.{RollPeer, roll_clock, next_command, stops_of, rolls_head, rolls_packet, IsRolled, IsWindow}
+use Rattle.peer_window.specs.Session.{RollNet, Terms, Call, roll_time, takes_own, rolls_own, with_roll, rolls_issues, rolls_forget, rolls_event, rolls_hear, rolls_bring, calls, all_calls, bring_steps, steps_of, all_steps, session_of, IsBeside}
 use Rattle.peer_window.specs.Session as call
 use Rattle.peer_window.proofs.Windows.{put-alike, rolled-arrival, peer-new, packet-window}
 use Rattle.peer_window.proofs.Calls.{ticked-rolled, step-rolled, restagger-rolled, own-counted}
@@ -28,15 +28,15 @@ put-two P o a b f g here all i = elim (i == o) as (λ v. P (cond v a (f i)) (con
 beside-one :
     {W : Type 0} (rules : Rules W) (c : Session) (n : Net W) (v : RollNet W) (e : NetStep) → IsSession c.slots n
     → ((o : ℕ) → v.log o ≡ (happens c n e).log o) → v.packets ≡ (happens c n e).packets → ((i : ℕ) → IsWindow rules ((happens c n e).peers i) (v.peers i))
-    → (fs : List NetStep) × IsBeside rules c.slots (run c n fs) v
+    → IsBeside rules c.slots (run c n (e ∷ [])) v
 unfolding run
-beside-one rules c n v e s log packets peers = (e ∷ [], record { session = step-session c n e s; log = log; packets = packets; peers = peers })
+beside-one rules c n v e s log packets peers = record { session = step-session c n e s; log = log; packets = packets; peers = peers }
 
 -- or none
 beside-none :
-    {W : Type 0} (rules : Rules W) (c : Session) (n : Net W) (v : RollNet W) → IsBeside rules c.slots n v → (fs : List NetStep) × IsBeside rules c.slots (run c n fs) v
+    {W : Type 0} (rules : Rules W) (c : Session) (n : Net W) (v : RollNet W) → IsBeside rules c.slots n v → IsBeside rules c.slots (run c n []) v
 unfolding run
-beside-none rules c n v h = ([], h)
+beside-none rules c n v h = h
 
 -- ---- one peer
 
@@ -76,7 +76,7 @@ clock-is rules m v w = sym w.rolled.window.clock
 own-beside :
     {W : Type 0} (rules : Rules W) (c : Terms) (me ahead : ℕ) (bytes : List ℕ) (n : Net W) (v : RollNet W) → IsBeside rules c.slots n v
     → (nat_lt me c.slots && takes_own (c.room me) me ahead (v.peers me)) ≡ true
-    → (fs : List NetStep) × IsBeside rules c.slots (run (session_of c) n fs) (rolls_issues me (record { time = roll_time me ahead (v.peers me); bytes = bytes }) v)
+    → IsBeside rules c.slots (run (session_of c) n (Own me ahead bytes ∷ [])) (rolls_issues me (record { time = roll_time me ahead (v.peers me); bytes = bytes }) v)
 own-beside {W} rules c me ahead bytes n v h e =
     let m = n.peers me in
     let p = v.peers me in
@@ -106,14 +106,14 @@ own-beside {W} rules c me ahead bytes n v h e =
 
 tick-beside :
     {W : Type 0} (rules : Rules W) (c : Terms) (me : ℕ) (n : Net W) (v : RollNet W) → IsBeside rules c.slots n v
-    → (fs : List NetStep) × IsBeside rules c.slots (run (session_of c) n fs) (with_roll me (record (v.peers me) { roll = ticked rules (v.peers me).roll }) v)
+    → IsBeside rules c.slots (run (session_of c) n (cond (is_held (v.peers me).roll) [] (Move me Tick ∷ []))) (with_roll me (record (v.peers me) { roll = ticked rules (v.peers me).roll }) v)
 unfolding after
 tick-beside {W} rules c me n v h =
     let m = n.peers me in
     let p = v.peers me in
     let w = h.peers me in
     let out = with_roll me (record p { roll = ticked rules p.roll }) v in
-    elim (is_held p.roll) as (λ b. is_held p.roll ≡ b → (fs : List NetStep) × IsBeside rules c.slots (run (session_of c) n fs) out) [
+    elim (is_held p.roll) as (λ b. is_held p.roll ≡ b → IsBeside rules c.slots (run (session_of c) n (cond b [] (Move me Tick ∷ []))) out) [
       | true ↦ λ e.
           let still : p.roll ≡ ticked rules p.roll = rw e refl in
           let here : IsWindow rules m (record p { roll = ticked rules p.roll }) =
@@ -133,7 +133,7 @@ tick-beside {W} rules c me n v h =
 
 step-beside :
     {W : Type 0} (rules : Rules W) (c : Terms) (me copy : ℕ) (n : Net W) (v : RollNet W) → IsBeside rules c.slots n v → copy < length (v.peers me).roll.left.runs
-    → (fs : List NetStep) × IsBeside rules c.slots (run (session_of c) n fs) (with_roll me (rolls_event (Step copy) (v.peers me)) v)
+    → IsBeside rules c.slots (run (session_of c) n (Move me (Step copy) ∷ [])) (with_roll me (rolls_event (Step copy) (v.peers me)) v)
 unfolding after
 step-beside rules c me copy n v h there =
     let m = n.peers me in
@@ -145,7 +145,7 @@ step-beside rules c me copy n v h there =
 
 restagger-beside :
     {W : Type 0} (rules : Rules W) (c : Terms) (me plan : ℕ) (n : Net W) (v : RollNet W) → IsBeside rules c.slots n v
-    → (fs : List NetStep) × IsBeside rules c.slots (run (session_of c) n fs) (with_roll me (rolls_event (Restagger plan) (v.peers me)) v)
+    → IsBeside rules c.slots (run (session_of c) n (Move me (Restagger plan) ∷ [])) (with_roll me (rolls_event (Restagger plan) (v.peers me)) v)
 unfolding after
 restagger-beside rules c me plan n v h =
     let m = n.peers me in
@@ -157,7 +157,7 @@ restagger-beside rules c me plan n v h =
 
 hear-beside :
     {W : Type 0} (rules : Rules W) (c : Terms) (which : ℕ) (p : Packet) (n : Net W) (v : RollNet W) → IsBeside rules c.slots n v → slice_get v.packets which ≡ Some p
-    → (fs : List NetStep) × IsBeside rules c.slots (run (session_of c) n fs) (with_roll p.to (rolls_hear (c.room p.to) p (v.peers p.to)) v)
+    → IsBeside rules c.slots (run (session_of c) n (Hear which (stops_of (c.room p.to) p.parts (rolls_head p (v.peers p.to))) ∷ [])) (with_roll p.to (rolls_hear (c.room p.to) p (v.peers p.to)) v)
 hear-beside {W} rules c which p n v h found =
     let m = n.peers p.to in
     let q = v.peers p.to in
@@ -169,14 +169,15 @@ hear-beside {W} rules c which p n v h found =
     let clock = clock-is rules m q w in
     let none_here : refuses p.to p q.queues (roll_clock q.roll) ≡ false = (λ i. refuses p.to p (λ o. w.queues o i) (clock i)) ∙ none in
     let window = packet-window rules c.slots (c.room p.to) n.log p m q s.rise (s.peers p.to) made.there made.pieces w in
-    let new = hears_parts n.log window.0 p.parts (heard_head p m) in
+    let most = stops_of (c.room p.to) p.parts (rolls_head p q) in
+    let new = hears_parts n.log most p.parts (heard_head p m) in
     let rolled = rolls_packet (c.room p.to) p q in
-    let is : happens (session_of c) n (Hear which window.0) ≡ with_peer p.to new n =
-    ap (λ (o : Option Packet). brings window.0 o n) there ∙ ap (λ (b : Bool). with_peer p.to (cond b m new) n) none in
+    let is : happens (session_of c) n (Hear which most) ≡ with_peer p.to new n =
+    ap (λ (o : Option Packet). brings most o n) there ∙ ap (λ (b : Bool). with_peer p.to (cond b m new) n) none in
     let is_here : rolls_hear (c.room p.to) p q ≡ rolled = ap (λ (b : Bool). cond b q rolled) none_here in
     let out = with_roll p.to (rolls_hear (c.room p.to) p q) v in
-    let here : IsWindow rules new (rolls_hear (c.room p.to) p q) = subst (λ (r : RollPeer W). IsWindow rules new r) (sym is_here) window.1 in
-    beside-one rules (session_of c) n out (Hear which window.0) s
+    let here : IsWindow rules new (rolls_hear (c.room p.to) p q) = subst (λ (r : RollPeer W). IsWindow rules new r) (sym is_here) window in
+    beside-one rules (session_of c) n out (Hear which most) s
     (subst (λ (k : Net W). (o : ℕ) → out.log o ≡ k.log o) (sym is) h.log)
     (subst (λ (k : Net W). out.packets ≡ k.packets) (sym is) h.packets)
     (subst (λ (k : Net W). (i : ℕ) → IsWindow rules (k.peers i) (out.peers i)) (sym is)
@@ -184,11 +185,11 @@ hear-beside {W} rules c which p n v h found =
 
 pub call-beside :
     {W : Type 0} (rules : Rules W) (c : Terms) (e : Call) (n : Net W) (v : RollNet W) → IsBeside rules c.slots n v
-    → (fs : List NetStep) × IsBeside rules c.slots (run (session_of c) n fs) (calls rules c v e)
+    → IsBeside rules c.slots (run (session_of c) n (steps_of c v e)) (calls rules c v e)
 call-beside {W} rules c (call.Own me ahead bytes) n v h =
     let ok = nat_lt me c.slots && takes_own (c.room me) me ahead (v.peers me) in
     let out = rolls_issues me (record { time = roll_time me ahead (v.peers me); bytes = bytes }) v in
-    elim ok as (λ b. ok ≡ b → (fs : List NetStep) × IsBeside rules c.slots (run (session_of c) n fs) (cond b out v)) [
+    elim ok as (λ b. ok ≡ b → IsBeside rules c.slots (run (session_of c) n (cond b (Own me ahead bytes ∷ []) [])) (cond b out v)) [
       | true ↦ λ e. own-beside rules c me ahead bytes n v h e
       | false ↦ λ e. beside-none rules (session_of c) n v h
     ]
@@ -196,7 +197,7 @@ call-beside {W} rules c (call.Own me ahead bytes) n v h =
 call-beside rules c (call.TickOf me) n v h = tick-beside rules c me n v h
 call-beside {W} rules c (call.StepOf me copy) n v h =
     let out = with_roll me (rolls_event (Step copy) (v.peers me)) v in
-    elim (nat_lt copy (length (v.peers me).roll.left.runs)) as (λ b. nat_lt copy (length (v.peers me).roll.left.runs) ≡ b → (fs : List NetStep) × IsBeside rules c.slots (run (session_of c) n fs) (cond b out v)) [
+    elim (nat_lt copy (length (v.peers me).roll.left.runs)) as (λ b. nat_lt copy (length (v.peers me).roll.left.runs) ≡ b → IsBeside rules c.slots (run (session_of c) n (cond b (Move me (Step copy) ∷ []) [])) (cond b out v)) [
       | true ↦ λ e. step-beside rules c me copy n v h (ltb-true copy (length (v.peers me).roll.left.runs) e)
       | false ↦ λ e. beside-none rules (session_of c) n v h
     ]
@@ -213,7 +214,7 @@ call-beside rules c (call.Make me to spans) n v h =
     beside-one rules (session_of c) n (record v { packets = v.packets ++ p ∷ [] }) (Make me to spans) h.session h.log
     (λ i. h.packets i ++ same i ∷ []) h.peers
 call-beside {W} rules c (call.Hear which) n v h =
-    elim (slice_get v.packets which) as (λ (o : Option Packet). slice_get v.packets which ≡ o → (fs : List NetStep) × IsBeside rules c.slots (run (session_of c) n fs) (rolls_bring c o v)) [
+    elim (slice_get v.packets which) as (λ (o : Option Packet). slice_get v.packets which ≡ o → IsBeside rules c.slots (run (session_of c) n (bring_steps c which o v)) (rolls_bring c o v)) [
       | Some p ↦ λ e. hear-beside rules c which p n v h e
       | None ↦ λ e. beside-none rules (session_of c) n v h
     ]
@@ -228,10 +229,10 @@ run-append c (e ∷ es) fs n = run-append c es fs (happens c n e)
 
 pub calls-beside :
     {W : Type 0} (rules : Rules W) (c : Terms) (es : List Call) (n : Net W) (v : RollNet W) → IsBeside rules c.slots n v
-    → (fs : List NetStep) × IsBeside rules c.slots (run (session_of c) n fs) (all_calls rules c v es)
-unfolding all_calls
+    → IsBeside rules c.slots (run (session_of c) n (all_steps rules c v es)) (all_calls rules c v es)
+unfolding all_calls all_steps
 calls-beside rules c [] n v h = beside-none rules (session_of c) n v h
 calls-beside {W} rules c (e ∷ es) n v h =
     let one = call-beside rules c e n v h in
-    let more = calls-beside rules c es (run (session_of c) n one.0) (calls rules c v e) one.1 in
-    (one.0 ++ more.0, subst (λ (k : Net W). IsBeside rules c.slots k (all_calls rules c (calls rules c v e) es)) (sym (run-append (session_of c) one.0 more.0 n)) more.1)
+    let more = calls-beside rules c es (run (session_of c) n (steps_of c v e)) (calls rules c v e) one in
+    subst (λ (k : Net W). IsBeside rules c.slots k (all_calls rules c (calls rules c v e) es)) (sym (run-append (session_of c) (steps_of c v e) (all_steps rules c (calls rules c v e) es) n)) more

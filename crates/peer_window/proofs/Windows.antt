@@ -29,7 +29,7 @@ use Rattle.peer_model.specs.Peer as peers
 use Rattle.peer_model.proofs.Pieces.{news-piece, before-more, piece-join, piece-rises, rise-last}
 use Rattle.peer_model.proofs.Counting.{any-times, of_slots-new}
 use Rattle.peer_model.proofs.Peers.{part-goes, head-peer}
-use Rattle.peer_window.specs.Window.{RollPeer, Heard, is_counted, next_command, counts, counts_each, rolls_part, with_heard, rolls_parts, rolls_head, rolls_packet, IsRolled, IsWindow}
+use Rattle.peer_window.specs.Window.{RollPeer, Heard, is_counted, next_command, counts, counts_each, counted_each, rolls_part, stop_of, stops_of, with_heard, rolls_parts, rolls_head, rolls_packet, IsRolled, IsWindow}
 
 -- ---- a command at the mirror that remembers all
 
@@ -144,8 +144,7 @@ rolled-arrival rules s r x h new is =
     }
 
 -- so many were counted, and what is left of the mirror
-record Counted {W : Type 0} (rules : Rules W) (o : ℕ) (xs : List Sent) (q : Queue) (r : RollState W) (s : MirrorState W) (h : Heard W) : Type 0 where
-  pub many : ℕ
+record Counted {W : Type 0} (rules : Rules W) (o : ℕ) (xs : List Sent) (q : Queue) (r : RollState W) (s : MirrorState W) (many : ℕ) (h : Heard W) : Type 0 where
   pub queue : h.queue ≡ joined (last_tick r) (take many xs) q
   pub rolled : IsRolled rules (peers.arrived (numbered o (have_of q) (take many xs)) s) h.roll
 
@@ -159,14 +158,14 @@ joined-more b x xs q =
     λ i. record { kept = q.kept; gone = q.gone; commands = append_assoc q.commands (x ∷ []) xs i; late = sum i }
 
 none-counted :
-    {W : Type 0} (rules : Rules W) (o : ℕ) (xs : List Sent) (q : Queue) (r : RollState W) (s : MirrorState W) → IsRolled rules s r → Counted rules o xs q r s (record { queue = q; roll = r })
+    {W : Type 0} (rules : Rules W) (o : ℕ) (xs : List Sent) (q : Queue) (r : RollState W) (s : MirrorState W) → IsRolled rules s r → Counted rules o xs q r s 0 (record { queue = q; roll = r })
 unfolding after numbered
-none-counted rules o xs q r s h = record { many = 0; queue = joined-none (last_tick r) q; rolled = h }
+none-counted rules o xs q r s h = record { queue = joined-none (last_tick r) q; rolled = h }
 
 each-counted :
     {W : Type 0} (rules : Rules W) (room o : ℕ) (xs : List Sent) (q : Queue) (r : RollState W) (s : MirrorState W) → IsRolled rules s r
-    → IsNew o (have_of q) s → Counted rules o xs q r s (counts_each room o xs q r)
-unfolding counts_each after numbered same_name
+    → IsNew o (have_of q) s → Counted rules o xs q r s (counted_each room o xs q r) (counts_each room o xs q r)
+unfolding counts_each counted_each after numbered same_name
 each-counted rules room o [] q r s h new = none-counted rules o [] q r s h
 each-counted {W} rules room o (x ∷ xs) q r s h new =
     let c = next_command o x q in
@@ -174,19 +173,19 @@ each-counted {W} rules room o (x ∷ xs) q r s h new =
     let u = arrived r c a in
     let p = joined (last_tick r) (x ∷ []) q in
     let t = next s (Arrive c) in
-    elim (counts room o x q r) as (λ v. counts room o x q r ≡ v → Counted rules o (x ∷ xs) q r s (cond v (counts_each room o xs p u) (record { queue = q; roll = r }))) [
+    let n = counted_each room o xs p u in
+    elim (counts room o x q r) as (λ v. counts room o x q r ≡ v → Counted rules o (x ∷ xs) q r s (cond v (suc (counted_each room o xs p u)) 0) (cond v (counts_each room o xs p u) (record { queue = q; roll = r }))) [
       | true ↦ λ e.
           let rolled : IsRolled rules t u = rolled-arrival rules s r c h (new (have_of q) (omega arith)) (and_parts _ _ e).1 in
           let have : have_of p ≡ have_of q + 1 = (let more = length-append q.commands (x ∷ []) in omega arith) in
-          let later : IsNew o (have_of p) t = subst (λ (n : ℕ). IsNew o n t) (sym have) (arrive-new o (have_of q) x.time s new) in
+          let later : IsNew o (have_of p) t = subst (λ (k : ℕ). IsNew o k t) (sym have) (arrive-new o (have_of q) x.time s new) in
           let more = each-counted rules room o xs p u t rolled later in
           let bound : last_tick u ≡ last_tick r =
           sym (last-clocks rules u.base t u.left rolled.window) ∙ arrive-last s c ∙ last-clocks rules r.base s r.left h.window in
-          let moved : peers.arrived (numbered o (have_of p) (take more.many xs)) t ≡ peers.arrived (numbered o (have_of q + 1) (take more.many xs)) t =
-          ap (λ (n : ℕ). peers.arrived (numbered o n (take more.many xs)) t) have in
+          let moved : peers.arrived (numbered o (have_of p) (take n xs)) t ≡ peers.arrived (numbered o (have_of q + 1) (take n xs)) t =
+          ap (λ (k : ℕ). peers.arrived (numbered o k (take n xs)) t) have in
           record {
-            many = suc more.many;
-            queue = more.queue ∙ ap (λ (b : ℕ). joined b (take more.many xs) p) bound ∙ joined-more (last_tick r) x (take more.many xs) q;
+            queue = more.queue ∙ ap (λ (b : ℕ). joined b (take n xs) p) bound ∙ joined-more (last_tick r) x (take n xs) q;
             rolled = subst (λ (w : MirrorState W). IsRolled rules w (counts_each room o xs p u).roll) moved more.rolled;
           }
       | false ↦ λ e. none-counted rules o (x ∷ xs) q r s h
@@ -196,8 +195,7 @@ each-counted {W} rules room o (x ∷ xs) q r s h new =
 -- ---- a part
 
 -- a part is heard, stopped after so many commands
-record RollsPart {W : Type 0} (rules : Rules W) (log : List Sent) (p : Part) (q : Queue) (r : RollState W) (s : MirrorState W) (h : Heard W) : Type 0 where
-  pub most : ℕ
+record RollsPart {W : Type 0} (rules : Rules W) (log : List Sent) (p : Part) (q : Queue) (r : RollState W) (s : MirrorState W) (most : ℕ) (h : Heard W) : Type 0 where
   pub queue : h.queue ≡ heard_part (last_tick r) most p q
   pub rolled : IsRolled rules (peers.arrived (numbered p.origin (have_of q) (piece (have_of q) (have_of h.queue - have_of q) log)) s) h.roll
 
@@ -212,9 +210,9 @@ arrived-append o n (x ∷ xs) ys s =
 rolled-as :
     {W : Type 0} (rules : Rules W) (log : List Sent) (p : Part) (q : Queue) (r : RollState W) (s t : MirrorState W) (h : Heard W) (most : ℕ)
     → h.queue ≡ heard_part (last_tick r) most p q → t ≡ peers.arrived (numbered p.origin (have_of q) (piece (have_of q) (have_of h.queue - have_of q) log)) s
-    → IsRolled rules t h.roll → RollsPart rules log p q r s h
+    → IsRolled rules t h.roll → RollsPart rules log p q r s most h
 rolled-as rules log p q r s t h most queue is rolled =
-    record { most = most; queue = queue; rolled = subst (λ (u : MirrorState _). IsRolled rules u h.roll) is rolled }
+    record { queue = queue; rolled = subst (λ (u : MirrorState _). IsRolled rules u h.roll) is rolled }
 
 -- what a front gains is what it was given
 gained : (b : ℕ) (log ys : List Sent) (q r : Queue) → r ≡ joined b ys q → ys ≡ piece (have_of q) (length ys) log → ys ≡ piece (have_of q) (have_of r - have_of q) log
@@ -227,7 +225,7 @@ gained b log ys q r is from =
 part-window :
     {W : Type 0} (rules : Rules W) (room : ℕ) (log : List Sent) (p : Part) (q : Queue) (r : RollState W) (s : MirrorState W)
     → TimesRise 0 log → IsFront log q → IsPiece log p → IsRolled rules s r → IsNew p.origin (have_of q) s
-    → RollsPart rules log p q r s (rolls_part room p q r)
+    → RollsPart rules log p q r s (stop_of room p q r) (rolls_part room p q r)
 unfolding numbered after
 part-window {W} rules room log p q r s rise front is h new =
     let o = p.origin in
@@ -238,8 +236,8 @@ part-window {W} rules room log p q r s rise front is h new =
     let unheard : Heard W = record { queue = q; roll = r } in
     let within_front = front.within in
     let within_part = is.within in
-    elim (is_behind p q) as (λ v. is_behind p q ≡ v → RollsPart rules log p q r s (cond v (cond (nat_lt p.before b) (counts_each room o there z r) unheard) (counts_each room o here q r))) [
-      | true ↦ λ e. elim (nat_lt p.before b) as (λ v. nat_lt p.before b ≡ v → RollsPart rules log p q r s (cond v (counts_each room o there z r) unheard)) [
+    elim (is_behind p q) as (λ v. is_behind p q ≡ v → RollsPart rules log p q r s (cond v (cond (nat_lt p.before b) (counted_each room o there z r) 0) (counted_each room o here q r)) (cond v (cond (nat_lt p.before b) (counts_each room o there z r) unheard) (counts_each room o here q r))) [
+      | true ↦ λ e. elim (nat_lt p.before b) as (λ v. nat_lt p.before b ≡ v → RollsPart rules log p q r s (cond v (counted_each room o there z r) 0) (cond v (counts_each room o there z r) unheard)) [
         | true ↦ λ l.
             let behind = ltb-true (have_of q) p.first e in
             let late = ltb-true p.before b l in
@@ -255,9 +253,10 @@ part-window {W} rules room log p q r s rise front is h new =
             let rolled1 : IsRolled rules s1 r = record { window = gone.window; trailing = h.trailing; within = h.within; in_session = h.in_session; long = omega arith } in
             let c = each-counted rules room o there z r s1 rolled1 new1 in
             let done = counts_each room o there z r in
-            let ys = take c.many there in
-            let from = news-piece c.many (have_of z) log p is (omega arith) (omega arith) in
-            let heard : heard_part b c.many p q ≡ joined b ys z = rw (e, l) refl in
+            let many = counted_each room o there z r in
+            let ys = take many there in
+            let from = news-piece many (have_of z) log p is (omega arith) (omega arith) in
+            let heard : heard_part b many p q ≡ joined b ys z = rw (e, l) refl in
             let long_ms : length ms ≡ missed = (let t = length-take missed (drop (have_of q) log) in let d = length-drop (have_of q) log in omega arith) in
             let have : have_of done.queue ≡ have_of z + length ys = (let now = ap have_of c.queue in omega arith) in
             let at : have_of z ≡ have_of q + length ms = omega arith in
@@ -265,7 +264,7 @@ part-window {W} rules room log p q r s rise front is h new =
             let total : missed + length ys ≡ have_of done.queue - have_of q = omega arith in
             let all : ms ++ ys ≡ piece (have_of q) (have_of done.queue - have_of q) log =
             ap (λ (l : List Sent). ms ++ l) (from.0 ∙ ap (λ (k : ℕ). piece k (length ys) log) at2) ∙ piece-join (have_of q) missed (length ys) log ∙ ap (λ (k : ℕ). piece (have_of q) k log) total in
-            rolled-as rules log p q r s (peers.arrived (numbered o (have_of z) ys) s1) done c.many (c.queue ∙ sym heard)
+            rolled-as rules log p q r s (peers.arrived (numbered o (have_of z) ys) s1) done many (c.queue ∙ sym heard)
             (ap (λ (k : ℕ). peers.arrived (numbered o k ys) s1) at ∙ sym (arrived-append o (have_of q) ms ys s) ∙ ap (λ (l : List Sent). peers.arrived (numbered o (have_of q) l) s) all)
             c.rolled
         | false ↦ λ l.
@@ -278,11 +277,12 @@ part-window {W} rules room log p q r s rise front is h new =
           let from_first = ltb-false (have_of q) p.first e in
           let c = each-counted rules room o here q r s h new in
           let done = counts_each room o here q r in
-          let ys = take c.many here in
-          let from = news-piece c.many (have_of q) log p is (omega arith) within_front in
-          let heard : heard_part b c.many p q ≡ joined b ys q = rw e refl in
+          let many = counted_each room o here q r in
+          let ys = take many here in
+          let from = news-piece many (have_of q) log p is (omega arith) within_front in
+          let heard : heard_part b many p q ≡ joined b ys q = rw e refl in
           let all = gained b log ys q done.queue c.queue from.0 in
-          rolled-as rules log p q r s (peers.arrived (numbered o (have_of q) ys) s) done c.many (c.queue ∙ sym heard)
+          rolled-as rules log p q r s (peers.arrived (numbered o (have_of q) ys) s) done many (c.queue ∙ sym heard)
           (ap (λ (l : List Sent). peers.arrived (numbered o (have_of q) l) s) all) c.rolled
     ]
     refl
@@ -304,45 +304,37 @@ peer-new slots log m o h k up =
 peer-part :
     {W : Type 0} (rules : Rules W) (slots room : ℕ) (log : ℕ → List Sent) (p : Part) (m : Peer W) (v : RollPeer W)
     → ((o : ℕ) → TimesRise 0 (log o)) → IsPeer slots log m → IsPiece (log p.origin) p → IsWindow rules m v
-    → (most : ℕ) × IsWindow rules (hears_part log most p m) (with_heard p.origin (rolls_part room p (v.queues p.origin) v.roll) v)
+    → IsWindow rules (hears_part log (stop_of room p (v.queues p.origin) v.roll) p m) (with_heard p.origin (rolls_part room p (v.queues p.origin) v.roll) v)
 peer-part {W} rules slots room log p m v rise h is w =
     let o = p.origin in
     let q = m.queues o in
     let r = v.roll in
+    let most = stop_of room p q r in
     let part = part-window rules room (log o) p q r m.whole (rise o) (h.fronts o) is w.rolled (peer-new slots log m o h) in
     let done = rolls_part room p q r in
-    let done_v = rolls_part room p (v.queues o) r in
-    let same : done ≡ done_v = ap (λ (z : Queue). rolls_part room p z r) (sym (w.queues o)) in
     let bound : last_tick r ≡ bound_of m = sym (last-clocks rules r.base m.whole r.left w.rolled.window) in
-    let queue : done.queue ≡ heard_part (bound_of m) part.most p q = part.queue ∙ ap (λ (b : ℕ). heard_part b part.most p q) bound in
-    let n = hears_part log part.most p m in
+    let queue : done.queue ≡ heard_part (bound_of m) most p q = part.queue ∙ ap (λ (b : ℕ). heard_part b most p q) bound in
+    let n = hears_part log most p m in
     let whole : peers.arrived (numbered o (have_of q) (piece (have_of q) (have_of done.queue - have_of q) (log o))) m.whole ≡ n.whole =
-    ap (λ (z : Queue). peers.arrived (numbered o (have_of q) (piece (have_of q) (have_of z - have_of q) (log o))) m.whole) queue in (
-      part.most,
-      subst (λ (d : Heard W). IsWindow rules n (with_heard o d v)) same (record {
-        queues = put-alike o done.queue (heard_part (bound_of m) part.most p q) v.queues m.queues queue w.queues;
-        known = w.known;
-        heard = w.heard;
-        rolled = subst (λ (u : MirrorState W). IsRolled rules u done.roll) whole part.rolled;
-      }),
-    )
-
--- several numbers, the first apart
-both : ℕ → (ℕ → ℕ) → ℕ → ℕ
-both k f zero = k
-both k f (suc n) = f n
+    ap (λ (z : Queue). peers.arrived (numbered o (have_of q) (piece (have_of q) (have_of z - have_of q) (log o))) m.whole) queue in
+    subst (λ (z : Queue). IsWindow rules (hears_part log (stop_of room p z r) p m) (with_heard o (rolls_part room p z r) v)) (sym (w.queues o)) (record {
+      queues = put-alike o done.queue (heard_part (bound_of m) most p q) v.queues m.queues queue w.queues;
+      known = w.known;
+      heard = w.heard;
+      rolled = subst (λ (u : MirrorState W). IsRolled rules u done.roll) whole part.rolled;
+    })
 
 peer-parts :
     {W : Type 0} (rules : Rules W) (slots room : ℕ) (log : ℕ → List Sent) (ps : List Part) (m : Peer W) (v : RollPeer W)
     → ((o : ℕ) → TimesRise 0 (log o)) → IsPeer slots log m → AllByRecursion (λ part. part.origin < slots) ps → AllByRecursion (λ part. IsPiece (log part.origin) part) ps
-    → IsWindow rules m v → (most : ℕ → ℕ) × IsWindow rules (hears_parts log most ps m) (rolls_parts room ps v)
-unfolding hears_parts rolls_parts both
-peer-parts rules slots room log [] m v rise h there are w = (λ n. n, w)
+    → IsWindow rules m v → IsWindow rules (hears_parts log (stops_of room ps v) ps m) (rolls_parts room ps v)
+unfolding hears_parts rolls_parts stops_of
+peer-parts rules slots room log [] m v rise h there are w = w
 peer-parts rules slots room log (p ∷ ps) m v rise h there are w =
+    let most = stop_of room p (v.queues p.origin) v.roll in
     let one = peer-part rules slots room log p m v rise h are.0 w in
-    let goes = part-goes slots log one.0 p m rise h there.0 are.0 in
-    let more = peer-parts rules slots room log ps (hears_part log one.0 p m) (with_heard p.origin (rolls_part room p (v.queues p.origin) v.roll) v) rise goes.peer there.1 are.1 one.1 in
-    (both one.0 more.0, more.1)
+    let goes = part-goes slots log most p m rise h there.0 are.0 in
+    peer-parts rules slots room log ps (hears_part log most p m) (with_heard p.origin (rolls_part room p (v.queues p.origin) v.roll) v) rise goes.peer there.1 are.1 one
 
 head-window : {W : Type 0} (rules : Rules W) (p : Packet) (m : Peer W) (v : RollPeer W) → IsWindow rules m v → IsWindow rules (heard_head p m) (rolls_head p v)
 head-window rules p m v w =
@@ -357,6 +349,6 @@ head-window rules p m v w =
 pub packet-window :
     {W : Type 0} (rules : Rules W) (slots room : ℕ) (log : ℕ → List Sent) (p : Packet) (m : Peer W) (v : RollPeer W)
     → ((o : ℕ) → TimesRise 0 (log o)) → IsPeer slots log m → AllByRecursion (λ part. part.origin < slots) p.parts → AllByRecursion (λ part. IsPiece (log part.origin) part) p.parts
-    → IsWindow rules m v → (most : ℕ → ℕ) × IsWindow rules (hears_parts log most p.parts (heard_head p m)) (rolls_packet room p v)
+    → IsWindow rules m v → IsWindow rules (hears_parts log (stops_of room p.parts (rolls_head p v)) p.parts (heard_head p m)) (rolls_packet room p v)
 packet-window rules slots room log p m v rise h there are w =
     peer-parts rules slots room log p.parts (heard_head p m) (rolls_head p v) rise (head-peer slots log p m h) there are (head-window rules p m v w)

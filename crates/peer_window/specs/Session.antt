@@ -1,15 +1,16 @@
 -- A session of peers whose mirrors forget.
 use Rattle.std.specs.Prelude.{◌≡◌, ℕ, ◌+◌, ◌-◌, Bool, max, not, nat_lt, ◌==◌, ◌&&◌, ◌||◌, if◌then◌else◌, Option, Some, None, List, [], ◌∷◌, ◌++◌, length, slice_get}
 use Rattle.game_trait.specs.declared.event.Event.{Event}
-use Rattle.game_trait.specs.declared.event.Event.TheVariants.{Step, Restagger}
+use Rattle.game_trait.specs.declared.event.Event.TheVariants.{Tick, Step, Restagger}
 use Rattle.game_trait.specs.Game.{Rules}
 use Rattle.sync_model.specs.State.{MirrorState, opening_state}
-use Rattle.rolling_mirror.specs.Rolling.{RollState, last_tick, window_end, said_to_arrival, arrived, left_after, ticked}
+use Rattle.rolling_mirror.specs.Rolling.{RollState, last_tick, window_end, said_to_arrival, arrived, left_after, is_held, ticked}
 use Rattle.peer_model.specs.declared.own.OwnNow.{OwnNow}
 use Rattle.peer_model.specs.Queue.{Sent, new_queue, have_of, last_time, with_own, trimmed}
 use Rattle.peer_model.specs.Peer.{Packet, Span, put, packet_from, refuses}
-use Rattle.peer_model.specs.Net.{Net, Session, IsSession}
-use Rattle.peer_window.specs.Window.{RollPeer, roll_clock, next_command, rolls_packet, IsWindow}
+use Rattle.peer_model.specs.Net.{Net, Session, NetStep, IsSession}
+use Rattle.peer_model.specs.Net as net
+use Rattle.peer_window.specs.Window.{RollPeer, roll_clock, next_command, stops_of, rolls_head, rolls_packet, IsWindow}
 
 -- what `own` of each slot took, the peers, and every packet that was made
 pub record RollNet (W : Type 0) : Type 0 where
@@ -106,6 +107,29 @@ calls rules c n (Hear which) = rolls_bring c (slice_get n.packets which) n
 unfoldable pub all_calls : {W : Type 0} → Rules W → Terms → RollNet W → List Call → RollNet W
 all_calls rules c n [] = n
 all_calls rules c n (e ∷ es) = all_calls rules c (calls rules c n e) es
+
+-- the steps that a call is for peers that remember all: a packet's parts are stopped where they are here
+abbrev pub bring_steps : {W : Type 0} → Terms → ℕ → Option Packet → RollNet W → List NetStep
+bring_steps c which None n = []
+bring_steps c which (Some p) n =
+    net.Hear which (stops_of (c.room p.to) p.parts (rolls_head p (n.peers p.to))) ∷ []
+
+abbrev pub steps_of : {W : Type 0} → Terms → RollNet W → Call → List NetStep
+steps_of c n (Own me ahead bytes) =
+    if nat_lt me c.slots && takes_own (c.room me) me ahead (n.peers me)
+    then net.Own me ahead bytes ∷ []
+    else []
+steps_of c n (TickOf me) = if is_held (n.peers me).roll then [] else net.Move me Tick ∷ []
+steps_of c n (StepOf me copy) =
+    if nat_lt copy (length (n.peers me).roll.left.runs) then net.Move me (Step copy) ∷ [] else []
+steps_of c n (RestaggerOf me plan) = net.Move me (Restagger plan) ∷ []
+steps_of c n (Forget me) = net.Forget me ∷ []
+steps_of c n (Make me to spans) = net.Make me to spans ∷ []
+steps_of c n (Hear which) = bring_steps c which (slice_get n.packets which) n
+
+unfoldable pub all_steps : {W : Type 0} → Rules W → Terms → RollNet W → List Call → List NetStep
+all_steps rules c n [] = []
+all_steps rules c n (e ∷ es) = steps_of c n e ++ all_steps rules c (calls rules c n e) es
 
 -- the session of which the peers of another remember all
 abbrev pub session_of : Terms → Session

@@ -1,5 +1,5 @@
 -- A peer whose mirror forgets: what it does with each call, as a function of what it remembers.
-use Rattle.std.specs.Prelude.{◌≡◌, ℕ, ◌+◌, ◌-◌, ◌^◌, ◌≤◌, ◌<◌, Bool, true, false, max, not, nat_lt, ◌==◌, ◌&&◌, if◌then◌else◌, List, [], ◌∷◌, length, drop}
+use Rattle.std.specs.Prelude.{◌≡◌, ℕ, zero, suc, ◌+◌, ◌-◌, ◌^◌, ◌≤◌, ◌<◌, Bool, true, false, max, not, nat_lt, ◌==◌, ◌&&◌, if◌then◌else◌, List, [], ◌∷◌, length, drop}
 use Rattle.game_trait.specs.declared.command.Command.{Command}
 use Rattle.game_trait.specs.Game.{Rules}
 use Rattle.sync_model.specs.State.{MirrorState}
@@ -52,6 +52,15 @@ counts_each room o (x ∷ xs) q r =
     (arrived r (next_command o x q) (said_to_arrival r (next_command o x q)))
     else record { queue = q; roll = r }
 
+-- how many of them are counted
+unfoldable pub counted_each : {W : Type 0} → ℕ → ℕ → List Sent → Queue → RollState W → ℕ
+counted_each room o [] q r = 0
+counted_each room o (x ∷ xs) q r =
+    if counts room o x q r
+    then suc (counted_each room o xs (joined (last_tick r) (x ∷ []) q)
+    (arrived r (next_command o x q) (said_to_arrival r (next_command o x q))))
+    else 0
+
 -- a part is heard
 abbrev pub rolls_part : {W : Type 0} → ℕ → Part → Queue → RollState W → Heard W
 rolls_part room p q r =
@@ -60,12 +69,27 @@ rolls_part room p q r =
     else record { queue = q; roll = r })
     else counts_each room p.origin (drop (have_of q - p.first) p.commands) q r
 
+-- after how many of its new commands the window, the mirror's room or the queue's stops it, or it ends
+abbrev pub stop_of : {W : Type 0} → ℕ → Part → Queue → RollState W → ℕ
+stop_of room p q r =
+    if is_behind p q
+    then (if nat_lt p.before (last_tick r) then counted_each room p.origin (drop (have_of (skipped p q) - p.first) p.commands) (skipped p q) r
+    else 0)
+    else counted_each room p.origin (drop (have_of q - p.first) p.commands) q r
+
 abbrev pub with_heard : {W : Type 0} → ℕ → Heard W → RollPeer W → RollPeer W
 with_heard o h v = record v { queues = put o h.queue v.queues; roll = h.roll }
 
 unfoldable pub rolls_parts : {W : Type 0} → ℕ → List Part → RollPeer W → RollPeer W
 rolls_parts room [] v = v
 rolls_parts room (p ∷ ps) v = rolls_parts room ps (with_heard p.origin (rolls_part room p (v.queues p.origin) v.roll) v)
+
+-- where each part is stopped, by its place
+unfoldable pub stops_of : {W : Type 0} → ℕ → List Part → RollPeer W → ℕ → ℕ
+stops_of room [] v place = 0
+stops_of room (p ∷ ps) v zero = stop_of room p (v.queues p.origin) v.roll
+stops_of room (p ∷ ps) v (suc place) =
+    stops_of room ps (with_heard p.origin (rolls_part room p (v.queues p.origin) v.roll) v) place
 
 -- what the head of a packet tells
 abbrev pub rolls_head : {W : Type 0} → Packet → RollPeer W → RollPeer W

@@ -7,9 +7,9 @@ ghost use Rattle.peer_model.specs.declared.own.OwnAnswer.{OwnAnswer};
 ghost use Rattle.peer_model.specs.Own.{said_to_own};
 ghost use Rattle.peer_model.specs.Queue.{Sent, Part, have_of, TimesRise, IsPiece};
 ghost use Rattle.peer_model.specs.Peer.{Peer, Packet, hears_parts, heard_head, IsPeer};
-ghost use Rattle.peer_model.specs.Net.{Net, NetStep, new_net, run};
-ghost use Rattle.peer_window.specs.Window.{RollPeer, rolls_packet, IsWindow};
-ghost use Rattle.peer_window.specs.Session.{RollNet, Terms, Call, calls, all_calls, own_now, rolls_issues, session_of, Opening, whole_of, roll_of, new_roll_net, IsBeside};
+ghost use Rattle.peer_model.specs.Net.{Net, new_net, run};
+ghost use Rattle.peer_window.specs.Window.{RollPeer, stops_of, rolls_head, rolls_packet, IsWindow};
+ghost use Rattle.peer_window.specs.Session.{RollNet, Terms, Call, calls, all_calls, all_steps, own_now, rolls_issues, session_of, Opening, whole_of, roll_of, new_roll_net, IsBeside};
 
 use game_trait::Game;
 
@@ -21,14 +21,15 @@ pub fn hearing_keeps_the_window<G: Game>()
         → AllByRecursion (λ part. part.origin < slots) p.parts
         → AllByRecursion (λ part. IsPiece (log part.origin) part) p.parts
         → IsWindow G.rules m v
-        → (most : ℕ → ℕ) × IsWindow G.rules (hears_parts log most p.parts (heard_head p m)) (rolls_packet room p v) }
+        → IsWindow G.rules (hears_parts log (stops_of room p.parts (rolls_head p v)) p.parts (heard_head p m)) (rolls_packet room p v) }
 {}
 
-/// Whatever calls are made by peers with windows, beside them stands a session of peers that remember all:
-/// what was issued and the packets are the same, and each peer is the window of the one there.
+/// Whatever calls are made by peers with windows, beside them stands a session of peers that remember all,
+/// which makes the steps that the calls are: what was issued and the packets are the same, and each peer is
+/// the window of the one there.
 pub fn beside_it_stands_a_session_that_remembers_all<G: Game>()
     ensures { (c : Terms) (es : List Call) (n : Net G) (v : RollNet G) → IsBeside G.rules c.slots n v
-        → (fs : List NetStep) × IsBeside G.rules c.slots (run (session_of c) n fs) (all_calls G.rules c v es) }
+        → IsBeside G.rules c.slots (run (session_of c) n (all_steps G.rules c v es)) (all_calls G.rules c v es) }
 {}
 
 /// Before any call peers with windows, whatever their plans, windows, rooms and keeping, stand beside peers
