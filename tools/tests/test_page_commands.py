@@ -17,7 +17,7 @@ IN_WORDS = r"\(?(?:(?:rt|cd|tss|tss_mirror|crates/\S+|python3) .*(?: [<|] |&&).*
 NOT_RUN = {
     "it proves or builds, with the kit": r"^\(?(rt|cd|\.ci/run|tools/c/build\.sh|OUT/bench)\b|^\.ci/run$",
     "it installs, makes a key or goes to another machine": r"^(apt-get|openssl|ssh)\b",
-    "it has a name or a place of the reader's own": r"\b(MATCH|FILE|HOST|FOLDER|PROGRAM|NAME|WORDS)\b",
+    "it has a name or a place of the reader's own": r"\b(PREFIX|MATCH|FILE|HOST|FOLDER|PROGRAM|NAME|WORDS)\b",
     "it measures for minutes": r"tools/bench\.py",
 }
 
