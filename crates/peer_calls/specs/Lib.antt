@@ -1,0 +1,4 @@
+pub mod State
+pub mod Wire
+pub mod Sending
+pub mod Hearing

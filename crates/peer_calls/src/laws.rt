@@ -1,0 +1,36 @@
+//! What a peer's calls are in a session of `peer_model`. Each law is the contract of a function without
+//! parameters that does nothing.
+
+ghost use Rattle.std.specs.Prelude.{◌≡◌, ℕ, ◌≤◌, List};
+ghost use Rattle.peer_model.specs.Queue.{have_of};
+ghost use Rattle.peer_model.specs.Peer.{Span, packet_from};
+ghost use Rattle.peer_window.specs.Session.{rolls_hear};
+ghost use Rattle.peer_packet.specs.Packet.{Packet};
+ghost use Rattle.peer_calls.specs.State.{Config, State, clock_now, window_of};
+ghost use Rattle.peer_calls.specs.Wire.{packet_from_wire};
+ghost use Rattle.peer_calls.specs.Sending.{packet_for, after_packet};
+ghost use Rattle.peer_calls.specs.Hearing.{after_hearing};
+
+use game_trait::Game;
+
+/// What a peer puts into a packet for another one, of all that is due and wherever the room and the cursor
+/// cut it, is a packet of the session, of some spans of what it remembers.
+pub fn a_packet_is_made_of_spans<G: Game>()
+    ensures { (c : Config) (to room : ℕ) (s : State G)
+        → ((o : ℕ) → c.terms.slots ≤ o → have_of (s.queues o) ≡ 0)
+        → (spans : List Span)
+        × (packet_from_wire (packet_for c to room s) ≡ packet_from c.terms.slots s.me to spans s.queues (window_of s).heard (clock_now s)) }
+{}
+
+/// What a peer makes of a packet that is for it, refused or not, is what the peer with its window makes
+/// of it in the session: the same queues, the same known of others, the same mirror.
+pub fn hearing_is_that_of_the_window<G: Game>()
+    ensures { (c : Config) (p : Packet) (s : State G) → p.to ≡ s.me
+        → window_of (after_hearing c p s) ≡ rolls_hear c.room (packet_from_wire p) (window_of s) }
+{}
+
+/// Making a packet changes the cursor of whom it is for, and nothing else of a peer.
+pub fn making_a_packet_moves_a_cursor_alone<G: Game>()
+    ensures { (c : Config) (to room : ℕ) (s : State G)
+        → record (after_packet c to room s) { cursor = s.cursor } ≡ s }
+{}
