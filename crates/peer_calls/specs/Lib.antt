@@ -2,3 +2,4 @@ pub mod State
 pub mod Wire
 pub mod Sending
 pub mod Hearing
+pub mod Moving

@@ -1,15 +1,17 @@
 //! What a peer's calls are in a session of `peer_model`. Each law is the contract of a function without
 //! parameters that does nothing.
 
-ghost use Rattle.std.specs.Prelude.{◌≡◌, ℕ, ◌≤◌, List};
+ghost use Rattle.std.specs.Prelude.{◌≡◌, ℕ, ◌≤◌, List, length};
 ghost use Rattle.peer_model.specs.Queue.{have_of};
 ghost use Rattle.peer_model.specs.Peer.{Span, packet_from};
-ghost use Rattle.peer_window.specs.Session.{rolls_hear};
+ghost use Rattle.rolling_mirror.specs.Rolling.{ticked};
+ghost use Rattle.peer_window.specs.Session.{RollNet, Terms, all_calls, rolls_hear, with_roll};
 ghost use Rattle.peer_packet.specs.Packet.{Packet};
 ghost use Rattle.peer_calls.specs.State.{Config, State, clock_now, window_of};
 ghost use Rattle.peer_calls.specs.Wire.{packet_from_wire};
 ghost use Rattle.peer_calls.specs.Sending.{packet_for, after_packet};
 ghost use Rattle.peer_calls.specs.Hearing.{after_hearing};
+ghost use Rattle.peer_calls.specs.Moving.{after_turn, turn_calls};
 
 use game_trait::Game;
 
@@ -33,4 +35,13 @@ pub fn hearing_is_that_of_the_window<G: Game>()
 pub fn making_a_packet_moves_a_cursor_alone<G: Game>()
     ensures { (c : Config) (to room : ℕ) (s : State G)
         → record (after_packet c to room s) { cursor = s.cursor } ≡ s }
+{}
+
+/// A turn of a peer is calls of the session: a tick, a step of each copy, and forgetting. They leave the
+/// session with that peer as it is behind the turn, and all else as it was.
+pub fn a_turn_is_calls<G: Game>()
+    ensures { (c : Config) (terms : Terms) (n : RollNet G) (s : State G)
+        → n.peers s.me ≡ window_of s → terms.keep s.me ≡ c.keep
+        → all_calls G.rules terms n (turn_calls s.me (length (ticked G.rules s.roll).left.runs))
+        ≡ with_roll s.me (window_of (after_turn G.rules c s)) n }
 {}
