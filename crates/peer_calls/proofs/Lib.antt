@@ -1,4 +1,5 @@
 pub mod Heard
+pub mod Issued
 pub mod Refused
 pub mod Spans
 pub mod Turns

@@ -9,7 +9,7 @@ use Rattle.peer_model.specs.Peer.{put, is_ahead, refuses}
 use Rattle.peer_model.specs.Marks.{Marks, differ, hears_mark}
 use Rattle.peer_window.specs.Window.{RollPeer, next_command, counts, rolls_part, with_heard, rolls_parts}
 use Rattle.peer_packet.specs.Packet as wire
-use Rattle.peer_calls.specs.State.{Config, State, Newest, clock_now, window_of}
+use Rattle.peer_calls.specs.State.{Config, State, Newest, clock_now, window_of, with_window}
 use Rattle.peer_calls.specs.Wire.{part_from, packet_from_wire}
 
 -- ---- what is told
@@ -86,9 +86,6 @@ hears_head p s = record s {
 }
 
 -- ---- a packet
-
-abbrev pub with_window : {W : Type 0} → RollPeer W → State W → State W
-with_window v s = record s { queues = v.queues; roll = v.roll }
 
 -- a packet that isn't refused: its head, and then each of its parts
 abbrev pub hears_packet : {W : Type 0} → Config → wire.Packet → State W → State W

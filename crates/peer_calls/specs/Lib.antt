@@ -2,4 +2,5 @@ pub mod State
 pub mod Wire
 pub mod Sending
 pub mod Hearing
+pub mod Issuing
 pub mod Moving

@@ -51,6 +51,10 @@ window_of s = record {
   roll = s.roll;
 }
 
+-- its queues and its mirror are those of a window
+abbrev pub with_window : {W : Type 0} → RollPeer W → State W → State W
+with_window v s = record s { queues = v.queues; roll = v.roll }
+
 -- a peer before anything was heard
 abbrev pub new_state : {W : Type 0} → ℕ → RollState W → State W
 new_state me roll = record {

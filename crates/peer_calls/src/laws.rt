@@ -1,19 +1,22 @@
 //! What a peer's calls are in a session of `peer_model`. Each law is the contract of a function without
 //! parameters that does nothing.
 
-ghost use Rattle.std.specs.Prelude.{◌≡◌, ℕ, ◌≤◌, List, length};
+ghost use Rattle.std.specs.Prelude.{◌≡◌, ℕ, ◌≤◌, ◌<◌, List, length};
+ghost use Rattle.peer_model.specs.declared.own.OwnAnswer.{OwnAnswer};
 ghost use Rattle.peer_model.specs.Queue.{have_of};
 ghost use Rattle.peer_model.specs.Peer.{Span, packet_from};
 ghost use Rattle.rolling_mirror.specs.Rolling.{ticked};
-ghost use Rattle.peer_window.specs.Session.{RollNet, Terms, all_calls, rolls_hear, with_roll};
+ghost use Rattle.peer_window.specs.Session.{RollNet, Terms, Call, calls, all_calls, rolls_hear, with_roll};
 ghost use Rattle.peer_packet.specs.Packet.{Packet};
 ghost use Rattle.peer_calls.specs.State.{Config, State, clock_now, window_of};
 ghost use Rattle.peer_calls.specs.Wire.{packet_from_wire};
 ghost use Rattle.peer_calls.specs.Sending.{packet_for, after_packet};
 ghost use Rattle.peer_calls.specs.Hearing.{after_hearing};
+ghost use Rattle.peer_calls.specs.Issuing.{said_to_peers_own, after_own, issued_in};
 ghost use Rattle.peer_calls.specs.Moving.{after_turn, turn_calls};
 
 use game_trait::Game;
+use peer_window::laws::an_own_command_that_is_taken_is_a_call;
 
 /// What a peer puts into a packet for another one, of all that is due and wherever the room and the cursor
 /// cut it, is a packet of the session, of some spans of what it remembers.
@@ -36,6 +39,18 @@ pub fn making_a_packet_moves_a_cursor_alone<G: Game>()
     ensures { (c : Config) (to room : ℕ) (s : State G)
         → record (after_packet c to room s) { cursor = s.cursor } ≡ s }
 {}
+
+/// An own command that is taken is a call of the session: its peer issued it, due at the tick that is
+/// told, and is as it is behind the call.
+pub fn an_own_command_is_a_call<G: Game>()
+    ensures { (c : Config) (terms : Terms) (n : RollNet G) (s : State G) (ahead time number : ℕ) (bytes : List ℕ)
+        → n.peers s.me ≡ window_of s → terms.room s.me ≡ c.room → s.me < terms.slots
+        → said_to_peers_own c ahead bytes s ≡ OwnAnswer.Taken time number
+        → calls G.rules terms n (Call.Own s.me ahead bytes)
+        ≡ issued_in s.me (record { time = time; bytes = bytes }) (window_of (after_own c ahead bytes s)) n }
+{
+    an_own_command_that_is_taken_is_a_call::<G>();
+}
 
 /// A turn of a peer is calls of the session: a tick, a step of each copy, and forgetting. They leave the
 /// session with that peer as it is behind the turn, and all else as it was.
