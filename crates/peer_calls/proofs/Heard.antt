@@ -9,7 +9,7 @@ use Rattle.peer_window.specs.Session.{rolls_hear}
 use Rattle.peer_packet.specs.Packet as wire
 use Rattle.peer_calls.specs.State.{Config, State, Newest, clock_now, newest_clock, window_of}
 use Rattle.peer_calls.specs.Wire.{part_from, packet_from_wire}
-use Rattle.peer_calls.specs.Hearing.{is_above, newer, hears_head, hears_packet, is_packet_refused, after_hearing}
+use Rattle.peer_calls.specs.Hearing.{newer, hears_head, hears_packet, is_packet_refused, after_hearing}
 
 -- the newest clock is the greatest
 newer-clock : (clock echo at : ℕ) (old : Option Newest) → newest_clock (newer clock echo at old) ≡ max (newest_clock old) clock

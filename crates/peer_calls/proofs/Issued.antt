@@ -1,5 +1,5 @@
 -- An own command of a peer is a call of the session.
-use Rattle.std.proofs.Common.{◌≡◌, ℕ, ◌<◌, List, [], ◌∷◌, ◌++◌, length, ap, sym, ◌∙◌}
+use Rattle.std.proofs.Common.{◌≡◌, ℕ, ◌<◌, List, length, ap, sym, ◌∙◌}
 use Rattle.game_trait.specs.Game.{Rules}
 use Rattle.peer_model.specs.declared.own.OwnAnswer.{OwnAnswer}
 use Rattle.peer_model.specs.declared.own.OwnAnswer.TheVariants.{Taken}

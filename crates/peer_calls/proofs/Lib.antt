@@ -1,3 +1,4 @@
+pub mod Called
 pub mod Heard
 pub mod Issued
 pub mod Refused

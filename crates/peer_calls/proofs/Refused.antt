@@ -1,10 +1,8 @@
 -- What a call that is refused leaves, and what making a packet changes.
-use Rattle.std.proofs.Common.{◌≡◌, ℕ, Bool, true, false, cond, ◌||◌, refl, rules}
-use Rattle.std.proofs.lemmas.Grind.{common_steps}
+use Rattle.std.proofs.Common.{◌≡◌, ℕ, Bool, true, false, cond, refl}
 use Rattle.peer_packet.specs.Filling.{Cursor}
-use Rattle.peer_packet.specs.Packet as wire
 use Rattle.peer_calls.specs.State.{Config, State}
-use Rattle.peer_calls.specs.Sending.{after_packet, is_other, has_room, filled_for}
+use Rattle.peer_calls.specs.Sending.{after_packet, filled_for}
 use Rattle.peer_model.specs.Peer.{put}
 
 alone-if : {W : Type 0} (b : Bool) (k : ℕ → Cursor) (s : State W) → record (cond b (record s { cursor = k }) s) { cursor = s.cursor } ≡ s

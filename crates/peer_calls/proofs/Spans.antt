@@ -1,13 +1,13 @@
 -- What is put into a packet is spans of what its maker remembers.
-use Rattle.std.proofs.Common.{◌≡◌, ℕ, zero, suc, ◌+◌, ◌-◌, ◌≤◌, ◌<◌, ◌⊎◌, inl, inr, min, max, Bool, true, false, cond, not, ◌==◌, ◌&&◌, ◌||◌, nat_lt, nat_le, Option, Some, None, List, [], ◌∷◌, ◌++◌, map, filter, length, take, drop, get_or, refl, ap, sym, ◌∙◌, subst, arith}
-use Rattle.std.specs.List.{AllByRecursion, range_with_len}
-use Rattle.std.proofs.Math.Seq.{take-take, drop-drop, take-add, take_all}
+use Rattle.std.proofs.Common.{◌≡◌, ℕ, zero, suc, ◌+◌, ◌-◌, ◌≤◌, ◌<◌, max, Bool, true, false, cond, ◌==◌, ◌&&◌, ◌||◌, nat_lt, nat_le, Option, Some, None, List, [], ◌∷◌, map, filter, length, take, drop, get_or, refl, ap, sym, ◌∙◌, arith}
+use Rattle.std.specs.List.{AllByRecursion}
+use Rattle.std.proofs.Math.Seq.{take-take, drop-drop, take-add}
 use Rattle.std.proofs.Math.ListN.{length-take, length-drop, length-map}
 use Rattle.std.proofs.lemmas.List.{take-map, drop-map, drop-take, get_or_past}
 use Rattle.std.proofs.lemmas.List.FromFn.{length-map-range_with_len, get_or-map-range_with_len}
 use Rattle.std.proofs.lemmas.Bool.{and_parts, and_from, leb-true, leb-false, le-leb, ltb-true, ltb-false, lt-ltb}
 use Rattle.std.proofs.lemmas.Bool.Decides.{nat_tests}
-use Rattle.game_trait.proofs.Lists.{all-append, all-to_map}
+use Rattle.game_trait.proofs.Lists.{all-append}
 use Rattle.peer_model.specs.Queue.{Sent, Queue, Part, have_of, last_time, part_of}
 use Rattle.peer_model.specs.Peer.{Span, may_span, not_same, packet_from}
 use Rattle.peer_model.specs.Due.{end_from, due_from, listed, due_spans}

@@ -1,7 +1,7 @@
--- A turn of a peer is calls of the session.
+-- Turns, steps and other plans of a peer are calls of the session.
 use Rattle.std.proofs.Common.{◌≡◌, ℕ, zero, suc, ◌+◌, ◌≤◌, ◌<◌, Bool, true, false, cond, ◌==◌, nat_lt, List, [], ◌∷◌, ◌++◌, length, refl, ap, sym, ◌∙◌, arith}
 use Rattle.std.proofs.lemmas.Bool.{lt-ltb}
-use Rattle.game_trait.specs.declared.event.Event.TheVariants.{Step}
+use Rattle.game_trait.specs.declared.event.Event.TheVariants.{Step, Restagger}
 use Rattle.game_trait.specs.Game.{Rules}
 use Rattle.sync_model.specs.Turns.{steps_from}
 use Rattle.sync_model.proofs.Cases.{next-fixed}
@@ -12,7 +12,7 @@ use Rattle.peer_window.specs.Window.{RollPeer}
 use Rattle.peer_window.specs.Session.{RollNet, Terms, Call, with_roll, rolls_event, rolls_forget, calls, all_calls}
 use Rattle.peer_window.specs.Session as session
 use Rattle.peer_calls.specs.State.{Config, State, window_of}
-use Rattle.peer_calls.specs.Moving.{after_turn, step_calls, turn_calls}
+use Rattle.peer_calls.specs.Moving.{after_turn, step_calls, turn_calls, after_step, after_restagger, after_mark}
 
 last-wins : {X : Type 0} (b : Bool) (x y z : X) → cond b x (cond b y z) ≡ cond b x z
 last-wins true x y z = refl
@@ -58,3 +58,29 @@ turn-goes rules c terms n s at keep =
     ∙ ap (λ (v : RollPeer _). with_roll s.me (rolls_forget (terms.keep s.me) v) (with_roll s.me end n)) (put-same s.me end n.peers)
     ∙ peer-again s.me (rolls_forget (terms.keep s.me) end) end n
     ∙ ap (λ (k : ℕ). with_roll s.me (rolls_forget k end) n) keep
+
+-- ---- a step, and another plan, by themselves
+
+pub step-call : {W : Type 0} (rules : Rules W) (terms : Terms) (n : RollNet W) (s : State W) (copy : ℕ)
+    → n.peers s.me ≡ window_of s → copy < length s.roll.left.runs
+    → calls rules terms n (session.StepOf s.me copy) ≡ with_roll s.me (window_of (after_step copy s)) n
+step-call rules terms n s copy at there =
+    let is = lt-ltb copy (length s.roll.left.runs) there in
+    ap (λ (v : RollPeer _). cond (nat_lt copy (length v.roll.left.runs)) (with_roll s.me (rolls_event (Step copy) v) n) n) at
+    ∙ ap (λ (b : Bool). cond b (with_roll s.me (rolls_event (Step copy) (window_of s)) n) n) is
+    ∙ ap (λ (b : Bool). with_roll s.me (window_of (cond b (record s { roll = left_after s.roll (Step copy) }) s)) n) (sym is)
+
+pub restagger-call : {W : Type 0} (rules : Rules W) (terms : Terms) (n : RollNet W) (s : State W) (plan : ℕ)
+    → n.peers s.me ≡ window_of s → plan < length s.roll.left.plans
+    → calls rules terms n (session.RestaggerOf s.me plan) ≡ with_roll s.me (window_of (after_restagger plan s)) n
+restagger-call rules terms n s plan at there =
+    let is = lt-ltb plan (length s.roll.left.plans) there in
+    ap (λ (v : RollPeer _). with_roll s.me (rolls_event (Restagger plan) v) n) at
+    ∙ ap (λ (b : Bool). with_roll s.me (window_of (cond b (record s { roll = left_after s.roll (Restagger plan) }) s)) n) (sym is)
+
+marks-if : {W : Type 0} (b : Bool) (s t : State W) → record t { marks = s.marks } ≡ s → record (cond b s t) { marks = s.marks } ≡ s
+marks-if true s t same = refl
+marks-if false s t same = same
+
+pub mark-alone : {W : Type 0} (sum : ℕ) (s : State W) → record (after_mark sum s) { marks = s.marks } ≡ s
+mark-alone sum s = marks-if _ s _ refl

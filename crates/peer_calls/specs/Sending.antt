@@ -1,9 +1,9 @@
 -- What a peer puts into a packet for another one.
-use Rattle.std.specs.Prelude.{ℕ, ◌-◌, Bool, not, nat_lt, ◌==◌, ◌&&◌, if◌then◌else◌, Option, Some, None, List, [], ◌∷◌, ◌++◌, map, length}
+use Rattle.std.specs.Prelude.{ℕ, ◌-◌, Bool, not, nat_lt, ◌==◌, ◌&&◌, if◌then◌else◌, Option, Some, None, List, [], ◌∷◌, map, length}
 use Rattle.std.specs.List.{range_with_len}
 use Rattle.peer_model.specs.Queue.{Queue, have_of, part_of}
 use Rattle.peer_model.specs.Peer.{Span, put}
-use Rattle.peer_model.specs.Marks.{Mark, Marks}
+use Rattle.peer_model.specs.Marks.{Mark}
 use Rattle.peer_model.specs.Due.{due_spans}
 use Rattle.peer_packet.specs.Packet as wire
 use Rattle.peer_packet.specs.Filling.{Filled, put_in, weight}

@@ -1,7 +1,7 @@
 -- All that a peer knows, of which each of its calls is a function.
-use Rattle.std.specs.Prelude.{ℕ, Option, Some, None, List, [], map}
+use Rattle.std.specs.Prelude.{ℕ, Option, Some, None}
 use Rattle.rolling_mirror.specs.Rolling.{RollState}
-use Rattle.peer_model.specs.Queue.{Queue, Sent, Part, new_queue}
+use Rattle.peer_model.specs.Queue.{Queue, new_queue}
 use Rattle.peer_model.specs.Marks.{Marks, no_marks}
 use Rattle.peer_window.specs.Window.{RollPeer, roll_clock}
 use Rattle.peer_packet.specs.declared.terms.Terms.{Terms}

@@ -1,5 +1,5 @@
 -- Commands, parts and packets of a session, as packets carry them.
-use Rattle.std.specs.Prelude.{ℕ, List, map, get_or}
+use Rattle.std.specs.Prelude.{map, get_or}
 use Rattle.peer_model.specs.Queue.{Sent, Part}
 use Rattle.peer_model.specs.Peer.{Packet}
 use Rattle.peer_packet.specs.Packet as wire

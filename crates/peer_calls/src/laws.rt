@@ -1,7 +1,7 @@
 //! What a peer's calls are in a session of `peer_model`. Each law is the contract of a function without
 //! parameters that does nothing.
 
-ghost use Rattle.std.specs.Prelude.{◌≡◌, ℕ, ◌≤◌, ◌<◌, List, length};
+ghost use Rattle.std.specs.Prelude.{◌≡◌, ℕ, ◌≤◌, ◌<◌, ◌++◌, Some, List, [], ◌∷◌, length, slice_get};
 ghost use Rattle.peer_model.specs.declared.own.OwnAnswer.{OwnAnswer};
 ghost use Rattle.peer_model.specs.Queue.{have_of};
 ghost use Rattle.peer_model.specs.Peer.{Span, packet_from};
@@ -13,7 +13,7 @@ ghost use Rattle.peer_calls.specs.Wire.{packet_from_wire};
 ghost use Rattle.peer_calls.specs.Sending.{packet_for, after_packet};
 ghost use Rattle.peer_calls.specs.Hearing.{after_hearing};
 ghost use Rattle.peer_calls.specs.Issuing.{said_to_peers_own, after_own, issued_in};
-ghost use Rattle.peer_calls.specs.Moving.{after_turn, turn_calls};
+ghost use Rattle.peer_calls.specs.Moving.{after_turn, turn_calls, after_step, after_restagger, after_mark};
 
 use game_trait::Game;
 use peer_window::laws::an_own_command_that_is_taken_is_a_call;
@@ -59,4 +59,42 @@ pub fn a_turn_is_calls<G: Game>()
         → n.peers s.me ≡ window_of s → terms.keep s.me ≡ c.keep
         → all_calls G.rules terms n (turn_calls s.me (length (ticked G.rules s.roll).left.runs))
         ≡ with_roll s.me (window_of (after_turn G.rules c s)) n }
+{}
+
+/// Making a packet is a call of the session, for some spans: the packet is among all that were made.
+pub fn making_a_packet_is_a_call<G: Game>()
+    ensures { (c : Config) (terms : Terms) (n : RollNet G) (s : State G) (to room : ℕ)
+        → n.peers s.me ≡ window_of s → terms.slots ≡ c.terms.slots
+        → ((o : ℕ) → c.terms.slots ≤ o → have_of (s.queues o) ≡ 0)
+        → (spans : List Span)
+        × (calls G.rules terms n (Call.Make s.me to spans)
+        ≡ record n { packets = n.packets ++ packet_from_wire (packet_for c to room s) ∷ [] }) }
+{}
+
+/// Hearing any packet that was made, and is for this peer, is a call of the session: it leaves the session
+/// with that peer as it is behind it, and all else as it was.
+pub fn hearing_a_packet_is_a_call<G: Game>()
+    ensures { (c : Config) (terms : Terms) (n : RollNet G) (s : State G) (which : ℕ) (p : Packet)
+        → n.peers s.me ≡ window_of s → terms.room s.me ≡ c.room → p.to ≡ s.me
+        → slice_get n.packets which ≡ Some (packet_from_wire p)
+        → calls G.rules terms n (Call.Hear which) ≡ with_roll s.me (window_of (after_hearing c p s)) n }
+{}
+
+/// A step of a copy that is there is a call of the session.
+pub fn a_step_is_a_call<G: Game>()
+    ensures { (terms : Terms) (n : RollNet G) (s : State G) (copy : ℕ)
+        → n.peers s.me ≡ window_of s → copy < length s.roll.left.runs
+        → calls G.rules terms n (Call.StepOf s.me copy) ≡ with_roll s.me (window_of (after_step copy s)) n }
+{}
+
+/// Another plan that is there, in force at one peer, is a call of the session.
+pub fn another_plan_is_a_call<G: Game>()
+    ensures { (terms : Terms) (n : RollNet G) (s : State G) (plan : ℕ)
+        → n.peers s.me ≡ window_of s → plan < length s.roll.left.plans
+        → calls G.rules terms n (Call.RestaggerOf s.me plan) ≡ with_roll s.me (window_of (after_restagger plan s)) n }
+{}
+
+/// A mark changes a peer's marks, and nothing else of it.
+pub fn a_mark_changes_marks_alone<G: Game>()
+    ensures { (sum : ℕ) (s : State G) → record (after_mark sum s) { marks = s.marks } ≡ s }
 {}
