@@ -2,12 +2,12 @@
 
 use crate::tests::program::{WHOLE, run_on};
 use crate::tests::stage::asserts::{assert_same, assert_that};
-use crate::tests::stage::blocks::matched;
 use crate::tests::stage::lines::{assert_lines, joined, push_events};
 use arena_rules::Arena;
 use copy_workers::Gate;
 use game_trait::Game;
 use match_data::Match;
+use match_file::read_match;
 use match_setup::Shown;
 use mirror_core::Mirror;
 use race_hall::{budget_of, race, race_with};
@@ -77,6 +77,11 @@ pub(super) fn assert_legal<R: Threads + Wait + Sync + Abort>(
         is_legal,
         (name, "an audit says", found.written.as_str()),
     );
+}
+
+// The match of a text.
+fn matched(rt: &impl Abort, alloc: Global, text: &str) -> Match {
+    read_match(alloc, text.as_bytes()).expect(rt, "a match")
 }
 
 // Asserts that lines begin with a block, behind which the next world, the next log or the end of a

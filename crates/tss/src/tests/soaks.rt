@@ -71,6 +71,20 @@ const ZERO: [&str; 3] = [
     "same yes\ndone\n",
 ];
 
+// The same of the greatest number.
+const GREATEST: [&str; 3] = [
+    "soak 4294967295 commands 4096\n",
+    "mirror 0 accepted 4096 turned 0 repairs 8269\n\
+    mirror 1 accepted 4096 turned 0 repairs 8468\n\
+    mirror 2 accepted 4096 turned 0 repairs 8377\n\
+    mirror 3 accepted 4096 turned 0 repairs 8351\n\
+    mirror 4 accepted 4096 turned 0 repairs 8267\n\
+    mirror 5 accepted 4096 turned 0 repairs 8367\n\
+    mirror 6 accepted 4096 turned 0 repairs 8353\n\
+    mirror 7 accepted 4096 turned 0 repairs 8316\n",
+    "same yes\ndone\n",
+];
+
 // Asserts that a number is soaked so, from a source that would fail at once.
 fn assert_soaked<R: Threads + Wait + Sync + Abort>(
     rt: &R,
@@ -97,4 +111,5 @@ fn assert_soaked<R: Threads + Wait + Sync + Abort>(
 fn numbers_are_soaked(rt: HostRuntime) {
     assert_soaked(&rt, rt.alloc(), "7", &SEVEN);
     assert_soaked(&rt, rt.alloc(), "0", &ZERO);
+    assert_soaked(&rt, rt.alloc(), "4294967295", &GREATEST);
 }

@@ -1,9 +1,4 @@
-//! What tests stand on: assertions, texts that are put together and compared, a small game, and a post
-//! in memory.
+//! What tests stand on: assertions, and texts that are put together and compared.
 
 pub(super) mod asserts;
-pub(super) mod blocks;
-pub(super) mod counting_game;
 pub(super) mod lines;
-pub(super) mod making;
-pub(super) mod memory_post;
