@@ -7,7 +7,8 @@ use Rattle.peer_window.specs.Window.{RollPeer, roll_clock}
 use Rattle.peer_window.specs.Session.{RollNet, Terms, with_roll, rolls_hear, rolls_bring, calls}
 use Rattle.peer_window.specs.Session as session
 use Rattle.peer_packet.specs.Packet as wire
-use Rattle.peer_calls.specs.State.{Config, State, window_of}
+use Rattle.peer_calls.specs.declared.config.Config.{Config}
+use Rattle.peer_calls.specs.State.{State, window_of}
 use Rattle.peer_calls.specs.Wire.{packet_from_wire}
 use Rattle.peer_calls.specs.Sending.{packet_for}
 use Rattle.peer_calls.specs.Hearing.{after_hearing}

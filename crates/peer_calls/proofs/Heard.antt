@@ -7,7 +7,9 @@ use Rattle.peer_model.specs.Peer.{put, refuses}
 use Rattle.peer_window.specs.Window.{RollPeer, with_heard, rolls_part, rolls_parts, rolls_head, rolls_packet}
 use Rattle.peer_window.specs.Session.{rolls_hear}
 use Rattle.peer_packet.specs.Packet as wire
-use Rattle.peer_calls.specs.State.{Config, State, Newest, clock_now, newest_clock, window_of}
+use Rattle.peer_calls.specs.declared.config.Config.{Config}
+use Rattle.peer_calls.specs.declared.newest.Newest.{Newest}
+use Rattle.peer_calls.specs.State.{State, clock_now, newest_clock, window_of}
 use Rattle.peer_calls.specs.Wire.{part_from, packet_from_wire}
 use Rattle.peer_calls.specs.Hearing.{newer, hears_head, hears_packet, is_packet_refused, after_hearing}
 

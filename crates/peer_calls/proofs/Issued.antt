@@ -8,7 +8,8 @@ use Rattle.peer_model.specs.Own.{said_to_own}
 use Rattle.peer_window.specs.Window.{RollPeer}
 use Rattle.peer_window.specs.Session.{RollNet, Terms, own_now, rolls_own, rolls_issues, calls}
 use Rattle.peer_window.specs.Session as session
-use Rattle.peer_calls.specs.State.{Config, State, window_of}
+use Rattle.peer_calls.specs.declared.config.Config.{Config}
+use Rattle.peer_calls.specs.State.{State, window_of}
 use Rattle.peer_calls.specs.Issuing.{said_to_peers_own, issued_by, after_own, issued_in}
 
 pub own-issued : {W : Type 0} (rules : Rules W)

@@ -1,7 +1,8 @@
 -- What a call that is refused leaves, and what making a packet changes.
 use Rattle.std.proofs.Common.{◌≡◌, ℕ, Bool, true, false, cond, refl}
-use Rattle.peer_packet.specs.Filling.{Cursor}
-use Rattle.peer_calls.specs.State.{Config, State}
+use Rattle.peer_packet.specs.declared.cursor.Cursor.{Cursor}
+use Rattle.peer_calls.specs.declared.config.Config.{Config}
+use Rattle.peer_calls.specs.State.{State}
 use Rattle.peer_calls.specs.Sending.{after_packet, filled_for}
 use Rattle.peer_model.specs.Peer.{put}
 

@@ -14,9 +14,11 @@ use Rattle.peer_model.specs.Due.{end_from, due_from, listed, due_spans}
 use Rattle.peer_model.proofs.Pieces.{last-append}
 use Rattle.peer_model.proofs.Progress.{end-within}
 use Rattle.peer_packet.specs.Packet as wire
-use Rattle.peer_packet.specs.Filling.{Cursor, Filled, later_part, first_part, behind_cursor, or_all, from_cursor, fitting, ends_before, filled, put_in}
+use Rattle.peer_packet.specs.declared.cursor.Cursor.{Cursor}
+use Rattle.peer_packet.specs.Filling.{Filled, later_part, first_part, behind_cursor, or_all, from_cursor, fitting, ends_before, filled, put_in}
 use Rattle.peer_packet.specs.Filling as fill
-use Rattle.peer_calls.specs.State.{Config, State, clock_now, window_of}
+use Rattle.peer_calls.specs.declared.config.Config.{Config}
+use Rattle.peer_calls.specs.State.{State, clock_now, window_of}
 use Rattle.peer_calls.specs.Wire.{as_sent, as_part, sent_from, part_from, packet_from_wire}
 use Rattle.peer_calls.specs.Sending.{counts_of, span_part, due_parts, head_length, filled_for, packet_for}
 

@@ -11,7 +11,8 @@ use Rattle.peer_model.proofs.Counting.{put-same}
 use Rattle.peer_window.specs.Window.{RollPeer}
 use Rattle.peer_window.specs.Session.{RollNet, Terms, Call, with_roll, rolls_event, rolls_forget, calls, all_calls}
 use Rattle.peer_window.specs.Session as session
-use Rattle.peer_calls.specs.State.{Config, State, window_of}
+use Rattle.peer_calls.specs.declared.config.Config.{Config}
+use Rattle.peer_calls.specs.State.{State, window_of}
 use Rattle.peer_calls.specs.Moving.{after_turn, step_calls, turn_calls, after_step, after_restagger, after_mark}
 
 last-wins : {X : Type 0} (b : Bool) (x y z : X) → cond b x (cond b y z) ≡ cond b x z

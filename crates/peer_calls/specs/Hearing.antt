@@ -9,21 +9,15 @@ use Rattle.peer_model.specs.Peer.{put, is_ahead, refuses}
 use Rattle.peer_model.specs.Marks.{Marks, differ, hears_mark}
 use Rattle.peer_window.specs.Window.{RollPeer, next_command, counts, rolls_part, with_heard, rolls_parts}
 use Rattle.peer_packet.specs.Packet as wire
-use Rattle.peer_calls.specs.State.{Config, State, Newest, clock_now, window_of, with_window}
+use Rattle.peer_calls.specs.declared.config.Config.{Config}
+use Rattle.peer_calls.specs.declared.newest.Newest.{Newest}
+use Rattle.peer_calls.specs.State.{State, clock_now, window_of, with_window}
+use Rattle.peer_calls.specs.declared.told.Told.{Told}
+use Rattle.peer_calls.specs.declared.answers.HearAnswer.{HearAnswer}
+use Rattle.peer_calls.specs.declared.answers.HearAnswer.TheVariants.{NotForMe, Ahead, Conflict, Heard}
 use Rattle.peer_calls.specs.Wire.{part_from, packet_from_wire}
 
 -- ---- what is told
-
--- how many commands were taken and were late, the most copies that one of them repaired, whether a gap, the window's
--- end or want of room stopped a part, and whether the other one's mark differs
-pub record Told : Type 0 where
-  pub taken : ℕ
-  pub late : ℕ
-  pub repaired : ℕ
-  pub gap : Bool
-  pub far : Bool
-  pub full : Bool
-  pub differs : Bool
 
 -- the mirror's answer to a command
 abbrev pub with_answer : Arrival → Told → Told
@@ -101,12 +95,6 @@ told_of c p s =
 unfoldable pub conflicting : List Part → (ℕ → Queue) → ℕ
 conflicting [] queues = 0
 conflicting (p ∷ ps) queues = if conflicts p (queues p.origin) then p.origin else conflicting ps queues
-
-pub data HearAnswer : Type 0 where
-  NotForMe : HearAnswer
-  Ahead : HearAnswer
-  Conflict : (origin : ℕ) → HearAnswer
-  Heard : (from : ℕ) → (told : Told) → HearAnswer
 
 -- what it answers to a packet that was read; the first refusal in this order
 abbrev pub said_to_packet_heard : {W : Type 0} → Config → wire.Packet → State W → HearAnswer

@@ -7,7 +7,8 @@ use Rattle.peer_model.specs.Own.{said_to_own}
 use Rattle.peer_model.specs.Peer.{put}
 use Rattle.peer_window.specs.Window.{RollPeer}
 use Rattle.peer_window.specs.Session.{RollNet, own_now, rolls_own}
-use Rattle.peer_calls.specs.State.{Config, State, window_of, with_window}
+use Rattle.peer_calls.specs.declared.config.Config.{Config}
+use Rattle.peer_calls.specs.State.{State, window_of, with_window}
 
 -- what it answers to a command of these bytes, so many ticks ahead
 abbrev pub said_to_peers_own : {W : Type 0} → Config → ℕ → List ℕ → State W → OwnAnswer

@@ -4,3 +4,4 @@ pub mod Sending
 pub mod Hearing
 pub mod Issuing
 pub mod Moving
+pub mod Handing

@@ -1,7 +1,6 @@
 -- What a peer makes of a turn of its clock, of a step, of another plan and of a mark.
 use Rattle.std.specs.Prelude.{ℕ, zero, suc, ◌+◌, ◌-◌, nat_lt, if◌then◌else◌, Option, Some, None, List, [], ◌∷◌, ◌++◌, length}
 use Rattle.game_trait.specs.Game.{Rules}
-use Rattle.game_trait.specs.declared.event.Ticked.{Ticked}
 use Rattle.game_trait.specs.declared.event.Event.TheVariants.{Step, Restagger}
 use Rattle.game_trait.specs.declared.event.Reply.{Reply}
 use Rattle.sync_model.specs.Host.{most_repaired}
@@ -11,7 +10,9 @@ use Rattle.peer_model.specs.Queue.{trimmed}
 use Rattle.peer_model.specs.Marks.{is_marked, marked}
 use Rattle.peer_window.specs.Session.{Call}
 use Rattle.peer_window.specs.Session as session
-use Rattle.peer_calls.specs.State.{Config, State}
+use Rattle.peer_calls.specs.declared.config.Config.{Config}
+use Rattle.peer_calls.specs.declared.answers.TurnAnswer.{TurnAnswer}
+use Rattle.peer_calls.specs.State.{State}
 
 -- a tick, a step of each copy, and then each queue forgets what the last copy passed so many ticks ago
 abbrev pub after_turn : {W : Type 0} → Rules W → Config → State W → State W
@@ -21,10 +22,6 @@ after_turn rules c s = record s {
 }
 
 -- what it answers: whether the clock moved, and the most copies that one of the steps repaired
-pub record TurnAnswer : Type 0 where
-  pub ticked : Ticked
-  pub repaired : ℕ
-
 abbrev pub said_to_peers_turn : {W : Type 0} → Rules W → State W → TurnAnswer
 said_to_peers_turn rules s = record {
   ticked = said_to_tick s.roll;

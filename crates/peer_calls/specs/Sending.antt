@@ -3,11 +3,14 @@ use Rattle.std.specs.Prelude.{ℕ, ◌-◌, Bool, not, nat_lt, ◌==◌, ◌&&�
 use Rattle.std.specs.List.{range_with_len}
 use Rattle.peer_model.specs.Queue.{Queue, have_of, part_of}
 use Rattle.peer_model.specs.Peer.{Span, put}
-use Rattle.peer_model.specs.Marks.{Mark}
+use Rattle.peer_model.specs.declared.mark.Mark.{Mark}
 use Rattle.peer_model.specs.Due.{due_spans}
 use Rattle.peer_packet.specs.Packet as wire
 use Rattle.peer_packet.specs.Filling.{Filled, put_in, weight}
-use Rattle.peer_calls.specs.State.{Config, State, clock_now, newest_clock}
+use Rattle.peer_calls.specs.declared.config.Config.{Config}
+use Rattle.peer_calls.specs.State.{State, clock_now, newest_clock}
+use Rattle.peer_calls.specs.declared.answers.PacketAnswer.{PacketAnswer}
+use Rattle.peer_calls.specs.declared.answers.PacketAnswer.TheVariants.{NotThere, Short, Made}
 use Rattle.peer_calls.specs.Wire.{as_part}
 
 -- how many commands of each slot it has
@@ -54,13 +57,6 @@ packet_for c to room s = record (head_for c to s) { parts = (filled_for c to roo
 
 abbrev pub packet_bytes : {W : Type 0} → Config → ℕ → ℕ → State W → List ℕ
 packet_bytes c to room s = wire.bytes_of c.terms.session (packet_for c to room s)
-
--- what it answers: there is no such other peer; no room for the head, whose length is told; or the packet's length,
--- and whether more is due than is in it
-pub data PacketAnswer : Type 0 where
-  NotThere : PacketAnswer
-  Short : (head : ℕ) → PacketAnswer
-  Made : (is_more : Bool) → (size : ℕ) → PacketAnswer
 
 -- the other end of a packet
 abbrev pub is_other : {W : Type 0} → Config → ℕ → State W → Bool

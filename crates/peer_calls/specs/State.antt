@@ -4,22 +4,9 @@ use Rattle.rolling_mirror.specs.Rolling.{RollState}
 use Rattle.peer_model.specs.Queue.{Queue, new_queue}
 use Rattle.peer_model.specs.Marks.{Marks, no_marks}
 use Rattle.peer_window.specs.Window.{RollPeer, roll_clock}
-use Rattle.peer_packet.specs.declared.terms.Terms.{Terms}
-use Rattle.peer_packet.specs.Filling.{Cursor, at_start}
-
--- what a peer is made with: the session's terms; how many ticks behind its clock another's command is passed on, and
--- behind its last copy a command is remembered; how many of a slot at once
-pub record Config : Type 0 where
-  pub terms : Terms
-  pub relay : ℕ
-  pub keep : ℕ
-  pub room : ℕ
-
--- the newest clock and echo that were heard of another peer, and this one's clock then
-pub record Newest : Type 0 where
-  pub clock : ℕ
-  pub echo : ℕ
-  pub at : ℕ
+use Rattle.peer_packet.specs.declared.cursor.Cursor.{Cursor}
+use Rattle.peer_packet.specs.Filling.{at_start}
+use Rattle.peer_calls.specs.declared.newest.Newest.{Newest}
 
 -- its slot, and the clock from which its commands are taken; a queue for each slot; of each other peer what it is
 -- known to have, the newest that was heard, and where the last packet for it ended; marks; and its mirror

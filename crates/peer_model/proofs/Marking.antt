@@ -4,7 +4,8 @@ use Rattle.std.specs.Prelude.{IfSome}
 use Rattle.std.specs.List.{AllByRecursion, list_any}
 use Rattle.std.proofs.lemmas.Bool.{or_from, eqb-true, eq-eqb}
 use Rattle.game_trait.proofs.Lists.{all-append}
-use Rattle.peer_model.specs.Marks.{Mark, Marks, differ, if_differs, seen, marked, is_newer, hears_mark, no_marks, IsOf, AreOf}
+use Rattle.peer_model.specs.declared.mark.Mark.{Mark}
+use Rattle.peer_model.specs.Marks.{Marks, differ, if_differs, seen, marked, is_newer, hears_mark, no_marks, IsOf, AreOf}
 use Rattle.peer_model.proofs.Peers.{put-all}
 
 same-sum : (sums : ℕ → ℕ) (a b : Mark) → IsOf sums a → IsOf sums b → differ a b ≡ false

@@ -1,11 +1,8 @@
 -- Marks: the sum of a last copy's world at a tick, which peers tell each other.
 use Rattle.std.specs.Prelude.{◌≡◌, ℕ, ◌-◌, Bool, true, false, not, nat_lt, nat_le, ◌==◌, ◌&&◌, if◌then◌else◌, Option, Some, None, List, [], ◌∷◌, ◌++◌, length, drop, IfSome}
 use Rattle.std.specs.List.{AllByRecursion, list_any}
+use Rattle.peer_model.specs.declared.mark.Mark.{Mark}
 use Rattle.peer_model.specs.Peer.{put}
-
-pub record Mark : Type 0 where
-  pub tick : ℕ
-  pub sum : ℕ
 
 -- a peer's own last 64 marks, their ticks rising, the newest of each other one, and the first tick at which one's
 -- mark was seen to differ

@@ -2,6 +2,8 @@
 #![tactic(auto)]
 
 pub mod laws;
+mod mark;
 mod own;
 
+pub use mark::Mark;
 pub use own::{OwnAnswer, OwnNow, said_to_own};

@@ -5,7 +5,8 @@ use Rattle.std.specs.List.{AllByRecursion}
 use Rattle.std.proofs.lemmas.Bool.{leb-true, leb-false, ltb-true, ltb-false, lt-ltb}
 use Rattle.std.proofs.lemmas.List.{length-drop}
 use Rattle.peer_packet.specs.Packet.{Part, part_bytes}
-use Rattle.peer_packet.specs.Filling.{Cursor, Filled, at_start, later_part, first_part, behind_cursor, fitting, ends_before, filled, weight}
+use Rattle.peer_packet.specs.declared.cursor.Cursor.{Cursor}
+use Rattle.peer_packet.specs.Filling.{Filled, at_start, later_part, first_part, behind_cursor, fitting, ends_before, filled, weight}
 use Rattle.peer_packet.proofs.Goes.{Rises}
 
 -- a cursor stands at another or behind it
@@ -16,14 +17,14 @@ After c d = (c.slot < d.slot) ⊎ ((c.slot ≡ d.slot) × (c.number ≤ d.number
 unfoldable pub Waits : Cursor → Part → Type 0
 Waits c p = (c.slot < p.origin) ⊎ ((c.slot ≡ p.origin) × (c.number ≤ p.first))
 
-above-wait : (c : Cursor) (least : ℕ) (ps : List Part) → c.slot < least → Rises least ps → AllByRecursion (Waits c) ps
+pub above-wait : (c : Cursor) (least : ℕ) (ps : List Part) → c.slot < least → Rises least ps → AllByRecursion (Waits c) ps
 unfolding Rises Waits
 above-wait c least [] less h = tt
 above-wait c least (p ∷ ps) less h = (let up = h.0 in (inl (omega arith), above-wait c (p.origin + 1) ps (omega arith) h.1))
 
 -- what a cursor leaves out of parts, case by case: those of slots below it; none, where it is at the first or before
 -- it; the first, where it is behind that; or the first numbers of that
-cases :
+pub cases :
     (Q : List Part → Type 0) (c : Cursor) (p : Part) (ps : List Part)
     → (p.origin < c.slot → Q (behind_cursor c ps)) → (Waits c p → Q (p ∷ ps))
     → (c.slot ≡ p.origin → p.first < c.number → p.first + length p.commands ≤ c.number → Q ps)
@@ -55,7 +56,7 @@ cases Q c p ps below waits past within =
     refl
 
 -- parts that wait are all behind it
-waiting : (c : Cursor) (ps : List Part) → AllByRecursion (Waits c) ps → behind_cursor c ps ≡ ps
+pub waiting : (c : Cursor) (ps : List Part) → AllByRecursion (Waits c) ps → behind_cursor c ps ≡ ps
 unfolding behind_cursor Waits
 waiting c [] h = refl
 waiting c (p ∷ ps) h =

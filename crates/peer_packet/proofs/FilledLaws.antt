@@ -8,24 +8,25 @@ use Rattle.std.proofs.lemmas.List.{length-take, length-drop}
 use Rattle.peer_packet.specs.declared.part.PartHead.{PartHead}
 use Rattle.peer_packet.specs.declared.terms.Terms.{Terms}
 use Rattle.peer_packet.specs.Packet.{Sent, Part, Packet, head_of, part_bytes, is_part, AreSent, IsPart, AreParts, IsPacket}
-use Rattle.peer_packet.specs.Filling.{Cursor, Filled, last_time, later_part, first_part, behind_cursor, or_all, from_cursor, fitting, ends_before, filled, put_in, at_start, weight}
+use Rattle.peer_packet.specs.declared.cursor.Cursor.{Cursor}
+use Rattle.peer_packet.specs.Filling.{Filled, last_time, later_part, first_part, behind_cursor, or_all, from_cursor, fitting, ends_before, filled, put_in, at_start, weight}
 use Rattle.peer_packet.proofs.Goes.{Rises, filled-less, starts}
 use Rattle.peer_packet.proofs.Cursors.{all-wait, filled-after, from-start, waits-less}
 
 -- ---- commands
 
-take-sent : (payload before k : ℕ) (cs : List Sent) → AreSent payload before cs → AreSent payload before (take k cs)
+pub take-sent : (payload before k : ℕ) (cs : List Sent) → AreSent payload before cs → AreSent payload before (take k cs)
 take-sent payload before zero cs h = tt
 take-sent payload before (suc k) [] h = tt
 take-sent payload before (suc k) (c ∷ cs) h = (h.0, take-sent payload c.time k cs h.1)
 
-drop-sent : (payload before k : ℕ) (cs : List Sent) → AreSent payload before cs → AreSent payload (last_time before (take k cs)) (drop k cs)
+pub drop-sent : (payload before k : ℕ) (cs : List Sent) → AreSent payload before cs → AreSent payload (last_time before (take k cs)) (drop k cs)
 unfolding last_time
 drop-sent payload before zero cs h = h
 drop-sent payload before (suc k) [] h = tt
 drop-sent payload before (suc k) (c ∷ cs) h = drop-sent payload c.time k cs h.1
 
-last-short : (payload before k : ℕ) (cs : List Sent) → before < 2 ^ 32 → AreSent payload before cs → last_time before (take k cs) < 2 ^ 32
+pub last-short : (payload before k : ℕ) (cs : List Sent) → before < 2 ^ 32 → AreSent payload before cs → last_time before (take k cs) < 2 ^ 32
 unfolding last_time
 last-short payload before zero cs b h = b
 last-short payload before (suc k) [] b h = b
@@ -34,18 +35,18 @@ last-short payload before (suc k) (c ∷ cs) b h = last-short payload c.time k c
 -- ---- a part
 
 -- a part may begin so
-abbrev begins : PartHead → Bool
+abbrev pub begins : PartHead → Bool
 begins h = nat_lt 0 h.first || (h.before == 0 && nat_lt 0 h.count)
 
 -- what the test of a head tells
-record Stands (slots to : ℕ) (have : List ℕ) (least : ℕ) (h : PartHead) : Type 0 where
-  low : nat_le least h.origin ≡ true
-  slot : nat_lt h.origin slots ≡ true
-  other : not (h.origin == to) ≡ true
-  within : nat_le (h.first + h.count) (get_or have h.origin 0) ≡ true
-  begun : begins h ≡ true
+pub record Stands (slots to : ℕ) (have : List ℕ) (least : ℕ) (h : PartHead) : Type 0 where
+  pub low : nat_le least h.origin ≡ true
+  pub slot : nat_lt h.origin slots ≡ true
+  pub other : not (h.origin == to) ≡ true
+  pub within : nat_le (h.first + h.count) (get_or have h.origin 0) ≡ true
+  pub begun : begins h ≡ true
 
-stands : (slots to : ℕ) (have : List ℕ) (least : ℕ) (h : PartHead) → is_part slots to have least h ≡ true → Stands slots to have least h
+pub stands : (slots to : ℕ) (have : List ℕ) (least : ℕ) (h : PartHead) → is_part slots to have least h ≡ true → Stands slots to have least h
 stands slots to have least h is =
     let w = nat_le (h.first + h.count) (get_or have h.origin 0) in
     let a = and_parts (nat_le least h.origin) (nat_lt h.origin slots && (not (h.origin == to) && (w && begins h))) is in
@@ -54,7 +55,7 @@ stands slots to have least h is =
     let d = and_parts w (begins h) c.1 in
     record { low = a.0; slot = b.0; other = c.0; within = d.0; begun = d.1 }
 
-stands-is : (slots to : ℕ) (have : List ℕ) (least : ℕ) (h : PartHead) → Stands slots to have least h → is_part slots to have least h ≡ true
+pub stands-is : (slots to : ℕ) (have : List ℕ) (least : ℕ) (h : PartHead) → Stands slots to have least h → is_part slots to have least h ≡ true
 stands-is slots to have least h s =
     let w = nat_le (h.first + h.count) (get_or have h.origin 0) in
     and_from (nat_le least h.origin) (nat_lt h.origin slots && (not (h.origin == to) && (w && begins h))) s.low

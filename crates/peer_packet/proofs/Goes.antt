@@ -5,7 +5,8 @@ use Rattle.std.proofs.lemmas.Bool.{and_parts, or_parts, leb-true, le-leb, lt-leb
 use Rattle.std.proofs.lemmas.Bool.Decides.{nat_tests}
 use Rattle.std.proofs.lemmas.List.{length-drop}
 use Rattle.peer_packet.specs.Packet.{Sent, Part, part_bytes, AreSent}
-use Rattle.peer_packet.specs.Filling.{Cursor, Filled, at_start, first_part, behind_cursor, fitting, ends_before, filled, weight}
+use Rattle.peer_packet.specs.declared.cursor.Cursor.{Cursor}
+use Rattle.peer_packet.specs.Filling.{Filled, at_start, first_part, behind_cursor, fitting, ends_before, filled, weight}
 
 -- origins rise, from this one on
 unfoldable pub Rises : ℕ → List Part → Type 0

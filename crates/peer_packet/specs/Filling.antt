@@ -1,13 +1,10 @@
 -- What is put into a packet: of what is due, as much as there is room for, from where the last packet ended.
 use Rattle.std.specs.Prelude.{Bool, List, [], if◌then◌else◌, length, take, drop, nat_le, nat_lt, suc, ℕ, ◌&&◌, ◌+◌, ◌-◌, ◌==◌, ◌||◌, ◌∷◌}
+use Rattle.peer_packet.specs.declared.cursor.Cursor.{Cursor}
 use Rattle.peer_packet.specs.declared.filling.Piece.{Piece}
 use Rattle.peer_packet.specs.Packet.{Sent, Part, part_bytes}
 
--- where a packet begins: a slot and a number of it
-pub record Cursor : Type 0 where
-  pub slot : ℕ
-  pub number : ℕ
-
+-- where the first packet begins
 abbrev pub at_start : Cursor
 at_start = record { slot = 0; number = 0 }
 

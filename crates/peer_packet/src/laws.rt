@@ -4,7 +4,8 @@ ghost use Rattle.std.specs.Prelude.{◌≡◌, ℕ, ◌+◌, ◌≤◌, ◌<◌,
 ghost use Rattle.peer_packet.specs.declared.terms.Terms.{Terms};
 ghost use Rattle.peer_packet.specs.Packet.{Packet, AreTerms, IsPacket, bytes_of};
 ghost use Rattle.peer_packet.specs.Reading.{packet_at};
-ghost use Rattle.peer_packet.specs.Filling.{Cursor, at_start, behind_cursor, filled, put_in, weight};
+ghost use Rattle.peer_packet.specs.declared.cursor.Cursor.{Cursor};
+ghost use Rattle.peer_packet.specs.Filling.{at_start, behind_cursor, filled, put_in, weight};
 
 /// Whatever the room and wherever it begins, what is put of the parts that are due is a packet again, and
 /// reading its bytes gives it.

@@ -1,6 +1,7 @@
 //! A peer's packets as bytes, read in place and put without taking memory.
 #![tactic(auto)]
 
+mod cursor;
 mod fault;
 mod fields;
 mod filling;
@@ -15,6 +16,7 @@ mod vector;
 mod views;
 mod walk;
 
+pub use cursor::Cursor;
 pub use fault::Fault;
 pub use filling::{Commands, Piece, put_part};
 pub use front::Front;

@@ -1,7 +1,8 @@
 //! Marks, by which peers see that their worlds differ.
 
 ghost use Rattle.std.specs.Prelude.{ℕ};
-ghost use Rattle.peer_model.specs.Marks.{Mark, Marks, no_marks, marked, hears_mark, IsOf, AreOf};
+ghost use Rattle.peer_model.specs.declared.mark.Mark.{Mark};
+ghost use Rattle.peer_model.specs.Marks.{Marks, no_marks, marked, hears_mark, IsOf, AreOf};
 
 /// Where the worlds of all peers have one sum at each tick, no mark is ever seen to differ, whatever is
 /// marked and heard, at any time and in any order.
