@@ -4,8 +4,9 @@ mod Kept
 pub mod Arrivals
 pub mod Turns
 mod Opened
-mod Joined
+pub mod Joined
 mod Followed
 mod Told
 mod Onward
 pub mod Standing
+mod RunItems

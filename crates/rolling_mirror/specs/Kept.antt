@@ -1,6 +1,8 @@
 -- What is always true of a mirror of a session without an end.
 use Rattle.std.specs.Prelude.{ℕ, ◌≡◌, ◌+◌, ◌^◌, ◌≤◌, ◌<◌, List, length, map}
 use Rattle.std.specs.List.{AllByRecursion}
+use Rattle.game_trait.specs.declared.command.Item.{Item}
+use Rattle.game_trait.specs.declared.command.Item.TheVariants.{Cmd, Beat}
 use Rattle.game_trait.specs.Run.{beats}
 use Rattle.game_trait.specs.CommandList.{name_of}
 use Rattle.game_trait.specs.NameTree.{NamesOfTree}
@@ -30,3 +32,8 @@ pub record IsRolling {W : Type 0} (r : RollState W) (plans : List Schedule) (nam
   pub names_are : names.items ≡ map name_of r.left.accepted
   pub names_room : length names.items + r.spare ≤ names.room
   pub first_room : length names.items + r.spare ≤ names.first_room
+
+-- a command's time, told from so many ticks before, is a tick of the session
+unfoldable pub IsToldIn : ℕ → Item → Type 0
+IsToldIn base (Cmd x) = x.time + base < 2 ^ 32
+IsToldIn base Beat = Unit {0}

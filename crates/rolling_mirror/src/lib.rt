@@ -10,6 +10,7 @@ mod joining;
 pub mod laws;
 mod names;
 mod rolling;
+mod runs;
 #[cfg(test)]
 mod tests;
 
