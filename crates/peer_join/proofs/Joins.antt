@@ -45,7 +45,7 @@ all-alike P r zero here = tt
 all-alike P r (suc n) here = (here, all-alike P r n here)
 
 -- what holds of all runs, and of none, holds of the last
-last-has : (P : List Item → Type 0) (r : List Item) (runs : List (List Item)) → P r → AllByRecursion P runs → P (last_of r runs)
+pub last-has : (P : List Item → Type 0) (r : List Item) (runs : List (List Item)) → P r → AllByRecursion P runs → P (last_of r runs)
 unfolding last_of
 last-has P r [] here h = here
 last-has P r (s ∷ runs) here h = last-has P s runs h.0 h.1
@@ -80,7 +80,7 @@ trailing-none accepted n some =
       never_early = all-alike (IsNeverEarly zero) [] n tt;
     }
 
-joined-sound :
+pub joined-sound :
     {W : Type 0} (plans : List (List ℕ)) (accepted : List Command) (s : MirrorState W) → 0 < length (get_or plans 0 []) → AreSame accepted s.accepted
     → IsSound s → IsSound (joined_mirror plans accepted (last_clock s.runs) s)
 unfolding IsNeverEarly

@@ -1,2 +1,7 @@
 mod Joins
 mod Opens
+mod Taken
+mod Same
+mod Handed
+mod Fits
+mod Beside

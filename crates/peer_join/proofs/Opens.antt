@@ -16,7 +16,7 @@ use Rattle.peer_window.specs.Window.{IsRolled}
 use Rattle.peer_join.specs.Join.{joined_mirror}
 use Rattle.peer_join.proofs.Joins.{last-same, trailing-none}
 
-first-copies : (plans : List Schedule) → length (get_or (delays_of_each plans) 0 []) ≡ copies_of_first plans
+pub first-copies : (plans : List Schedule) → length (get_or (delays_of_each plans) 0 []) ≡ copies_of_first plans
 first-copies [] = refl
 first-copies (plan ∷ plans) = refl
 
@@ -33,7 +33,7 @@ back-joined plans accepted clock s some =
     ap (λ (runs : List (List Item)). record (joined_mirror plans accepted clock s) { runs = runs })
     (each-same r (last_of [] (replicate n r)) n ∙ ap (λ (run : List Item). replicate n run) (last-same r n some))
 
-opened-rolled :
+pub opened-rolled :
     {W : Type 0} (rules : Rules W) (snap : SessionSnapshot W) (plans : List Schedule) (room keep : ℕ) (r : RollState W)
     → r ≡ opened_at snap plans room keep → IsOpenable snap plans room → snap.clock ≡ snap.base
     → (whole : MirrorState W) (accepted : List Command)

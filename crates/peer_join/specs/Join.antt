@@ -1,5 +1,5 @@
 -- A peer that joins by a snapshot of another one.
-use Rattle.std.specs.Prelude.{◌≡◌, ℕ, Bool, List, [], ◌++◌, length, replicate, slice_index_or}
+use Rattle.std.specs.Prelude.{◌≡◌, ℕ, Bool, nat_lt, List, [], ◌++◌, filter, length, replicate, slice_index_or}
 use Rattle.game_trait.specs.declared.command.Command.{Command}
 use Rattle.game_trait.specs.Count.{times}
 use Rattle.sync_model.specs.Lists.{last_of}
@@ -7,6 +7,7 @@ use Rattle.sync_model.specs.State.{MirrorState}
 use Rattle.peer_model.specs.Queue.{Sent, have_of, trimmed}
 use Rattle.peer_model.specs.Peer.{Peer, clock_of, bound_of}
 use Rattle.peer_model.specs.Net.{Net}
+use Rattle.peer_calls.specs.Handing.{arriving}
 
 -- the same commands, in whatever order
 abbrev pub AreSame : List Command → List Command → Type 0
@@ -22,6 +23,12 @@ joined_mirror plans accepted clock s = record s {
   accepted = accepted;
   runs = replicate (length (slice_index_or plans 0 [])) (last_of [] s.runs);
 }
+
+-- what a joiner accepts: what the maker accepted and its last copy ran, and then what is handed over, by rising slot
+-- and number
+abbrev pub accepted_by : {W : Type 0} → ℕ → Peer W → List Command
+accepted_by slots m =
+    filter (λ x. nat_lt x.time (bound_of m)) m.whole.accepted ++ arriving slots (λ o. trimmed (bound_of m) (m.queues o))
 
 -- it has what the other had, of which it remembers what is due from there on, and heard nothing yet
 abbrev pub joined_peer : {W : Type 0} → List (List ℕ) → List Command → Peer W → Peer W
