@@ -1,1 +1,5 @@
 mod Rooms
+mod Dues
+mod Walks
+mod Hears
+mod Conflicts

@@ -1,19 +1,15 @@
 -- The commands of a slot, item by item.
-use Rattle.std.proofs.Common.{◌≡◌, ℕ, zero, suc, ◌+◌, ◌-◌, ◌≤◌, ◌<◌, Bool, true, false, cond, nat_lt, List, [], ◌∷◌, ◌++◌, map, length, take, drop, get_or, refl, ap, sym, ◌∙◌, arith}
-use Rattle.std.proofs.lemmas.List.{map-append, length-map}
-use Rattle.std.proofs.Math.ListN.{drop_of_length-le}
-use Rattle.std.proofs.Math.Seq.{drop-cons}
+use Rattle.std.proofs.Common.{◌≡◌, ℕ, zero, suc, ◌+◌, ◌-◌, ◌^◌, ◌≤◌, ◌<◌, true, false, cond, nat_lt, ◌==◌, List, [], ◌∷◌, ◌++◌, map, length, take, drop, get_or, refl, ap, sym, subst, ◌∙◌, arith}
+use Rattle.std.specs.List.{AllByRecursion}
+use Rattle.std.proofs.lemmas.List.{map-append, length-map, length-append, length-take, get_or-map}
 use Rattle.std.proofs.lemmas.Bool.Decides.{nat_tests}
 use Rattle.game_trait.specs.Count.{times}
-use Rattle.game_trait.specs.Run.{beats}
-use Rattle.game_trait.specs.declared.command.Item.{Item}
-use Rattle.sync_model.specs.Lists.{last_of}
-use Rattle.sync_model.proofs.Lists.{last_of-at}
-use Rattle.peer_model.specs.Queue.{Sent, Queue, have_of, last_time, due_before, front_before, dropped, trimmed, joined}
-use Rattle.rolling_mirror.specs.Rolling.{RollState, last_tick, said_to_arrival, arrived}
-use Rattle.peer_window.specs.Window.{Heard, next_command, counts, counts_each}
+use Rattle.peer_model.specs.Queue.{Sent, Queue, TimesRise, last_time, due_before, front_before, dropped, trimmed}
+use Rattle.peer_model.proofs.Pieces.{rise-push}
+use Rattle.peer_packet.specs.Packet as wire
+use Rattle.peer_calls.specs.Wire.{as_sent}
 use Rattle.peer_queue.specs.declared.sent.SentBytes.{SentBytes}
-use Rattle.peer_queue.specs.Room.{sent_of}
+use Rattle.peer_queue.specs.Room.{sent_of, IsShort, IsInRoom}
 
 pub map-push : (xs : List SentBytes) (x : SentBytes) → map sent_of (xs ++ x ∷ []) ≡ map sent_of xs ++ sent_of x ∷ []
 map-push xs x = map-append sent_of xs (x ∷ [])
@@ -80,49 +76,95 @@ pub none-there : (n : ℕ) → (0 < n → false ≡ true) → n ≡ 0
 none-there zero h = refl
 none-there (suc n) h = absurd (let k : false ≡ true = h (omega arith) in cc)
 
--- ---- hearing
+-- ---- what is always true
 
-pub last-run : (runs : List (List Item)) → 0 < length runs → beats (get_or runs (length runs - 1) []) ≡ beats (last_of [] runs)
-unfolding last_of
-last-run [] some = absurd (omega arith)
-last-run (r ∷ rs) some =
-    let e : suc (length rs) - 1 ≡ length rs = omega arith in
-    ap (λ (k : ℕ). beats (get_or (r ∷ rs) k [])) e ∙ ap beats (sym (last_of-at r [] rs))
+full-not : (n room : ℕ) → n ≤ room → (n == room) ≡ false → n < room
+full-not n room few not = grind (arith, nat_tests)
 
-pub map-drop : (n : ℕ) (xs : List SentBytes) → map sent_of (drop n xs) ≡ drop n (map sent_of xs)
-map-drop zero xs = refl
-map-drop (suc n) [] = refl
-map-drop (suc n) (x ∷ xs) = map-drop n xs
+pub not-full : (n room : ℕ) → n < room → (n == room) ≡ false
+not-full n room less = grind (arith, nat_tests)
 
-pub drop-past : (n : ℕ) (xs : List SentBytes) → length xs ≤ n → [] ≡ drop n (map sent_of xs)
-drop-past n xs past = sym (drop_of_length-le (map sent_of xs) (let e = length-map xs sent_of in omega arith))
+short-push : (xs : List Sent) (x : Sent) → AllByRecursion IsShort xs → length x.bytes ≤ 64 → AllByRecursion IsShort (xs ++ x ∷ [])
+short-push [] x h short = (short, tt)
+short-push (y ∷ ys) x h short = (h.0, short-push ys x h.1 short)
 
--- one command more, counted or not
-pub next-counted :
-    {W : Type 0} (room o : ℕ) (xs : List SentBytes) (i : ℕ) (d : SentBytes) (q : Queue) (r : RollState W) → i < length xs
-    → let x = get_or xs i d in counts room o (sent_of x) q r ≡ true
-    → counts_each room o (map sent_of (drop i xs)) q r
-    ≡ counts_each room o (map sent_of (drop (i + 1) xs)) (joined (last_tick r) (sent_of x ∷ []) q) (arrived r (next_command o (sent_of x) q) (said_to_arrival r (next_command o (sent_of x) q)))
-unfolding counts_each
-next-counted {W} room o xs i d q r there is =
-    let next : suc i ≡ i + 1 = omega arith in
-    let x = get_or xs i d in
-    let split : drop i xs ≡ x ∷ drop (i + 1) xs = drop-cons xs i d there ∙ (λ j. x ∷ drop (next j) xs) in
-    ap (λ (l : List SentBytes). counts_each room o (map sent_of l) q r) split ∙ rw is refl
+pub short-sent : (x : SentBytes) → x.size ≤ 64 → length (sent_of x).bytes ≤ 64
+short-sent x few = (let e = length-take x.size x.bytes in omega arith)
 
-pub next-stops :
-    {W : Type 0} (room o : ℕ) (xs : List SentBytes) (i : ℕ) (d : SentBytes) (q : Queue) (r : RollState W) → i < length xs
-    → let x = get_or xs i d in counts room o (sent_of x) q r ≡ false
-    → counts_each room o (map sent_of (drop i xs)) q r ≡ record { queue = q; roll = r }
-unfolding counts_each
-next-stops {W} room o xs i d q r there is =
-    let next : suc i ≡ i + 1 = omega arith in
-    let x = get_or xs i d in
-    let split : drop i xs ≡ x ∷ drop (i + 1) xs = drop-cons xs i d there ∙ (λ j. x ∷ drop (next j) xs) in
-    ap (λ (l : List SentBytes). counts_each room o (map sent_of l) q r) split ∙ rw is refl
+-- one command more
+pub room-push :
+    (k g l m : ℕ) (cs : List Sent) (x : Sent) (room old new : ℕ)
+    → IsInRoom (record { kept = k; gone = g; commands = cs; late = l }) room old → new ≡ old
+    → (length cs == room) ≡ false → (k + length cs) + 1 < 2 ^ 32 → m ≤ l + 1
+    → last_time g cs ≤ x.time → length x.bytes ≤ 64
+    → IsInRoom (record { kept = k; gone = g; commands = cs ++ x ∷ []; late = m }) room new
+room-push k g l m cs x room old new h same room_for few less rises short =
+    let long = length-append cs (x ∷ []) in
+    let below = full-not (length cs) room h.few room_for in
+    let fits = h.fits in
+    let late = h.late in
+    record {
+      few = omega arith;
+      fits = omega arith;
+      in_reach = h.in_reach;
+      numbers = omega arith;
+      late = omega arith;
+      rising = rise-push g cs x h.rising rises;
+      short = short-push cs x h.short short;
+      nothing_gone = h.nothing_gone;
+    }
 
-pub none-left :
-    {W : Type 0} (room o : ℕ) (xs : List SentBytes) (i : ℕ) (q : Queue) (r : RollState W) → length xs ≤ i
-    → counts_each room o (map sent_of (drop i xs)) q r ≡ record { queue = q; roll = r }
-unfolding counts_each
-none-left room o xs i q r past = ap (λ (l : List SentBytes). counts_each room o (map sent_of l) q r) (drop_of_length-le xs past)
+-- without the first
+pub room-drop :
+    (k g l t : ℕ) (cs : List Sent) (room old new : ℕ)
+    → IsInRoom (record { kept = k; gone = g; commands = cs; late = l }) room old → new ≡ old
+    → 0 < length cs → ((d : Sent) → (get_or cs 0 d).time ≡ t)
+    → IsInRoom (record { kept = k + 1; gone = t; commands = drop 1 cs; late = l }) room new
+unfolding TimesRise
+room-drop k g l t [] room old new h same some first = absurd (omega arith)
+room-drop k g l t (x ∷ cs) room old new h same some first =
+    let few = h.few in
+    let fits = h.fits in
+    let numbers = h.numbers in
+    let late = h.late in
+    record {
+      few = omega arith;
+      fits = omega arith;
+      in_reach = h.in_reach;
+      numbers = omega arith;
+      late = omega arith;
+      rising = subst (λ (n : ℕ). TimesRise n cs) (first x) h.rising.1;
+      short = h.short.1;
+      nothing_gone = λ none. absurd (omega arith);
+    }
+
+-- no commands
+pub room-none :
+    (k g l : ℕ) (room new : ℕ)
+    → room ≤ new → room < 2 ^ 16 → k < 2 ^ 32 → l ≤ k → (k ≡ 0 → g ≡ 0)
+    → IsInRoom (record { kept = k; gone = g; commands = []; late = l }) room new
+unfolding TimesRise
+room-none k g l room new fits in_reach few late gone =
+    record {
+      few = omega arith;
+      fits = fits;
+      in_reach = in_reach;
+      numbers = omega arith;
+      late = omega arith;
+      rising = tt;
+      short = tt;
+      nothing_gone = gone;
+    }
+
+-- ---- places
+
+-- a command in its place, as packets carry it
+pub wire-at :
+    (xs : List SentBytes) (i : ℕ) (d : SentBytes) (e : wire.Sent) → i < length xs
+    → get_or (map as_sent (map sent_of xs)) i e ≡ as_sent (sent_of (get_or xs i d))
+wire-at xs i d e there =
+    let long = length-map xs sent_of in
+    get_or-map as_sent (map sent_of xs) i (sent_of d) e (omega arith) ∙ ap as_sent (get_or-map sent_of xs i d (sent_of d) there)
+
+pub sent-at : (cs : List Sent) (i : ℕ) (d : Sent) → i < length cs → get_or (map as_sent cs) i (as_sent d) ≡ as_sent (get_or cs i d)
+sent-at cs i d there = get_or-map as_sent cs i d (as_sent d) there

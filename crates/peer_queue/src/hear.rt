@@ -1,14 +1,20 @@
 //! A part is heard: its commands arrive at the mirror, and are counted.
 
-ghost use Rattle.std.specs.Prelude.{◌≡◌, ℕ, ◌+◌, ◌-◌, ◌^◌, ◌≤◌, ◌<◌, [], ◌∷◌, ◌++◌, length, map, drop, if◌then◌else◌, false};
-ghost use Rattle.rolling_mirror.specs.Rolling.{RollState, last_tick, said_to_arrival, arrived};
-ghost use Rattle.peer_model.specs.Queue.{Sent, Queue, have_of, joined};
-ghost use Rattle.peer_window.specs.Window.{Heard, is_counted, next_command, counts, counts_each, rolls_part};
-ghost use Rattle.peer_queue.specs.Room.{sent_of, QueueInRoom, heard_of};
+ghost use Rattle.std.specs.Prelude.{◌≡◌, ◌+◌, ◌-◌, ◌^◌, ◌≤◌, ◌<◌, [], ◌∷◌, length, map, true, false, ◌==◌, if◌then◌else◌};
+ghost use Rattle.rolling_mirror.specs.Rolling.{last_tick, said_to_arrival, arrived};
+ghost use Rattle.peer_model.specs.Queue.{have_of, last_time, conflicts, joined};
+ghost use Rattle.peer_window.specs.Window.{is_counted, next_command, counts, counts_each, rolls_part};
+ghost use Rattle.peer_packet.specs.Packet.{AreSent};
+ghost use Rattle.peer_calls.specs.Wire.{sent_from, part_from};
+ghost use Rattle.peer_calls.specs.Hearing.{with_answer, tells_each, tells_part};
+ghost use Rattle.peer_queue.specs.Room.{sent_of, heard_of};
 
 use crate::queue::SlotQueue;
 use crate::sent::SentBytes;
-use game_trait::{Act, Command, Game, MirrorId, Number, Tick};
+use crate::walk::behind;
+use game_trait::{Act, Command, Game, MirrorId, Tick};
+use peer_calls::Told;
+use peer_packet::{CommandsView, PartView, SentView};
 use rolling_mirror::{Arrival, RollingMirror};
 
 // An answer by which a command is counted.
@@ -21,6 +27,28 @@ fn is_counted(answer: Arrival) -> bool
         Arrival::Late { bound: _ } => true,
         Arrival::Far { end: _ } => false,
         Arrival::Full => false,
+    }
+}
+
+// What is told, with the mirror's answer to a command.
+fn with_answer(answer: Arrival, told: Told) -> Told
+    requires taken { told.taken + 1 < 2 ^ 32 }
+    requires late { told.late + 1 < 2 ^ 64 }
+    ensures { result ≡ with_answer answer told }
+{
+    match answer {
+        Arrival::Taken { repaired } => Told {
+            taken: told.taken + 1,
+            repaired: told.repaired.max(repaired),
+            ..told
+        },
+        Arrival::Repeat => told,
+        Arrival::Late { bound: _ } => Told {
+            late: told.late + 1,
+            ..told
+        },
+        Arrival::Far { end: _ } => Told { far: true, ..told },
+        Arrival::Full => Told { full: true, ..told },
     }
 }
 
@@ -50,8 +78,13 @@ fn hear_next<G: Game>(
     mirror: &mut RollingMirror<G>,
     origin: MirrorId,
     x: &SentBytes,
+    told: &mut Told,
 ) -> bool
-    requires { have_of queue.old.queue + 1 < 2 ^ 32 }
+    requires number { have_of queue.old.queue + 1 < 2 ^ 32 }
+    requires rises { last_time queue.old.queue.gone queue.old.queue.commands ≤ x.now.time }
+    requires short { x.now.size ≤ 64 }
+    requires taken { told.old.taken + 1 < 2 ^ 32 }
+    requires late { told.old.late + 1 < 2 ^ 64 }
     ensures counted { result ≡ counts queue.old.room origin (sent_of x.now) queue.old.queue mirror.old }
     ensures queue { queue.new ≡ record queue.old {
       queue =
@@ -60,13 +93,18 @@ fn hear_next<G: Game>(
     ensures mirror { mirror.new ≡ (if result
         then arrived mirror.old (next_command origin (sent_of x.now) queue.old.queue) (said_to_arrival mirror.old (next_command origin (sent_of x.now) queue.old.queue))
         else mirror.old) }
+    ensures told { told.new ≡ (if length queue.old.queue.commands == queue.old.room
+        then record told.old { full = true }
+        else with_answer (said_to_arrival mirror.old (next_command origin (sent_of x.now) queue.old.queue)) told.old) }
 {
     if queue.is_full() {
+        told.full = true;
         return false;
     }
     let bound = last_tick(mirror);
     let command = next_command(origin, x, queue);
     let answer = mirror.arrive(&command);
+    *told = with_answer(answer, *told);
     if !is_counted(answer) {
         return false;
     }
@@ -79,61 +117,82 @@ fn hear_each<G: Game>(
     queue: &mut SlotQueue,
     mirror: &mut RollingMirror<G>,
     origin: MirrorId,
-    commands: &[SentBytes],
+    commands: CommandsView<'_>,
+    told: &mut Told,
 )
-    requires { have_of queue.old.queue + length commands.now < 2 ^ 32 }
+    requires number { have_of queue.old.queue + length commands < 2 ^ 32 }
+    requires sent { AreSent 64 (last_time queue.old.queue.gone queue.old.queue.commands) commands }
+    requires taken { told.old.taken + length commands < 2 ^ 32 }
+    requires late { told.old.late + length commands < 2 ^ 64 }
     ensures heard { heard_of queue.new mirror.new
-        ≡ counts_each queue.old.room origin (map sent_of commands.now) queue.old.queue mirror.old }
+        ≡ counts_each queue.old.room origin (map sent_from commands.entry) queue.old.queue mirror.old }
+    ensures told { told.new ≡ tells_each queue.old.room origin (map sent_from commands.entry) queue.old.queue mirror.old told.old }
+    ensures few { (told.new.taken ≤ told.old.taken + length commands.entry) × (told.new.late ≤ told.old.late + length commands.entry) }
     ensures room { queue.new.room ≡ queue.old.room }
 {
-    for x in commands {
-        if !hear_next(queue, mirror, origin, x) {
+    let mut left = commands;
+    while let Some(x) = left.next() {
+        let next = SentBytes::new(x.time, x.payload);
+        if !hear_next(queue, mirror, origin, &next, told) {
             return;
         }
     }
 }
 
-// The commands behind the first `known`, none where there are no more.
-fn behind(commands: &[SentBytes], known: usize) -> &[SentBytes]
-    ensures items { map sent_of result.now ≡ drop known (map sent_of commands.now) }
-    ensures few { length result.now ≡ length commands.now - known }
+// A part is heard that begins behind what was counted.
+fn hear_behind<G: Game>(
+    queue: &mut SlotQueue,
+    mirror: &mut RollingMirror<G>,
+    part: &PartView<'_>,
+    told: &mut Told,
+)
+    requires number { part.now.first + length part.now.commands < 2 ^ 32 }
+    requires behind { have_of queue.old.queue < part.now.first }
+    requires sent { AreSent 64 part.now.before part.now.commands }
+    requires taken { told.old.taken + length part.now.commands < 2 ^ 32 }
+    requires late { told.old.late + 2 ^ 33 < 2 ^ 64 }
+    ensures heard { heard_of queue.new mirror.new
+        ≡ rolls_part queue.old.room (part_from part.now) queue.old.queue mirror.old }
+    ensures told { told.new ≡ tells_part queue.old.room (part_from part.now) queue.old.queue mirror.old told.old }
+    ensures few { (told.new.taken ≤ told.old.taken + length part.now.commands) × (told.new.late ≤ told.old.late + 2 ^ 33) }
+    ensures room { queue.new.room ≡ queue.old.room }
 {
-    if known >= commands.len() {
-        return &[];
+    let head = part.head();
+    if head.before >= last_tick(mirror) {
+        told.gap = true;
+        return;
     }
-    let (_, rest) = commands.split_at(known);
-    rest
+    told.late += u64::from(head.first - queue.have());
+    queue.skip(head.first, head.before);
+    hear_each(queue, mirror, head.origin, part.commands(), told);
 }
 
 /// A part is heard: numbers `first` on of a slot, of which number `first` - 1 is due at `before`. What is
 /// counted of it arrives at the mirror, in order, until the window, the mirror's room or the queue's stops
-/// it. A part behind what was counted is left, unless all that is missing is late.
+/// it. A part behind what was counted is left, unless all that is missing is late. What came of it is told.
 pub fn hear_part<G: Game>(
     queue: &mut SlotQueue,
     mirror: &mut RollingMirror<G>,
-    origin: MirrorId,
-    first: Number,
-    before: Tick,
-    commands: &[SentBytes],
+    part: &PartView<'_>,
+    told: &mut Told,
 )
-    requires { first + length commands.now < 2 ^ 32 }
+    requires number { part.now.first + length part.now.commands < 2 ^ 32 }
+    requires agrees { conflicts (part_from part.now) queue.old.queue ≡ false }
+    requires sent { AreSent 64 part.now.before part.now.commands }
+    requires taken { told.old.taken + length part.now.commands < 2 ^ 32 }
+    requires late { told.old.late + 2 ^ 33 < 2 ^ 64 }
     ensures heard { heard_of queue.new mirror.new
-        ≡ rolls_part queue.old.room (record { origin = origin; first = first; before = before; commands = map sent_of commands.now }) queue.old.queue mirror.old }
+        ≡ rolls_part queue.old.room (part_from part.now) queue.old.queue mirror.old }
+    ensures told { told.new ≡ tells_part queue.old.room (part_from part.now) queue.old.queue mirror.old told.old }
+    ensures few { (told.new.taken ≤ told.old.taken + length part.now.commands) × (told.new.late ≤ told.old.late + 2 ^ 33) }
     ensures room { queue.new.room ≡ queue.old.room }
 {
+    let head = part.head();
     let have = queue.have();
-    if have < first {
-        if before >= last_tick(mirror) {
-            return;
-        }
-        queue.skip(first, before);
-        hear_each(queue, mirror, origin, commands);
+    if have < head.first {
+        hear_behind(queue, mirror, part, told);
         return;
     }
-    hear_each(
-        queue,
-        mirror,
-        origin,
-        behind(commands, (have - first) as usize),
-    );
+    let commands = behind(part, have - head.first);
+    hear_each(queue, mirror, head.origin, commands, told);
 }

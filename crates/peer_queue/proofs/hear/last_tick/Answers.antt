@@ -1,6 +1,6 @@
 use Rattle.std.proofs.Common.{ap, ◌∙◌, ◌+◌, ◌-◌, ℕ, length, ◌<◌, arith}
 use Rattle.sync_model.specs.State.{copy_clock}
-use Rattle.peer_queue.proofs.Rooms.{last-run}
+use Rattle.peer_queue.proofs.Hears.{last-run}
 use Rattle.peer_queue.proofs.hear.last_tick.Goals as goal
 
 pub returns : goal.returns

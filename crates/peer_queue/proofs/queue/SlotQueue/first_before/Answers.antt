@@ -1,4 +1,4 @@
-use Rattle.std.proofs.Common.{ap, sym, ◌∙◌, ◌≡◌, ◌<◌, ◌≤◌, ℕ, length, get_or, refl, arith}
+use Rattle.std.proofs.Common.{ap, arith}
 use Rattle.peer_queue.specs.declared.sent.SentBytes.{SentBytes}
 use Rattle.peer_queue.proofs.Rooms.{front-zero, front-nil, none-there}
 use Rattle.peer_queue.proofs.queue.SlotQueue.first_before.Goals as goal

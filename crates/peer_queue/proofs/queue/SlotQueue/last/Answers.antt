@@ -1,4 +1,4 @@
-use Rattle.std.proofs.Common.{ap, sym, ◌∙◌, ◌≡◌, ◌<◌, ◌-◌, ℕ, length, get_or, refl, arith}
+use Rattle.std.proofs.Common.{ap, ◌∙◌, ◌≡◌, ◌<◌, ◌-◌, ℕ, length, get_or, refl, arith}
 use Rattle.peer_queue.specs.declared.sent.SentBytes.{SentBytes}
 use Rattle.peer_queue.proofs.Rooms.{last-at, last-nil}
 use Rattle.peer_queue.proofs.queue.SlotQueue.last.Goals as goal

@@ -1,4 +1,4 @@
-use Rattle.std.proofs.Common.{ap, sym, ◌∙◌, ◌≡◌, refl}
+use Rattle.std.proofs.Common.{ap, ◌∙◌, refl}
 use Rattle.peer_model.specs.Queue.{trimmed}
 use Rattle.peer_queue.specs.Room.{QueueInRoom}
 use Rattle.peer_queue.proofs.Rooms.{trimmed-step, trimmed-none}

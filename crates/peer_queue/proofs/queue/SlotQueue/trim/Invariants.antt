@@ -1,4 +1,4 @@
-use Rattle.std.proofs.Common.{◌≡◌, ℕ, length}
+use Rattle.std.proofs.Common.{◌≡◌, length}
 use Rattle.peer_model.specs.Queue.{trimmed}
 use Rattle.peer_queue.proofs.queue.SlotQueue.trim.Given as goal
 
