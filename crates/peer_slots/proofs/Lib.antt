@@ -1,0 +1,4 @@
+pub mod Slots
+pub mod Linked
+pub mod Queued
+pub mod Parted

@@ -1,0 +1,11 @@
+//! What a peer keeps of each slot of its session.
+#![tactic(auto)]
+
+pub mod laws;
+mod links;
+mod marking;
+mod other;
+mod queues;
+
+pub use links::Links;
+pub use queues::Queues;
