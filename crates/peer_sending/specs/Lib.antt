@@ -1,0 +1,4 @@
+pub mod Pieces
+pub mod Filling
+pub mod Supply
+pub mod Sending
