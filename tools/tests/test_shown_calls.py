@@ -6,7 +6,7 @@ import unittest
 
 from common import TOP, read
 
-SHOWN = {"mirror_core": "ending_match", "turn_lock": "taking_turns", "link_ring": "passing_message", "line_talk": "talking", "rolling_mirror": "going_session"}
+SHOWN = {"mirror_core": "ending_match", "turn_lock": "taking_turns", "link_ring": "passing_message", "line_talk": "talking", "rolling_mirror": "going_session", "peer_session": "carried_command"}
 
 
 def function(text):

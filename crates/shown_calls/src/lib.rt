@@ -2,6 +2,7 @@
 //! the crate that it calls shows.
 #![tactic(auto)]
 
+mod carried_command;
 mod counter;
 mod ending_match;
 mod going_session;
@@ -9,6 +10,7 @@ mod passing_message;
 mod taking_turns;
 mod talking;
 
+pub use carried_command::carry;
 pub use counter::Counter;
 pub use ending_match::end_a_match;
 pub use going_session::go_on;

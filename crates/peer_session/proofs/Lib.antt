@@ -1,0 +1,5 @@
+mod Forgets
+mod Lasts
+mod Takes
+mod Turned
+mod Made
