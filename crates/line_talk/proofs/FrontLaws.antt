@@ -1,6 +1,6 @@
 -- The front of a talk, and a talk behind it.
 use Rattle.std.proofs.Common.{◌≡◌, ℕ, ◌≤◌, eqb, true, false, List, [], ◌∷◌, ◌++◌, length, length-append, Option, Some, None, inl, inr, arith, refl, sym, ap, subst, ◌∙◌, append_assoc, append-nil}
-use Rattle.std.specs.Prelude.{IfSome, option_to_list}
+use Rattle.std.specs.Prelude.{option_to_list}
 use Rattle.std.proofs.lemmas.Bool.{ne_eqb}
 use Rattle.tss_io.specs.declared.limits.TheConstants.{LONGEST_LINE}
 use Rattle.tss_io.specs.Lines.{Lines, torn, line, lines_of, as_line}
@@ -11,7 +11,7 @@ use Rattle.game_trait.specs.Run.{IsPrefix}
 use Rattle.line_talk.specs.Hearing.{Answering, Hearing, hear, told_of}
 use Rattle.line_talk.specs.Talk.{Notes, Course, silence, course, AnswersAtOnce, Shown, TellsAll, TellsFront, IsTorn, HeardFront, IsOpening, HearsOne, dues, IsWholeTalk, IsBrokenTalk, IsUnheard, IsTalkOn}
 use Rattle.line_talk.proofs.TalkLaws.{Notes-none, course-append, at_once-append, joined}
-use Rattle.line_talk.proofs.HearingLaws.{join, lines_of-append}
+use Rattle.line_talk.proofs.HearingLaws.{join, lines_of-append, some-same}
 use Rattle.line_talk.proofs.WholeLaws.{whole-told, whole-broken}
 
 -- nothing was heard
@@ -107,9 +107,6 @@ front-unheard a h old new bytes is f = (
 )
 
 -- ---- what a front says of the first line
-
-some-same : {A : Type 0} {x y : A} → Some x ≡ Some y → x ≡ y
-some-same {A} {x} {y} e = subst (λ (o : Option A). IfSome o (λ z. x ≡ z)) e refl
 
 -- the first line of lines, where one ended
 first-line : Lines → Option (List ℕ)

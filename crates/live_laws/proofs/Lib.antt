@@ -3,6 +3,8 @@ mod Audited
 mod Bounds
 mod EndLaws
 mod Handed
+mod HeadLaws
+mod HeadOpens
 mod ReadLaws
 mod RecordLaws
 mod TextLaws

@@ -1,7 +1,7 @@
 //! What live mirrors told is legal for `audit`. Each is the contract of a function without parameters
 //! that does nothing.
 
-ghost use Rattle.std.specs.Prelude.{◌≡◌, ◌+◌, ◌++◌, ◌<◌, ◌≤◌, ◌↔◌, ℕ, false, true, Contains, List, [], Ok, length, map};
+ghost use Rattle.std.specs.Prelude.{◌≡◌, ◌+◌, ◌++◌, ◌<◌, ◌≤◌, ◌↔◌, ℕ, false, true, Contains, List, [], Ok, Err, codes, flat_map, length, map, min};
 ghost use Rattle.std.specs.List.{AllByRecursion};
 ghost use Rattle.game_trait.specs.declared.command.Act.{Act};
 ghost use Rattle.game_trait.specs.declared.command.Command.{Command};
@@ -10,7 +10,14 @@ ghost use Rattle.game_trait.specs.declared.event.Event.TheVariants as events;
 ghost use Rattle.game_trait.specs.declared.event.Reply.TheVariants.{Arrive as ToArrive};
 ghost use Rattle.game_trait.specs.Keys.{NamesDiffer};
 ghost use Rattle.game_trait.specs.Ordered.{time_ordered};
-ghost use Rattle.game_trait.specs.Run.{world_of};
+ghost use Rattle.game_trait.specs.Run.{IsPrefix, world_of};
+ghost use Rattle.tss_io.specs.Kinds.{is_long};
+ghost use Rattle.tss_io.specs.Lines.{as_line};
+ghost use Rattle.tss_io.specs.Reading.{refused_at};
+ghost use Rattle.tss_io.specs.declared.cause.Cause.{Cause};
+ghost use Rattle.report_text.specs.Ends.{refused_text};
+ghost use Rattle.line_talk.specs.Talk.{IsTorn};
+ghost use Rattle.line_talk.specs.Hearing.{fresh, hear_each, told_of_each};
 ghost use Rattle.sync_model.specs.Change.{after, is_late, said};
 ghost use Rattle.sync_model.specs.Consistent.{IsConsistent};
 ghost use Rattle.sync_model.specs.Schedule.{longest_delay};
@@ -35,20 +42,23 @@ ghost use Rattle.live_text.specs.Texts.{MayAsk};
 ghost use Rattle.command_lines.specs.CommandLine.{command_line};
 ghost use Rattle.live_mirror.specs.Events.{after_requests, FitAlong};
 ghost use Rattle.live_laws.specs.Events.{IsAmong, audited_from};
-ghost use Rattle.live_mirror.specs.Led.{IsOfSetup};
+ghost use Rattle.live_mirror.specs.Led.{IsOfSetup, begun};
+ghost use Rattle.match_file.specs.Reading.{read_text};
+ghost use Rattle.match_file.specs.Text.{match_lines};
+ghost use Rattle.live_talk.specs.Lines.{ok_line};
 ghost use Rattle.live_mirror.specs.Session.{AreBelow, SessionState, after_request, opening_session, own_command, terms_of};
 ghost use Rattle.live_laws.specs.Record.{AreAllEnds, AreEnds, MayBeCommands, put_together, record_of, with_commands};
 ghost use Rattle.live_laws.specs.Talks.{EndedTalk, IsTalkOf, AreTalksOf, ArrivedAtOne, AreTheCommands, AreAllTalks, HasThemAll, states_of};
 ghost use Rattle.live_mirror.specs.Told.{answer_text, record_part};
 ghost use Rattle.arena_rules.specs.World.{World, opening_world};
-ghost use Rattle.live_talk.specs.Head.{asking};
+ghost use Rattle.live_talk.specs.Head.{asking, opening_headed, refused};
 ghost use Rattle.live_talk.specs.Staging.{staging, shown_by};
-ghost use Rattle.live_talk.specs.Talked.{TalkState};
+ghost use Rattle.live_talk.specs.Talked.{TalkState, asked_heard, asked_way};
 ghost use Rattle.live_laws.specs.Arena.{arena_staging};
-ghost use Rattle.live_mirror.specs.Way.{live_due, live_heard};
+ghost use Rattle.live_mirror.specs.Way.{live_due, live_heard, live_way};
 
 use game_trait::Game;
-use live_talk::Begins;
+use live_talk::{Asked, Begins};
 
 /// The log that `end` tells is legal as an audit has it, in a match that has the commands which the
 /// log names, and it leads to the mirror whose copies' blocks are told behind it.
@@ -211,4 +221,61 @@ pub fn talks_of_all_mirrors<G: Begins>()
     ensures has { (commands : List Command) (t : EndedTalk G)
         → AllByRecursion (λ x. Contains t.state.mirror.history (events.Arrive x)) commands
         → t.state.mirror.turned ≡ [] → HasThemAll commands t }
+{}
+
+/// The head of a live text opens the match whose text it is, as that text is read, wherever it is cut:
+/// behind its last line the mirror of that match is asked, as the match begins, and `ok` alone was told.
+/// No other text opens a mirror.
+pub fn a_live_text_opens_its_match<G: Begins>()
+    ensures opened { (number : ℕ) (text : List ℕ) (m : MatchData) (pieces : List (List ℕ))
+        → read_text text ≡ Ok m → number < m.mirrors
+        → flat_map (λ piece. piece) pieces ≡ as_line (codes "tss live 1") ++ text
+        → let g = staging G.rules G.lines G.opening in
+        let start = fresh (opening_headed number) in
+        (hear_each (live_way g) start pieces ≡ fresh (record {
+          number = number;
+          place = asking (record {
+            session = begun G.opening m number;
+            line = min (2 + length (match_lines m)) 4294967295;
+            is_over = false;
+          });
+        })) × (told_of_each (live_way g) start pieces ≡ ok_line) }
+    ensures only { (number : ℕ) (bytes : List ℕ) (t : TalkState (SessionState G))
+        → (live_heard (staging G.rules G.lines G.opening) number bytes).state.place ≡ asking t
+        → (text : List ℕ) × (m : MatchData) × (read_text text ≡ Ok m) × (number < m.mirrors)
+        × IsPrefix (as_line (codes "tss live 1") ++ text) bytes }
+{}
+
+/// The head of a text opens the match whose text it is, as that text is read, wherever it is cut: behind
+/// its last line the mirror of that match is asked, and `ok` alone was told; or that line is refused,
+/// where there is no such mirror. No other text opens one.
+pub fn a_head_opens_its_match<S: Asked>()
+    ensures opened { (number : ℕ) (text : List ℕ) (m : MatchData) (s : S) (pieces : List (List ℕ))
+        → IsTorn S.asking.first_line → is_long S.asking.first_line ≡ false
+        → read_text text ≡ Ok m → S.asking.begun m number ≡ Ok s
+        → flat_map (λ piece. piece) pieces ≡ as_line S.asking.first_line ++ text
+        → let start = fresh (opening_headed number) in
+        (hear_each (asked_way S.asking) start pieces ≡ fresh (record {
+          number = number;
+          place = asking (record {
+            session = s;
+            line = min (2 + length (match_lines m)) 4294967295;
+            is_over = false;
+          });
+        })) × (told_of_each (asked_way S.asking) start pieces ≡ ok_line) }
+    ensures turned_away { (number : ℕ) (text : List ℕ) (m : MatchData) (cause : Cause)
+        (pieces : List (List ℕ))
+        → IsTorn S.asking.first_line → is_long S.asking.first_line ≡ false
+        → read_text text ≡ Ok m → S.asking.begun m number ≡ Err cause
+        → flat_map (λ piece. piece) pieces ≡ as_line S.asking.first_line ++ text
+        → let start = fresh (opening_headed number) in
+        (hear_each (asked_way S.asking) start pieces
+        ≡ fresh (record { number = number; place = refused }))
+        × (told_of_each (asked_way S.asking) start pieces
+        ≡ refused_text (refused_at (min (1 + length (match_lines m)) 4294967295) cause)) }
+    ensures only { (number : ℕ) (bytes : List ℕ) (t : TalkState S)
+        → (asked_heard S.asking number bytes).state.place ≡ asking t
+        → (text : List ℕ) × (m : MatchData) × (s : S)
+        × (read_text text ≡ Ok m) × (S.asking.begun m number ≡ Ok s)
+        × IsPrefix (as_line S.asking.first_line ++ text) bytes }
 {}
