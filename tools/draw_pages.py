@@ -224,7 +224,7 @@ def race():
         picture.line(x, y, to, y, "#1e8449", arrow=True, width=2)
         picture.text(450, y - 8, words, "#1e8449", "middle", 12)
     for at, words in enumerate(("A link carries a feeder's commands of a tick, and then a mark: no more of this tick comes.",
-                                "A worker drafts a due tick under the lock, executes it on a world of its own, and commits it; a draft that a repair made stale is drafted again.")):
+                                "A worker drafts a due tick under the lock, executes it on its own world, and commits it; a stale draft is drafted again.")):
         picture.text(20, 362 + 22 * at, words)
     return picture.svg()
 
