@@ -11,7 +11,7 @@ use Rattle.game_trait.specs.Game.{Rules}
 use Rattle.late_joiner.specs.declared.handed.Snapshot.{Snapshot}
 use Rattle.late_joiner.specs.Snapshot.{snapshot_of}
 use Rattle.game_trait.proofs.Counts.{times-most}
-use Rattle.game_trait.proofs.Lists.{all-first, all-second}
+use Rattle.game_trait.proofs.Lists.{all-second}
 use Rattle.sync_model.specs.Schedule.{Schedule, delays_of_each, ticks_of_first}
 use Rattle.sync_model.specs.State.{MirrorState, opening_state, last_clock}
 use Rattle.sync_model.specs.Change.{next, after}
@@ -20,7 +20,7 @@ use Rattle.match_data.specs.Data.{MatchData, IsMatch, IsScriptLine}
 use Rattle.match_data.specs.declared.script_line.ScriptLine.{ScriptLine}
 use Rattle.match_data.proofs.Plans.{delays-of_schedules}
 use Rattle.match_hall.specs.Script.{schedules, names, arrives_at, restaggers_at, after_lines, opening_mirror}
-use Rattle.match_hall.proofs.OnWay.{OnWay, way-length, way-plans}
+use Rattle.match_hall.proofs.OnWay.{way-length, way-plans}
 use Rattle.report_text.specs.Worlds.{Showing}
 use Rattle.late_joiner.specs.declared.joined.JoinFault.{JoinFault}
 use Rattle.late_joiner.specs.declared.joined.JoinFault.TheVariants.{TooLate}
@@ -29,7 +29,7 @@ use Rattle.late_joiner.proofs.Begun.{HasOpened, opened-room}
 use Rattle.match_join.specs.Join.{mirror_before, mirror_end, joiner_of, joiner_before, joiner_end, lines_after, HasBegun, IsOpened, join_head, joiner_text}
 use Rattle.match_join.specs.Join.{ends_text, join_text, IsTooLate, too_late_text, TellsOn, TellsOfBoth}
 use Rattle.match_join.specs.Lines.{IsAlong, IsOfMatch, IsReady, IsFaultAt}
-use Rattle.match_join.proofs.Way.{way-lines, way-opening}
+use Rattle.match_join.proofs.Way.{way-before}
 
 -- the mirror as the code opens it
 pub opened-mirror :
@@ -74,10 +74,7 @@ none-accepted opening m number = refl
 -- after its first lines it is one of the match
 pub before-of_match : {W : Type 0} (opening : W) (m : MatchData) (number n : ℕ) → IsMatch m → IsOfMatch m (mirror_before opening m number n)
 before-of_match {W} opening m number n sound =
-    let split = take-append-drop n m.script in
-    let lines = all-first (IsScriptLine m) (take n m.script) (drop n m.script) (subst (AllByRecursion (IsScriptLine m)) (sym split) sound.script) in
-    let start = subst (λ (ls : List ScriptLine). OnWay m opening number ls (opening_mirror opening m number)) (sym split) (way-opening m opening number) in
-    let way = way-lines m opening number (take n m.script) (drop n m.script) (opening_mirror opening m number) lines start in
+    let way = way-before opening m number n sound in
     record {
       ticks = way-length m opening number (drop n m.script) (mirror_before opening m number n) way;
       plans = way-plans m opening number (drop n m.script) (mirror_before opening m number n) way;

@@ -37,7 +37,7 @@ plan-spent s (Step c) = step-cases s c (λ t r. s.plan_spare ≤ t.plan_spare + 
 plan-spent s (Restagger p) = restagger-cases s p (λ t r. s.plan_spare ≤ t.plan_spare + 1) (omega arith)
 
 -- what an event leaves of a joiner's parts and room, where it may spend so much
-record Leaves {W : Type 0} (arrivals plans : ℕ) (s t : JoinerState W) : Type 0 where
+pub record Leaves {W : Type 0} (arrivals plans : ℕ) (s t : JoinerState W) : Type 0 where
   pub start : t.start ≡ s.start
   pub ticks : t.inner.length ≡ s.inner.length
   pub copies : length t.inner.runs ≡ length s.inner.runs
@@ -66,7 +66,7 @@ leaves-next s (Arrive x) =
           [ true ↦ leaves-all 1 0 s | false ↦ leaves-inner s (arrival_from s.start x) ]
     ]
 
-leaves-after : {W : Type 0} (es : List Event) (s : JoinerState W) → Leaves (times is_arrival es) (times is_restagger es) s (joiner_after s es)
+pub leaves-after : {W : Type 0} (es : List Event) (s : JoinerState W) → Leaves (times is_arrival es) (times is_restagger es) s (joiner_after s es)
 unfolding joiner_after times
 leaves-after [] s = leaves-all 0 0 s
 leaves-after (e ∷ es) s =

@@ -1,5 +1,5 @@
 -- Two worlds of the arena are one or not: some answer says which, and one alone.
-use Rattle.std.proofs.Common.{◌≡◌, ℕ, Bool, ◌&&◌, ap, refl, rules}
+use Rattle.std.proofs.Common.{◌≡◌, Bool, ◌&&◌, ap, refl, rules}
 use Rattle.std.specs.Prelude.{◌==◌, bytes_eq}
 use Rattle.std.specs.Bool.{Decides}
 use Rattle.std.specs.Cmp.Lexicographic.{pointwise}

@@ -1,7 +1,7 @@
 -- A mirror along its lines of a script.
-use Rattle.std.proofs.Common.{◌≡◌, refl, ◌∙◌, ap, sym, subst, ℕ, suc, ◌+◌, ◌-◌, ◌≤◌, ◌<◌, true, false, cond, eqb, List, [], ◌∷◌, ◌++◌, filter, length, drop, get_or, arith}
+use Rattle.std.proofs.Common.{◌≡◌, refl, ◌∙◌, ap, sym, subst, ℕ, suc, ◌+◌, ◌-◌, ◌≤◌, ◌<◌, true, false, cond, eqb, List, [], ◌∷◌, ◌++◌, append-nil, filter, length, take, drop, get_or, arith}
 use Rattle.std.proofs.lemmas.Bool.Decides.{nat_tests}
-use Rattle.std.proofs.lemmas.List.{drop_all}
+use Rattle.std.proofs.lemmas.List.{drop_all, take-append-drop}
 use Rattle.std.specs.List.{AllByRecursion}
 use Rattle.game_trait.proofs.Lists.{all-first, all-second}
 use Rattle.game_trait.specs.declared.command.Command.{Command}
@@ -19,7 +19,7 @@ use Rattle.match_data.specs.Data.{MatchData, IsMatch, IsScriptLine}
 use Rattle.match_data.specs.declared.script_line.ScriptLine.{ScriptLine}
 use Rattle.match_hall.specs.Script.{mirror_of, names, events_of, after_line, after_lines, opening_mirror}
 use Rattle.match_hall.proofs.OnWay.{OnWay, way-line, way-other, way-copies, line-fits, line-room}
-use Rattle.match_join.specs.Join.{finished_mirror}
+use Rattle.match_join.specs.Join.{lines_after, mirror_before, finished_mirror}
 use Rattle.match_join.specs.Lines.{IsAlong}
 use Rattle.match_join.proofs.Fits.{drop-at}
 
@@ -65,6 +65,26 @@ way-lines {W} m opening number (l ∷ ls) rest s sound way =
 pub way-opening : {W : Type 0} (m : MatchData) (opening : W) (number : ℕ) → OnWay m opening number m.script (opening_mirror opening m number)
 unfolding after times
 way-opening m opening number = record { es = []; reached = refl; named = tt; arrivals = omega arith; restaggers = omega arith }
+
+-- behind its first lines, and behind all of them
+pub way-before :
+    {W : Type 0} (opening : W) (m : MatchData) (number k : ℕ) → IsMatch m → OnWay m opening number (drop k m.script) (mirror_before opening m number k)
+way-before {W} opening m number k sound =
+    let split = take-append-drop k m.script in
+    let lines = all-first (IsScriptLine m) (take k m.script) (drop k m.script) (subst (AllByRecursion (IsScriptLine m)) (sym split) sound.script) in
+    let start = opening_mirror opening m number in
+    let begun = subst (λ (ls : List ScriptLine). OnWay m opening number ls start) (sym split) (way-opening m opening number) in
+    way-lines m opening number (take k m.script) (drop k m.script) start lines begun
+
+pub way-end :
+    {W : Type 0} (opening : W) (m : MatchData) (number k : ℕ) → IsMatch m
+    → OnWay m opening number [] (after_lines m.commands (lines_after m number k) (mirror_before opening m number k))
+way-end {W} opening m number k sound =
+    let later = drop k m.script in
+    let lines = all-second (IsScriptLine m) (take k m.script) later (subst (AllByRecursion (IsScriptLine m)) (sym (take-append-drop k m.script)) sound.script) in
+    let before = mirror_before opening m number k in
+    way-lines m opening number later [] before lines
+    (subst (λ (ls : List ScriptLine). OnWay m opening number ls before) (sym (append-nil later)) (way-before opening m number k sound))
 
 -- a mirror on its way, whose script has these lines to come, and others behind them
 pub record IsGoing {W : Type 0} (m : MatchData) (number : ℕ) (ls : List ScriptLine) (s : MirrorState W) : Type 0 where

@@ -1,7 +1,7 @@
-use Rattle.std.proofs.Common.{◌≡◌, ℕ, Bool, true, false, List, ◌∷◌, ◌++◌, length, refl, sym, ap, ◌∙◌, arith}
-use Rattle.std.specs.Prelude.{IsTrue, ◌↔◌, codes}
+use Rattle.std.proofs.Common.{◌≡◌, ℕ, Bool, true, false, List, length, refl, sym, ap, ◌∙◌, arith}
+use Rattle.std.specs.Prelude.{IsTrue, ◌↔◌}
 use Rattle.std.proofs.lemmas.List.{append_cancel_left, append_cancel_right}
-use Rattle.tss_io.specs.Lines.{as_line, spaced}
+use Rattle.tss_io.specs.Lines.{spaced}
 use Rattle.match_data.specs.Data.{MatchData}
 use Rattle.report_text.specs.Ends.{done_line}
 use Rattle.report_text.specs.Soak.{same_line}
@@ -12,7 +12,7 @@ use Rattle.sync_model.specs.History.{repairs}
 use Rattle.mirror_report.specs.Report.{line_of_mirror}
 use Rattle.late_joiner.specs.Joiner.{JoinerState, accepted_at}
 use Rattle.match_join.specs.Join.{join_text, ends_text, join_head, joiner_text, joiner_counts, joiner_head, joiner_before, lines_after, last_copy}
-use Rattle.match_join.specs.Join.{mirror_before, mirror_end, joiner_end, mirror_world, joiner_world}
+use Rattle.match_join.specs.Join.{mirror_before, mirror_end, joiner_end, joiner_world}
 use Rattle.match_join.proofs.laws.what_is_told_of_both_is_so.Goals as goal
 
 lines-differ : same_line true ≡ same_line false → ⊥
