@@ -1,12 +1,12 @@
 -- The commands of a slot in a room of a fixed size, and what is always true of them.
-use Rattle.std.specs.Prelude.{◌≡◌, ℕ, ◌-◌, ◌^◌, ◌≤◌, ◌<◌, List, length, map, take}
+use Rattle.std.specs.Prelude.{◌≡◌, ℕ, ◌^◌, ◌≤◌, ◌<◌, List, length, map, take}
 use Rattle.std.specs.List.{AllByRecursion}
 use Rattle.peer_model.specs.Queue.{Sent, Queue, TimesRise, have_of}
 use Rattle.peer_window.specs.Window.{Heard}
 use Rattle.rolling_mirror.specs.Rolling.{RollState}
 use Rattle.peer_packet.specs.Packet as wire
 use Rattle.peer_packet.specs.Snapshot as snapshot
-use Rattle.peer_calls.specs.Wire.{as_sent, sent_from}
+use Rattle.peer_calls.specs.Wire.{as_sent}
 use Rattle.peer_queue.specs.declared.sent.SentBytes.{SentBytes}
 
 -- a command as it was issued
@@ -48,12 +48,3 @@ IsKept number q = (q.kept ≤ number) × (number < have_of q)
 -- a queue that a snapshot may have of a slot with so many commands
 abbrev pub IsHandedOver : ℕ → snapshot.Queue → Type 0
 IsHandedOver have q = (base : ℕ) × snapshot.IsQueue 64 base have q
-
--- what one who joins by a snapshot remembers of a slot with so many commands
-abbrev pub queue_from : ℕ → snapshot.Queue → Queue
-queue_from have q = record {
-  kept = have - length q.commands;
-  gone = q.before;
-  commands = map sent_from q.commands;
-  late = q.late;
-}

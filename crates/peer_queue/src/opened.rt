@@ -1,7 +1,8 @@
 //! A queue out of a snapshot.
 
 ghost use Rattle.std.specs.Prelude.{◌≡◌, ◌^◌, ◌≤◌, ◌<◌, IfOk, length};
-ghost use Rattle.peer_queue.specs.Room.{IsHandedOver, queue_from};
+ghost use Rattle.peer_calls.specs.Handing.{queue_taken};
+ghost use Rattle.peer_queue.specs.Room.{IsHandedOver};
 
 use crate::queue::SlotQueue;
 use crate::sent::SentBytes;
@@ -21,7 +22,7 @@ impl SlotQueue {
         requires in_reach { room < 2 ^ 16 }
         requires room { length queue.now.commands ≤ room }
         requires handed { IsHandedOver have queue.now }
-        ensures { IfOk result (λ q. q ≡ record { queue = queue_from have queue.now; room = room }) }
+        ensures { IfOk result (λ q. q ≡ record { queue = queue_taken have queue.now; room = room }) }
     {
         let head = queue.head();
         let kept = have - u32::from(head.count);

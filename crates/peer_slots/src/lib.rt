@@ -4,6 +4,7 @@
 pub mod laws;
 mod links;
 mod marking;
+mod opened;
 mod other;
 mod queues;
 

@@ -21,11 +21,11 @@ use std::marker::Model;
 
 /// The queue of each slot of a session, each with room for as many commands. Contracts see a list, and
 /// speak of it by `queues_of`: a function of the slot, as a peer's state has it, in which nothing was
-/// heard of slots that there aren't. Only `new` takes memory.
+/// heard of slots that there aren't. Only `new` and `opened` take memory.
 #[derive(Drop)]
 pub struct Queues {
-    list: Vec<SlotQueue>,
-    room: u32,
+    pub(crate) list: Vec<SlotQueue>,
+    pub(crate) room: u32,
 }
 
 impl Model for Queues {
