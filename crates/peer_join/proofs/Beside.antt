@@ -20,7 +20,7 @@ use Rattle.peer_join.proofs.Opens.{first-copies}
 use Rattle.peer_join.proofs.Same.{accepted-same}
 use Rattle.peer_join.proofs.Handed.{joins-window}
 
-rise-front : (t : ℕ) (xs ys : List Sent) → TimesRise t (xs ++ ys) → TimesRise t xs
+pub rise-front : (t : ℕ) (xs ys : List Sent) → TimesRise t (xs ++ ys) → TimesRise t xs
 unfolding TimesRise
 rise-front t [] ys h = tt
 rise-front t (x ∷ xs) ys h = (h.0, rise-front x.time xs ys h.1)

@@ -33,7 +33,7 @@ use Rattle.peer_join.proofs.Handed.{arriving-all, accepted-due, base-same, comma
 
 -- ---- what isn't refused
 
-refused-none : (u f r : Bool) → cond u (Some Used) (cond f (Some TooFar) (cond r (Some TooMany) None)) ≡ None → (f ≡ false) × (r ≡ false)
+pub refused-none : (u f r : Bool) → cond u (Some Used) (cond f (Some TooFar) (cond r (Some TooMany) None)) ≡ None → (f ≡ false) × (r ≡ false)
 refused-none true f r is = absurd (none-some Used (sym is))
 refused-none false true r is = absurd (none-some TooFar (sym is))
 refused-none false false true is = absurd (none-some TooMany (sym is))
@@ -88,12 +88,12 @@ below-all limit (x ∷ xs) none =
 
 -- ---- how many there are
 
-length-numbered : (o n : ℕ) (xs : List Sent) → length (numbered o n xs) ≡ length xs
+pub length-numbered : (o n : ℕ) (xs : List Sent) → length (numbered o n xs) ≡ length xs
 unfolding numbered
 length-numbered o n [] = refl
 length-numbered o n (x ∷ xs) = ap suc (length-numbered o (n + 1) xs)
 
-arriving-most : (room : ℕ) (queues : ℕ → Queue) (k : ℕ) → ((o : ℕ) → o < k → length (queues o).commands ≤ room) → length (arriving k queues) ≤ k * room
+pub arriving-most : (room : ℕ) (queues : ℕ → Queue) (k : ℕ) → ((o : ℕ) → o < k → length (queues o).commands ≤ room) → length (arriving k queues) ≤ k * room
 unfolding arriving
 arriving-most room queues zero each = omega arith
 arriving-most room queues (suc k) each =
@@ -104,7 +104,7 @@ arriving-most room queues (suc k) each =
     let most = suc-mul k room in
     omega arith
 
-all-behind : (P : Sent → Type 0) (n : ℕ) (xs : List Sent) → AllByRecursion P xs → AllByRecursion P (drop n xs)
+pub all-behind : (P : Sent → Type 0) (n : ℕ) (xs : List Sent) → AllByRecursion P xs → AllByRecursion P (drop n xs)
 all-behind P zero xs h = h
 all-behind P (suc n) [] h = tt
 all-behind P (suc n) (x ∷ xs) h = all-behind P n xs h.1

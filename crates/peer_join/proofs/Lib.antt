@@ -2,6 +2,7 @@ mod Joins
 mod Opens
 mod Taken
 mod Same
-mod Handed
-mod Fits
-mod Beside
+pub mod Handed
+pub mod Fits
+pub mod Snapshots
+pub mod Beside

@@ -1,10 +1,11 @@
 -- A peer that joins by a snapshot of another one.
-use Rattle.std.specs.Prelude.{◌≡◌, ℕ, Bool, nat_lt, List, [], ◌++◌, filter, length, replicate, slice_index_or}
+use Rattle.std.specs.Prelude.{◌≡◌, ℕ, ◌^◌, ◌≤◌, ◌<◌, Bool, nat_lt, List, [], ◌++◌, filter, length, replicate, slice_index_or}
+use Rattle.std.specs.List.{AllByRecursion}
 use Rattle.game_trait.specs.declared.command.Command.{Command}
 use Rattle.game_trait.specs.Count.{times}
 use Rattle.sync_model.specs.Lists.{last_of}
 use Rattle.sync_model.specs.State.{MirrorState}
-use Rattle.peer_model.specs.Queue.{Sent, have_of, trimmed}
+use Rattle.peer_model.specs.Queue.{Sent, Queue, have_of, trimmed}
 use Rattle.peer_model.specs.Peer.{Peer, clock_of, bound_of}
 use Rattle.peer_model.specs.Net.{Net}
 use Rattle.peer_calls.specs.Handing.{arriving}
@@ -48,3 +49,10 @@ pub record IsFree {W : Type 0} (me : ℕ) (n : Net W) : Type 0 where
   pub none_issued : n.log me ≡ []
   pub none_counted : (o : ℕ) → have_of ((n.peers me).queues o) ≡ 0
   pub at_start : clock_of (n.peers me) ≡ 0
+
+-- what is remembered of each slot has the widths of a session, and no command has more bytes than its terms allow
+pub record AreOfSession (payload : ℕ) (queues : ℕ → Queue) : Type 0 where
+  pub few : (o : ℕ) → length (queues o).commands < 2 ^ 16
+  pub numbers : (o : ℕ) → have_of (queues o) < 2 ^ 32
+  pub times : (o : ℕ) → AllByRecursion (λ x. x.time < 2 ^ 32) (queues o).commands
+  pub short : (o : ℕ) → AllByRecursion (λ x. length x.bytes ≤ payload) (queues o).commands

@@ -14,10 +14,11 @@ ghost use Rattle.peer_model.specs.Peer.{Peer, IsPeer};
 ghost use Rattle.peer_model.specs.Net.{Net, with_peer, IsSession};
 ghost use Rattle.peer_window.specs.Window.{IsWindow};
 ghost use Rattle.peer_window.specs.Session.{RollNet, with_roll, IsBeside};
+ghost use Rattle.peer_packet.specs.Snapshot.{IsSnapshot};
 ghost use Rattle.peer_calls.specs.declared.config.Config.{Config};
 ghost use Rattle.peer_calls.specs.State.{State, window_of};
 ghost use Rattle.peer_calls.specs.Handing.{handed_by, opened_from, join_refused, joined_state};
-ghost use Rattle.peer_join.specs.Join.{AreSame, accepted_by, joined_peer, Extends, IsFree};
+ghost use Rattle.peer_join.specs.Join.{AreSame, accepted_by, joined_peer, Extends, IsFree, AreOfSession};
 
 use game_trait::Game;
 
@@ -57,6 +58,16 @@ pub fn what_is_handed_over_is_taken<G: Game>()
 pub fn what_a_joiner_accepts_is_what_the_maker_had<G: Game>()
     ensures { (slots : ℕ) (log : ℕ → List Sent) (m : Peer G) → ((o : ℕ) → TimesRise 0 (log o)) → IsPeer slots log m
         → AreSame (accepted_by slots m) m.whole.accepted }
+{}
+
+/// What a peer of a session hands over is a snapshot of the session, so whoever reads its bytes by the same
+/// terms has it: of each slot all that was late is forgotten there, and the last command that is forgotten is
+/// due before its base.
+pub fn what_is_handed_over_is_a_snapshot<G: Game>()
+    ensures { (c : Config) (log : ℕ → List Sent) (m : Peer G) (s : State G)
+        → ((o : ℕ) → TimesRise 0 (log o)) → IsPeer c.terms.slots log m → IsWindow G.rules m (window_of s)
+        → s.me < c.terms.slots → AreOfSession c.terms.payload s.queues
+        → IsSnapshot c.terms (handed_by c s) }
 {}
 
 /// What a peer hands over opens the mirror of whoever joins by it and doesn't refuse it: the joiner's base
