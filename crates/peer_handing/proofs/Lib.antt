@@ -1,0 +1,4 @@
+mod Sents
+mod Queues
+mod BySlot
+mod Lasts
