@@ -1,5 +1,5 @@
 -- What a turn of a mirror forgets.
-use Rattle.std.proofs.Common.{◌≡◌, ℕ, zero, suc, ◌+◌, ◌-◌, ◌*◌, ◌≤◌, ◌<◌, ◌^◌, Bool, true, false, cond, nat_lt, nat_le, ◌==◌, ◌&&◌, ◌||◌, List, [], ◌∷◌, refl, ap, sym, ◌∙◌, arith}
+use Rattle.std.proofs.Common.{◌≡◌, ℕ, zero, suc, ◌+◌, ◌-◌, ◌*◌, ◌≤◌, ◌<◌, ◌^◌, Bool, true, false, cond, nat_lt, nat_le, ◌==◌, ◌||◌, List, [], ◌∷◌, refl, arith}
 use Rattle.std.proofs.lemmas.Bool.{and_parts}
 use Rattle.std.proofs.lemmas.Bool.Decides.{nat_tests}
 use Rattle.game_trait.specs.Game.{Rules}
@@ -51,7 +51,7 @@ turn-forgets rules r =
 
 -- a count that is bounded by the base stays so
 pub bounded : (base spare new_base new_spare forgotten so_far : ℕ) → Forgot base spare new_base new_spare forgotten → new_spare < 2 ^ 32
-    → so_far ≤ base * (2 ^ 32 + 1) → so_far + forgotten ≤ new_base * (2 ^ 32 + 1)
+    → so_far ≤ base * 2 ^ 32 → so_far + forgotten ≤ new_base * 2 ^ 32
 bounded base spare new_base new_spare zero so_far h few before =
     let up = h.base_rises in
     omega arith

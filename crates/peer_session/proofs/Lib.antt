@@ -1,5 +1,7 @@
+mod Faults
 mod Forgets
-mod Lasts
+mod Joins
+mod Made
+mod Shorts
 mod Takes
 mod Turned
-mod Made

@@ -6,6 +6,7 @@ use Rattle.peer_calls.specs.declared.config.Config.{Config}
 use Rattle.peer_calls.specs.State.{State}
 use Rattle.peer_slots.specs.Links.{LinkLists, links_of}
 use Rattle.peer_slots.specs.Queues.{QueueLists, queues_of}
+use Rattle.peer_sending.specs.Sending.{AreShort}
 
 pub record PeerParts (W : Type 0) : Type 0 where
   -- what it was made with
@@ -31,15 +32,17 @@ state_of p = record {
   roll = p.roll;
 }
 
--- what is always true: its slot is one of the session's, there is a queue and a link for each, and no tick forgets more
--- items than it and all commands of a mirror are
+-- what is always true: its slot is one of the session's, there is a queue and a link for each, no command that is
+-- remembered has more bytes than the session allows, and no tick forgets more items than it and all commands of a mirror
+-- are
 pub record ArePeers {W : Type 0} (p : PeerParts W) : Type 0 where
   pub terms : AreTerms p.config.terms
   pub there : p.me < p.config.terms.slots
   pub queues : (queues_of p.queues).slots ≡ p.config.terms.slots
   pub links : (links_of p.links).slots ≡ p.config.terms.slots
   pub room : (queues_of p.queues).room ≡ p.config.room
-  pub few : p.forgotten ≤ p.roll.base * (2 ^ 32 + 1)
+  pub short : AreShort p.config.terms.payload (queues_of p.queues)
+  pub few : p.forgotten ≤ p.roll.base * 2 ^ 32
 
 -- how many items of each run a turn forgets: the ticks that the last copy passed, and their commands
 abbrev pub forgotten_by : {W : Type 0} → RollState W → ℕ

@@ -3,6 +3,7 @@
 ghost use Rattle.std.specs.Prelude.{◌≡◌, Ok, Err, IfOk, IfErr, IfSome, IfNone, map, true, false};
 ghost use Rattle.peer_packet.specs.Packet.{Packet, IsPacket, bytes_of};
 ghost use Rattle.peer_packet.specs.Reading.{packet_at};
+ghost use Rattle.peer_packet.specs.declared.fault.Fault.{Fault};
 ghost use Rattle.peer_model.specs.Peer.{is_ahead};
 ghost use Rattle.peer_calls.specs.State.{clock_now};
 ghost use Rattle.peer_calls.specs.Wire.{part_from, packet_from_wire};
@@ -28,6 +29,8 @@ impl<G: Game> Peer<G> {
             × (state_of self.new ≡ after_hearing self.old.config p (state_of self.old))) }
         ensures refused { IfErr result (λ fault. (packet_at self.old.config.terms bytes.now ≡ Err fault)
             × (self.new ≡ self.old)) }
+        ensures fault { (fault : Fault) → packet_at self.old.config.terms bytes.now ≡ Err fault
+            → (result ≡ Err fault) × (self.new ≡ self.old) }
         ensures config { self.new.config ≡ self.old.config }
         ensures forgotten { self.new.forgotten ≡ self.old.forgotten }
     {

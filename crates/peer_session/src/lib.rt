@@ -2,10 +2,14 @@
 //! worlds of its own.
 #![tactic(auto)]
 
+mod handing;
 mod hearing;
+mod joining;
+pub mod laws;
 mod looks;
 mod moving;
 mod peer;
 mod sending;
 
+pub use joining::JoinError;
 pub use peer::Peer;

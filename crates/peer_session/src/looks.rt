@@ -1,9 +1,11 @@
 //! Looks at a peer, which change nothing.
 
-ghost use Rattle.std.specs.Prelude.{◌≡◌, ◌+◌, ◌-◌, ◌<◌, Some, None, if◌then◌else◌, nat_lt, nat_le, ◌&&◌, length, slice_get, slice_index_or, option_map, []};
+ghost use Rattle.std.specs.Prelude.{◌≡◌, ◌+◌, ◌-◌, ◌*◌, ◌^◌, ◌<◌, ◌≤◌, Some, None, if◌then◌else◌, nat_lt, nat_le, ◌==◌, ◌&&◌, length, slice_get, slice_index_or, option_map, []};
 ghost use Rattle.game_trait.specs.Later.{later_item};
 ghost use Rattle.sync_model.specs.State.{copy_clock as copy_clock_of};
+ghost use Rattle.peer_model.specs.Queue.{have_of};
 ghost use Rattle.peer_calls.specs.State.{clock_now};
+ghost use Rattle.peer_slots.specs.Links.{links_of};
 ghost use Rattle.peer_session.specs.Parts.{state_of};
 
 use crate::peer::Peer;
@@ -50,7 +52,8 @@ impl<G: Game> Peer<G> {
 
     /// The place at which each run that is remembered begins, counted from where this peer began.
     pub fn forgotten(&self) -> u64
-        ensures { result ≡ self.now.forgotten }
+        ensures place { result ≡ self.now.forgotten }
+        ensures few { self.now.forgotten ≤ self.now.roll.base * 2 ^ 32 }
     {
         self.forgotten
     }
@@ -106,7 +109,8 @@ impl<G: Game> Peer<G> {
 
     /// What is known of the other peers, and the own marks.
     pub fn links(&self) -> &Links
-        ensures { result.now ≡ self.now.links }
+        ensures links { result.now ≡ self.now.links }
+        ensures slots { (links_of self.now.links).slots ≡ self.now.config.terms.slots }
     {
         &self.links
     }
@@ -116,6 +120,9 @@ impl<G: Game> Peer<G> {
     pub fn known(&self, slot: MirrorId, origin: MirrorId) -> Number
         requires slot { slot < self.now.config.terms.slots }
         requires origin { origin < self.now.config.terms.slots }
+        ensures { result ≡ (if slot == self.now.me
+            then have_of ((state_of self.now).queues origin)
+            else (state_of self.now).known slot origin) }
     {
         if slot == self.me {
             return self.queues.get(origin).have();

@@ -12,6 +12,7 @@ ghost use Rattle.peer_session.specs.Parts.{state_of, forgotten_by};
 use crate::peer::Peer;
 use game_trait::{Game, Reply, Stepped, Tick, Ticked};
 use peer_calls::TurnAnswer;
+use peer_handing::last_tick;
 use sync_model::repaired_in;
 
 // The most copies that one of these answers tells of as repaired.
@@ -64,7 +65,7 @@ impl<G: Game> Peer<G> {
     pub(crate) fn last_tick(&self) -> Tick
         ensures { result ≡ last_tick self.now.roll }
     {
-        self.mirror.copy_clock(self.mirror.copies() - 1)
+        last_tick(&self.mirror)
     }
 
     /// A step of a copy, where it may run a tick. `None`: there is no such copy.

@@ -156,7 +156,7 @@ impl<G: Game> Peer<G> {
     // Issues a command that is taken.
     fn issue(&mut self, time: Tick, number: u32, bytes: &[u8])
         requires slot { self.old.me < self.old.config.terms.slots }
-        requires short { length bytes.now ≤ 64 }
+        requires short { length bytes.now ≤ self.old.config.terms.payload }
         requires next { number ≡ have_of ((state_of self.old).queues self.old.me) }
         requires some { number + 1 < 2 ^ 32 }
         requires rises { last_time ((state_of self.old).queues self.old.me).gone ((state_of self.old).queues self.old.me).commands ≤ time }

@@ -1,7 +1,8 @@
 //! A packet is made.
 
 ghost use Rattle.std.specs.Prelude.{◌≡◌, length, take};
-ghost use Rattle.peer_calls.specs.Sending.{said_to_packet, after_packet, packet_bytes};
+ghost use Rattle.peer_packet.specs.Packet.{IsPacket};
+ghost use Rattle.peer_calls.specs.Sending.{said_to_packet, after_packet, packet_for, packet_bytes};
 ghost use Rattle.peer_sending.specs.Sending.{IfMade, IfRefused};
 ghost use Rattle.peer_session.specs.Parts.{state_of};
 
@@ -20,6 +21,8 @@ impl<G: Game> Peer<G> {
         ensures bytes { IfMade result (λ size. take size out.new ≡ packet_bytes self.old.config to (length out.old) (state_of self.old)) }
         ensures length { length out.new ≡ length out.old }
         ensures refused { IfRefused result (out.new ≡ out.old) }
+        // What is put is a packet of the session: whoever reads its bytes by these terms has it.
+        ensures packet { IfMade result (λ size. IsPacket self.old.config.terms (packet_for self.old.config to (length out.old) (state_of self.old))) }
         ensures config { self.new.config ≡ self.old.config }
         ensures forgotten { self.new.forgotten ≡ self.old.forgotten }
     {

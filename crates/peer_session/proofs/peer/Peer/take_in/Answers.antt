@@ -1,4 +1,4 @@
-use Rattle.std.proofs.Common.{◌≡◌, ℕ, ◌+◌, List, ap, ◌∙◌, map, arith}
+use Rattle.std.proofs.Common.{◌≡◌, ◌+◌, List, ap, sym, subst, ◌∙◌, map, arith}
 use Rattle.peer_calls.specs.Wire.{part_from}
 use Rattle.peer_window.specs.Window.{RollPeer, rolls_parts}
 use Rattle.peer_packet.specs.Packet as wire
@@ -6,6 +6,7 @@ use Rattle.peer_slots.specs.Links.{LinkState, links_of}
 use Rattle.peer_slots.specs.Queues.{queues_of, window_at}
 use Rattle.peer_session.specs.Parts.{PeerParts, state_of}
 use Rattle.peer_session.proofs.Takes.{parts-base, takes-in}
+use Rattle.peer_session.proofs.Shorts.{heard-short}
 use Rattle.peer_session.proofs.peer.Peer.take_in.Goals as goal
 
 pub invariant_of-self : goal.invariant_of-self
@@ -14,12 +15,15 @@ invariant_of-self g c =
     let base : c.hear_parts.new.mirror.base ≡ i.mirror.base =
     ap (λ (v : RollPeer _). v.roll.base) (c.hear_parts.ensures.heard (λ j o. 0) (λ j. 0)) ∙ parts-base (queues_of i.queues).room (map part_from c.parts.result) _ in
     let few = c.self.invariant.few in
+    let is = subst (λ (p : PeerParts _). wire.IsPacket p.config.terms c.args.packet.now) (sym c.self.view_is) c.requires.packet in
     record {
       terms = c.self.invariant.terms;
       there = c.self.invariant.there;
       queues = c.hear_parts.ensures.slots ∙ c.self.invariant.queues;
       links = ap (λ (l : LinkState). l.slots) c.hear_head.ensures ∙ c.self.invariant.links;
       room = c.hear_parts.ensures.room ∙ c.self.invariant.room;
+      short = heard-short i.config.terms c.args.packet.now c.parts.result (queues_of i.queues).room (queues_of i.queues) (queues_of c.hear_parts.new.self) i.mirror c.hear_parts.new.mirror
+          is c.parts.ensures (c.hear_parts.ensures.heard (λ j o. 0) (λ j. 0)) c.self.invariant.short;
       few = rw base few;
     }
 

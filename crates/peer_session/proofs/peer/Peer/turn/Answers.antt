@@ -1,10 +1,10 @@
-use Rattle.std.proofs.Common.{◌≡◌, ℕ, ◌+◌, ◌-◌, ◌*◌, ◌^◌, ◌≤◌, ◌<◌, ap, sym, ◌∙◌, subst, arith}
-use Rattle.rolling_mirror.specs.Rolling.{RollState, last_tick, turned}
+use Rattle.std.proofs.Common.{◌≡◌, ℕ, ◌+◌, ◌-◌, ap, sym, ◌∙◌, subst, arith}
+use Rattle.rolling_mirror.specs.Rolling.{RollState, last_tick}
 use Rattle.peer_slots.specs.Queues.{QueueState, queues_of}
-use Rattle.peer_slots.specs.Links.{links_of}
 use Rattle.peer_session.specs.Parts.{PeerParts, state_of, forgotten_by}
 use Rattle.peer_session.proofs.Forgets.{Forgot, turn-forgets, bounded}
 use Rattle.peer_session.proofs.Turned.{turned-state}
+use Rattle.peer_session.proofs.Shorts.{trimmed-short}
 use Rattle.peer_session.proofs.peer.Peer.turn.Goals as goal
 
 pub overflow_sub-ticks : goal.overflow_sub-ticks
@@ -63,6 +63,7 @@ invariant_of-self g c =
       queues = c.self.invariant.queues;
       links = c.self.invariant.links;
       room = c.self.invariant.room;
+      short = c.self.invariant.short;
       few = rw sum few;
     }
 
@@ -87,6 +88,7 @@ invariant_of-self-2 g c =
       queues = ap (λ (q : QueueState). q.slots) c.trim.ensures ∙ c.self.invariant.queues;
       links = c.self.invariant.links;
       room = ap (λ (q : QueueState). q.room) c.trim.ensures ∙ c.self.invariant.room;
+      short = trimmed-short c.self.inside.config.terms.payload c.saturating_sub-bound.result (queues_of c.self.inside.queues) (queues_of c.trim.new.self) c.trim.ensures c.self.invariant.short;
       few = rw sum few;
     }
 
