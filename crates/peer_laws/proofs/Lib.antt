@@ -1,0 +1,11 @@
+pub mod Differing
+pub mod Filled
+pub mod More
+pub mod Packets
+pub mod Rising
+pub mod Heard
+pub mod Hearing
+pub mod Marked
+pub mod Marks
+pub mod Told
+pub mod Waiting

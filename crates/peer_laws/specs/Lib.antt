@@ -1,0 +1,4 @@
+pub mod Filled
+pub mod Marked
+pub mod Told
+pub mod Waiting
