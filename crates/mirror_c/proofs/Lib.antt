@@ -1,5 +1,3 @@
 pub mod AsBox
 pub mod Joining
 pub mod Last
-pub mod Plans
-pub mod Spelled

@@ -18,13 +18,13 @@ use Rattle.sync_model.specs.Drafts.{run_of}
 use Rattle.sync_model.specs.Turns.{turn, turn_events}
 use Rattle.sync_model.specs.declared.turned.Turned.{Turned}
 use Rattle.sync_model.specs.Host.{most_repaired}
-use Rattle.mirror_c.specs.Rising.{ArePlans}
+use Rattle.host_parts.specs.Rising.{ArePlans}
 use Rattle.mirror_c.specs.declared.answer.Answer.{Answer}
 use Rattle.mirror_c.specs.declared.answer.RunItem.{RunItem}
 use Rattle.mirror_c.specs.declared.answer.CommandItem.{CommandItem}
 use Rattle.mirror_c.specs.declared.answer.TurnedItem.{TurnedItem}
 use Rattle.mirror_c.specs.declared.answer.HistoryItem.{HistoryItem}
-use Rattle.mirror_c.specs.declared.blank.Blank.{Blank}
+use Rattle.host_parts.specs.declared.blank.Blank.{Blank}
 use Rattle.mirror_c.specs.declared.engine.Engine.{Engine}
 use Rattle.mirror_c.specs.declared.codes.TheConstants.{A_TICK, AN_ARRIVAL, A_STEP, A_RESTAGGER, MOVED, OVER, TAKEN, REPEAT, LATE, RAN, IDLE, RESTAGGERED, VALUE, NO_ENGINE, NOT_THERE, BEYOND, NO_ROOM}
 

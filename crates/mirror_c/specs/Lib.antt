@@ -1,4 +1,4 @@
 pub mod Answers
 pub mod Held
 pub mod Joining
-pub mod Rising
+pub mod Legal

@@ -4,7 +4,8 @@ ghost use Rattle.std.specs.Prelude.{◌≡◌, ℕ, ◌+◌, ◌-◌, ◌<◌, �
 ghost use Rattle.game_trait.specs.Run.{beats};
 ghost use Rattle.sync_model.specs.State.{opening_state, last_clock};
 ghost use Rattle.sync_model.specs.Drafts.{run_of};
-ghost use Rattle.mirror_c.specs.Rising.{ArePlans, IsLegal};
+ghost use Rattle.host_parts.specs.Rising.{ArePlans};
+ghost use Rattle.mirror_c.specs.Legal.{IsLegal};
 ghost use Rattle.sync_model.specs.Turns.{turn, is_drained};
 ghost use Rattle.mirror_c.specs.Answers.{made, answered, refusal, turned_answer, of_copy, valued, told_item, told_command, told_turned, told_event, items_answer, items_put, put_answer, put_of};
 
@@ -12,13 +13,12 @@ use crate::answer::{
     Answer, CommandItem, HistoryItem, RunItem, TurnedItem, bare, item_for_c, told_arrival,
     told_step, told_tick, value,
 };
-use crate::blank::Blank;
 use crate::codes::{BEYOND, LATE, NO_MEMORY, NO_ROOM, NOT_LEGAL, NOT_THERE, REPEAT, RESTAGGERED};
 use crate::listed::{accepted_from, events_from, fitting, turned_from, was_turned};
-use crate::plan::plans_of;
 use crate::turns::told_turn;
 use game_trait::limits::MOST_ROOM;
 use game_trait::{Command, Event, Tick};
+use host_parts::{Blank, plans_of};
 use mirror_core::Mirror;
 use std::alloc::Global;
 
@@ -32,7 +32,7 @@ impl Engine {
     /// An engine before any event. The delays are those of 1 to 8 plans, one plan after another, each
     /// of so many copies, and each with the length a schedule; the rooms are at most 1,048,576. Else
     /// the answer is `NOT_LEGAL`.
-    #[tactic(auto, using(crate::proofs::Plans::opened))]
+    #[tactic(auto, using(host_parts::proofs::Made::opened))]
     pub fn new(
         alloc: Global,
         delays: &[Tick],

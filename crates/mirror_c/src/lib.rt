@@ -7,18 +7,16 @@ ghost use Rattle.std.specs.Prelude.{if◌then◌else◌, ◌≡◌, ◌==◌, �
 ghost use Rattle.game_trait.specs.Run.{beats};
 ghost use Rattle.sync_model.specs.Turns.{is_drained};
 ghost use Rattle.sync_model.specs.Drafts.{run_of};
-ghost use Rattle.mirror_c.specs.Rising.{IsLegal};
+ghost use Rattle.mirror_c.specs.Legal.{IsLegal};
 ghost use Rattle.mirror_c.specs.Answers.{IsMade, after_call, after_turn, answer_to, answer_from, after_arrival, answer_to_arrival, turned_answer, of_copy, valued, told_item, told_command, told_turned, told_event, items_answer, items_put, put_answer, put_of};
 
 mod answer;
-mod blank;
 mod codes;
 mod engine;
 mod handle;
 mod held;
 pub mod laws;
 mod listed;
-mod plan;
 mod turns;
 
 use answer::{Answer, CommandItem, HistoryItem, RunItem, TurnedItem, bare};

@@ -1,4 +1,4 @@
-use Rattle.mirror_c.proofs.Plans.{equal-ticks, equal-copies}
+use Rattle.host_parts.proofs.Made.{equal-ticks, equal-copies}
 use Rattle.mirror_c.proofs.engine.Engine.new.Goals as goal
 
 pub new-requires-clause-equal_ticks : goal.new-requires-clause-equal_ticks

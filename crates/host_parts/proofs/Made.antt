@@ -6,7 +6,7 @@ use Rattle.std.proofs.lemmas.List.{length-map}
 use Rattle.game_trait.specs.declared.limits.TheConstants.{MOST_PLANS}
 use Rattle.sync_model.specs.Schedule.{Schedule, IsSchedule, delays_of_each, ticks_of_first, copies_of_first}
 use Rattle.tss_base.proofs.ListLaws.{all_push, all_map}
-use Rattle.mirror_c.specs.Rising.{ArePlans}
+use Rattle.host_parts.specs.Rising.{ArePlans}
 use Rattle.sync_model.specs.Lists.{joined}
 
 -- one plan more

@@ -1,6 +1,6 @@
--- What an engine may be made of.
+-- Plans that numbers spell.
 use Rattle.std.specs.Prelude.{◌≡◌, ◌<◌, ◌≤◌, ℕ, List, length}
-use Rattle.game_trait.specs.declared.limits.TheConstants.{MOST_PLANS, MOST_ROOM}
+use Rattle.game_trait.specs.declared.limits.TheConstants.{MOST_PLANS}
 use Rattle.std.specs.List.{AllByRecursion}
 use Rattle.sync_model.specs.Schedule.{IsSchedule}
 use Rattle.sync_model.specs.Lists.{joined}
@@ -12,9 +12,3 @@ pub record ArePlans (delays : List ℕ) (copies ticks : ℕ) (plans : List (List
   pub spelled : joined plans ≡ delays
   pub as_many : AllByRecursion (λ plan. length plan ≡ copies) plans
   pub schedules : AllByRecursion (λ plan. IsSchedule (record { delays = plan; length = ticks })) plans
-
--- there are plans that the delays spell, and the rooms aren't too large
-abbrev pub IsLegal : List ℕ → ℕ → ℕ → ℕ → ℕ → Type 0
-IsLegal delays copies ticks room restaggers =
-    ((plans : List (List ℕ)) × ArePlans delays copies ticks plans)
-    × ((room ≤ MOST_ROOM) × (restaggers ≤ MOST_ROOM))

@@ -4,7 +4,7 @@ use Rattle.std.proofs.Common.{sym, ap, subst, ◌∙◌, ◌++◌, ◌≡◌, �
 use Rattle.std.specs.List.{AllByRecursion}
 use Rattle.game_trait.specs.declared.limits.TheConstants.{MOST_PLANS}
 use Rattle.sync_model.specs.Schedule.{IsSchedule}
-use Rattle.mirror_c.specs.Rising.{ArePlans}
+use Rattle.host_parts.specs.Rising.{ArePlans}
 use Rattle.sync_model.specs.Lists.{joined}
 
 -- plans of so many copies each, which the delays spell, and each a schedule
