@@ -126,7 +126,7 @@ class Mirror:
         full = self.clock + 1 == self.end
         if self.clock == LIMIT or (passed == 0 and full):
             return False
-        if passed > 0 and (passed >= self.config.keep or full):
+        if passed > 0 and (passed >= self.config.keep or full or self.room() == 0):
             self.forgotten += len(self.runs[-1]) - self.forgotten
             self.base = self.last
         self.clock += 1
